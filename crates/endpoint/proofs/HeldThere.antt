@@ -16,7 +16,7 @@ use Rattle.session_core.specs.declared.stage.Stage.TheVariants.{Opening, Open, N
 use Rattle.session_core.specs.Session.{SessionState}
 use Rattle.endpoint_model.specs.declared.config.Config.{Config}
 use Rattle.endpoint_model.specs.State.{State, uses}
-use Rattle.endpoint_laws.specs.Past.{Stamped, facts_of, past_of, last_moment}
+use Rattle.endpoint_laws.specs.Past.{Past, facts_of, past_of, last_moment}
 use Rattle.endpoint_laws.specs.OfTheLog.{IsThing, SessionStands, IsClosingStage, IsOfTheLog, TheStateIsOfTheLog}
 use Rattle.endpoint_laws.specs.Within.{FlowsAreWithin, FlowsHoldFew}
 use Rattle.endpoint_laws.proofs.Logged.{tied_to_log}
@@ -93,7 +93,7 @@ peer_is peer Responder Closed j thing is of = absurd is
 -- ---- what is held is there
 
 module _ (law : TheStateIsOfTheLog) (s : State) (is : IsReached s) where
-  abbrev past : List Stamped
+  abbrev past : Past
   past = past_of 0 [] is.log
 
   of_log : IsOfTheLog is.setup s (last_moment 0 is.log) past

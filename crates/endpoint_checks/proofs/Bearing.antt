@@ -21,7 +21,7 @@ use Rattle.glare_core.specs.declared.facts.Held.TheVariants.{Opening, HalfOpen}
 use Rattle.glare_core.specs.declared.facts.Joined.{Joined}
 use Rattle.glare_core.specs.Standing.{held, peers_in}
 use Rattle.endpoint_model.specs.Event.{Setup, own_of, Event}
-use Rattle.endpoint_laws.specs.Past.{Stamped, Happening, OfEvent, OfEntry, begun, facts_of, ids_in_use, is_close}
+use Rattle.endpoint_laws.specs.Past.{Past, Happening, OfEvent, OfEntry, begun, facts_of, ids_in_use, is_close}
 use Rattle.endpoint_model.specs.Keying.{IsFirst, IsSigned, chunks_of, initiator_part}
 use Rattle.endpoint_laws.specs.Admissible.{Admissible, Offer}
 use Rattle.endpoint_laws.specs.Lawful.{WayMade, IsLawful}
@@ -36,12 +36,12 @@ is_entry : Happening → Bool
 is_entry (OfEvent event) = false
 is_entry (OfEntry entry) = true
 
-entry_first : List Stamped → Bool
+entry_first : Past → Bool
 entry_first [] = false
 entry_first (s ∷ earlier) = is_entry s.what
 
 -- where an event has just begun, there is no Ended that makes way
-before_is : (now moment : ℕ) (e : Event) (rest before : List Stamped) (peer : List ℕ) → WayMade now (begun moment e ∷ rest) before peer → before ≡ begun moment e ∷ rest
+before_is : (now moment : ℕ) (e : Event) (rest before : Past) (peer : List ℕ) → WayMade now (begun moment e ∷ rest) before peer → before ≡ begun moment e ∷ rest
 unfolding is_entry entry_first
 before_is now moment e rest before peer (inl same) = sym same
 before_is now moment e rest before peer (inr (near, why, way, is)) = absurd (let clash : false ≡ true = ap entry_first is in cc)
@@ -79,17 +79,17 @@ births_refused setup moment from sent draws j = record {
   nonce_size = λ differ h. differ h.0.0.1.by.0.nonce_size;
   no_row = λ zero h.
       let line = h.0.0.1 in
-      no_room setup.config.max_peers j.peer (peers_in (facts_of line.before)) (ap (λ (past : List Stamped). peers_in (facts_of past)) (before_is _ _ _ [] line.before j.peer line.way)) zero line.by.0.row;
+      no_room setup.config.max_peers j.peer (peers_in (facts_of line.before)) (ap (λ (past : Past). peers_in (facts_of past)) (before_is _ _ _ [] line.before j.peer line.way)) zero line.by.0.row;
   no_place = λ zero h.
       let line = h.0.0.1 in
       let none = before_is _ _ _ [] line.before j.peer line.way in
-      let place = line.by.0.place (ap (λ (past : List Stamped). held j.peer (facts_of past)) none) in
+      let place = line.by.0.place (ap (λ (past : Past). held j.peer (facts_of past)) none) in
       omega (arith, place, zero);
 }
 
 -- ---- what the keying of the datagram says
 
-module _ (setup : Setup) (past : List Stamped) (now : ℕ) (from : AddressParts) (sent : List ℕ) (offer : Offer) (k : Keying) (b : BringsKeying setup.secret sent k) (a : Admissible setup past now from sent offer) where
+module _ (setup : Setup) (past : Past) (now : ℕ) (from : AddressParts) (sent : List ℕ) (offer : Offer) (k : Keying) (b : BringsKeying setup.secret sent k) (a : Admissible setup past now from sent offer) where
   same_chunk : a.chunk ≡ b.chunk
   same_chunk =
       one_first a.chunk b.chunk (chunks_of b.packet) (subst (λ (p : Whole). IsFirst a.chunk (chunks_of p)) (one_packet setup.secret Startup 0 sent a.packet b.packet a.reads b.reads) a.first) b.first
@@ -184,22 +184,22 @@ later_births_refused setup moment c d from sent draws p nonce j = record {
   not_above = λ far k nr low h. let above = seen_count (bytes_eq j.peer j.peer) k j.n (same j.peer j.peer refl) h.1.1.0.1.0.0.above in omega (arith, above, low);
   no_row = λ one differ h.
       let line = h.1.0.0.1 in
-      one_row setup.config.max_peers j.peer p (peers_in (facts_of line.before)) (ap (λ (past : List Stamped). peers_in (facts_of past)) (before_is _ _ _ _ line.before j.peer line.way)) differ one line.by.0.row;
+      one_row setup.config.max_peers j.peer p (peers_in (facts_of line.before)) (ap (λ (past : Past). peers_in (facts_of past)) (before_is _ _ _ _ line.before j.peer line.way)) differ one line.by.0.row;
   no_place = λ one differ h.
       let line = h.1.0.0.1 in
       let before = before_is _ _ _ _ line.before j.peer line.way in
-      let free : held j.peer (facts_of line.before) ≡ None = ap (λ (past : List Stamped). held j.peer (facts_of past)) before ∙ none_held (bytes_eq p j.peer) (Opening 1 5 nonce) (other p j.peer differ) in
+      let free : held j.peer (facts_of line.before) ≡ None = ap (λ (past : Past). held j.peer (facts_of past)) before ∙ none_held (bytes_eq p j.peer) (Opening 1 5 nonce) (other p j.peer differ) in
       let place = line.by.0.place free in
-      omega (arith, place, one, ap (λ (past : List Stamped). length (ids_in_use past)) before);
+      omega (arith, place, one, ap (λ (past : Past). length (ids_in_use past)) before);
   of_closing = λ b why is e h. kept_in_use (is_close why) b.near j.near _ is e h.1.1.0.0.1.id.unused;
   place_kept = λ b why is one h.
       let line = h.1.1.0.0.1 in
       let before = before_is _ _ _ _ line.before j.peer line.way in
-      let free : held j.peer (facts_of line.before) ≡ None = ap (λ (past : List Stamped). held j.peer (facts_of past)) before ∙ none_after (bytes_eq b.peer j.peer) (HalfOpen b) in
+      let free : held j.peer (facts_of line.before) ≡ None = ap (λ (past : Past). held j.peer (facts_of past)) before ∙ none_after (bytes_eq b.peer j.peer) (HalfOpen b) in
       let place = line.by.0.place free in
-      let kept = ap (λ (past : List Stamped). length (ids_in_use past)) before ∙ one_kept (is_close why) b.near _ is in
+      let kept = ap (λ (past : Past). length (ids_in_use past)) before ∙ one_kept (is_close why) b.near _ is in
       omega (arith, place, one, kept);
   row_kept = λ one differ h.
       let line = h.1.1.0.0.1 in
-      one_row setup.config.max_peers j.peer p (peers_in (facts_of line.before)) (ap (λ (past : List Stamped). peers_in (facts_of past)) (before_is _ _ _ _ line.before j.peer line.way)) differ one line.by.0.row;
+      one_row setup.config.max_peers j.peer p (peers_in (facts_of line.before)) (ap (λ (past : Past). peers_in (facts_of past)) (before_is _ _ _ _ line.before j.peer line.way)) differ one line.by.0.row;
 }

@@ -1,5 +1,5 @@
 -- What the table refuses of a Closed.
-use Rattle.std.proofs.Common.{ℕ, ◌+◌, ◌≤◌, List, [], ◌∷◌, ◌≡◌, ◌⊎◌, inl, inr, sym, subst, refl, cond, Some, None, true, false, ◌∙◌, arith}
+use Rattle.std.proofs.Common.{ℕ, ◌+◌, ◌≤◌, [], ◌∷◌, ◌≡◌, ◌⊎◌, inl, inr, sym, subst, refl, cond, Some, None, true, false, ◌∙◌, arith}
 use Rattle.std.specs.Str.{bytes_eq}
 use Rattle.rtmfp_chunks.specs.Chunk.{CloseAck}
 use Rattle.glare_core.specs.declared.facts.Why.{Why}
@@ -10,7 +10,7 @@ use Rattle.glare_core.specs.declared.facts.Held.{Held}
 use Rattle.glare_core.specs.declared.facts.Held.TheVariants.{HalfOpen}
 use Rattle.glare_core.specs.declared.facts.Joined.{Joined}
 use Rattle.endpoint_model.specs.declared.entry.Entry.TheVariants.{Fact as FactEntry, Closed}
-use Rattle.endpoint_laws.specs.Past.{Stamped, begun, stamped, IsClosing}
+use Rattle.endpoint_laws.specs.Past.{Past, begun, stamped, IsClosing}
 use Rattle.endpoint_laws.specs.Taken.{TakesChunkOf}
 use Rattle.endpoint_checks.specs.Closings.{TheTableRefusesClosings}
 use Rattle.endpoint_checks.proofs.Logs.{same}
@@ -27,7 +27,7 @@ closed_none : (near : ℕ) (thing : Held) (at m n : ℕ) (fact : Fact) → is_en
 closed_none near thing at m n fact goes_on closing = none_closing near thing at (begun m some_event ∷ stamped n (FactEntry fact) ∷ begun n some_event ∷ []) (refl, (goes_on, (refl, tt))) closing
 
 -- what was done in the log of a session that was born and ended
-abbrev ended_at : ℕ → Joined → Why → List Stamped
+abbrev ended_at : ℕ → Joined → Why → Past
 ended_at n j why = stamped n (FactEntry (Ended j.peer j.near why)) ∷ begun n some_event ∷ stamped 0 (FactEntry (Born j)) ∷ begun 0 some_event ∷ []
 
 closed_so : (near : ℕ) (thing : Held) (at m n : ℕ) (j : Joined) (why : Why) → IsClosing near thing at (begun m some_event ∷ ended_at n j why) → OneClosed near thing at n j.peer j.near why (Born j ∷ [])
@@ -92,7 +92,7 @@ closings_refused setup moment c d e from sent draws j why = record {
     in_tick begun now at e (inl none) edge = none
     in_tick begun now at e (inr late) edge = young begun now at 19000 e late.1 edge
 
-    taken : {past : List Stamped} {A : Type 0} (thing : Held) → cond (bytes_eq j.peer j.peer) (Some (HalfOpen j)) None ≡ Some thing →
+    taken : {past : Past} {A : Type 0} (thing : Held) → cond (bytes_eq j.peer j.peer) (Some (HalfOpen j)) None ≡ Some thing →
         TakesChunkOf setup past thing j.near (record { from = from; datagram = sent; draws = draws }) CloseAck ⊎ (⊥ × A) →
         TakesChunkOf setup past (HalfOpen j) j.near (record { from = from; datagram = sent; draws = draws }) CloseAck
     taken {past} thing is (inl t) =

@@ -23,7 +23,7 @@ use Rattle.glare_core.specs.Standing.{opened}
 use Rattle.glare_core.specs.Tells.{as_responder}
 use Rattle.endpoint_model.specs.declared.entry.Entry.TheVariants.{Fact as FactEntry, Closed}
 use Rattle.endpoint_model.specs.Event.{Setup, own_of, Event}
-use Rattle.endpoint_laws.specs.Past.{Stamped, begun, stamped, facts_of, is_close}
+use Rattle.endpoint_laws.specs.Past.{Past, begun, stamped, facts_of, is_close}
 use Rattle.endpoint_laws.specs.Contexts.{session_context, outward, HeldUnder, StandsUnder}
 use Rattle.endpoint_model.specs.Keying.{initiator_part, responder_part}
 use Rattle.endpoint_laws.specs.Lawful.{OutLine, KeyingOfAttempt, KeyingOfBorn, IsBornHere, IsFarOf}
@@ -43,7 +43,7 @@ long_enough secret context sid number plain sent size e =
     let four : length (to_be_bytes w32 (scrambled sid part)) ≡ 4 = refl in
     omega (arith, ap length e, length-append (to_be_bytes w32 (scrambled sid part)) part, four, (sealed_carries (keys_of secret context) sid number plain size).1)
 
-number_is : (setup : Setup) (past : List Stamped) (sent : List ℕ) (context : Context) (line : OutLine setup past sent context) → number_of (drop 4 sent) ≡ line.number
+number_is : (setup : Setup) (past : Past) (sent : List ℕ) (context : Context) (line : OutLine setup past sent context) → number_of (drop 4 sent) ≡ line.number
 number_is setup past sent context line =
     ap number_of (behind line.sid (sealed_in setup.secret context line.sid line.number line.plain) sent line.is) ∙ (sealed_carries (keys_of setup.secret context) line.sid line.number line.plain line.numbered).0
 
@@ -52,7 +52,7 @@ plain_is secret context sid number plain sent size e =
     ap (plain_of (keys_of secret context)) (behind sid (sealed_in secret context sid number plain) sent e) ∙ (sealed_opens (keys_of secret context) sid number plain size).1
 
 -- the packet of the datagram is the one that the table judges
-reads_there : (setup : Setup) (past : List Stamped) (sent : List ℕ) (context : Context) (chunk : Chunk) (line : OutLine setup past sent context) (has : HasChunk setup.secret context sent chunk) → PacketReading line.plain (Ok has.packet)
+reads_there : (setup : Setup) (past : Past) (sent : List ℕ) (context : Context) (chunk : Chunk) (line : OutLine setup past sent context) (has : HasChunk setup.secret context sent chunk) → PacketReading line.plain (Ok has.packet)
 reads_there setup past sent context chunk line has =
     let one : has.plain ≡ line.plain =
     sym (plain_is setup.secret context has.sid has.number has.plain sent has.numbered has.is) ∙ plain_is setup.secret context line.sid line.number line.plain sent line.numbered line.is in
@@ -127,7 +127,7 @@ no_born false true j s n near ni (inr is) = cc
 no_born false false j s n near ni (inl is) = cc
 no_born false false j s n near ni (inr is) = cc
 
-module _ (setup : Setup) (past : List Stamped) (sent : List ℕ) (context : Context) (line : OutLine setup past sent context) where
+module _ (setup : Setup) (past : Past) (sent : List ℕ) (context : Context) (line : OutLine setup past sent context) where
   attempt_of : (near : ℕ) (cookie cert part sign : List ℕ) → HasChunk setup.secret context sent (IIKeying near cookie cert part sign) → KeyingOfAttempt setup context (facts_of past) near cert part
   attempt_of near cookie cert part sign has =
       (line.keyings has.packet (reads_there setup past sent context (IIKeying near cookie cert part sign) line has)).initiators has.placed near cookie cert part sign has.among has.spells
@@ -191,7 +191,7 @@ answers_sent_refused setup moment c d to sent context j near part sign has = rec
 -- ---- in sessions
 
 -- where nothing has ended, what stands under an ID is held
-held_one : (near : ℕ) (thing : Held) (past : List Stamped) → NothingEnds past → StandsUnder past near thing → HeldUnder (facts_of past) near thing
+held_one : (near : ℕ) (thing : Held) (past : Past) → NothingEnds past → StandsUnder past near thing → HeldUnder (facts_of past) near thing
 held_one near thing past none (inl h) = h
 held_one near thing past none (inr c) = absurd (none_closing near thing c.0 past none c.1)
 

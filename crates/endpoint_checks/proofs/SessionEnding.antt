@@ -18,7 +18,7 @@ use Rattle.glare_core.specs.Things.{IsHalfOpen, IsKept, near_of}
 use Rattle.endpoint_model.specs.declared.config.Draws.{Draws}
 use Rattle.endpoint_model.specs.declared.entry.Entry.TheVariants.{Fact as FactEntry}
 use Rattle.endpoint_model.specs.Event.{Setup, own_of, Call, Event}
-use Rattle.endpoint_laws.specs.Past.{Stamped, WasDone, begun, stamped}
+use Rattle.endpoint_laws.specs.Past.{Past, WasDone, begun, stamped}
 use Rattle.endpoint_laws.specs.Lawful.{BeganWith}
 use Rattle.endpoint_laws.specs.Taken.{Taken, taken_since, count_in, IsNewAfter, Passes, TakesChunkOf, TookAt}
 use Rattle.endpoint_checks.specs.Takes.{context_here, ComesIn, Brings}
@@ -132,7 +132,7 @@ took_it setup j sent before thing none is comes =
     let took : TookAt setup (KeptAsResponder j) j.near 1 (record { moment = 1; datagram = sent } ∷ before) = inl (passes, refl) in
     subst (λ (x : Held). TookAt setup x j.near 1 (record { moment = 1; datagram = sent } ∷ before)) is took
 
-pub takes_it : (setup : Setup) (from : AddressParts) (sent : List ℕ) (draws : Draws) (j : Joined) (chunk : Chunk) (moment : ℕ) (past : List Stamped) (before : List Taken) →
+pub takes_it : (setup : Setup) (from : AddressParts) (sent : List ℕ) (draws : Draws) (j : Joined) (chunk : Chunk) (moment : ℕ) (past : Past) (before : List Taken) →
     taken_since j.near past ≡ record { moment = moment; datagram = sent } ∷ before → before ≡ [] → Brings setup j sent chunk →
     TakesChunkOf setup past (HalfOpen j) j.near (record { from = from; datagram = sent; draws = draws }) chunk
 takes_it setup from sent draws j chunk moment past before last none b = record {
@@ -169,7 +169,7 @@ fars_refused setup moment c from sent draws j = record {
   };
 }
   where
-    taken : {past : List Stamped} (thing : Held) → cond (bytes_eq j.peer j.peer) (Some (HalfOpen j)) None ≡ Some thing →
+    taken : {past : Past} (thing : Held) → cond (bytes_eq j.peer j.peer) (Some (HalfOpen j)) None ≡ Some thing →
         TakesChunkOf setup past thing j.near (record { from = from; datagram = sent; draws = draws }) CloseChunk →
         TakesChunkOf setup past (HalfOpen j) j.near (record { from = from; datagram = sent; draws = draws }) CloseChunk
     taken {past} thing is t =
@@ -220,5 +220,5 @@ idles_refused setup moment c d from sent draws j = record {
         WasDone (stamped first (FactEntry fact)) (begun m e ∷ stamped 7 (FactEntry (Opened j)) ∷ begun 7 d ∷ stamped 0 (FactEntry (Started j.peer j.n j.near j.ni)) ∷ begun 0 c ∷ []) → first ≡ 7
     opened_at m e d c first fact thing is with_it was =
         let opening : fact ≡ Opened j = subst (λ (x : Held). BeganWith x fact) (sym is) with_it in
-        let past : List Stamped = begun m e ∷ stamped 7 (FactEntry (Opened j)) ∷ begun 7 d ∷ stamped 0 (FactEntry (Started j.peer j.n j.near j.ni)) ∷ begun 0 c ∷ [] in
+        let past : Past = begun m e ∷ stamped 7 (FactEntry (Opened j)) ∷ begun 7 d ∷ stamped 0 (FactEntry (Started j.peer j.n j.near j.ni)) ∷ begun 0 c ∷ [] in
         was_at 7 first (FactEntry (Opened j)) past (tt, ((λ _. refl), (tt, ((λ e. absurd (isnt_start j j.peer j.ni j.n j.near e)), (tt, tt))))) (subst (λ (f : Fact). WasDone (stamped first (FactEntry f)) past) opening was)

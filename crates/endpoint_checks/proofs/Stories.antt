@@ -12,7 +12,7 @@ use Rattle.glare_core.specs.Tells.{as_responder}
 use Rattle.endpoint_model.specs.Views.{out_in}
 use Rattle.endpoint_model.specs.declared.entry.Entry.TheVariants.{Out}
 use Rattle.endpoint_model.specs.Event.{Setup, own_of}
-use Rattle.endpoint_laws.specs.Past.{Stamped, is_close}
+use Rattle.endpoint_laws.specs.Past.{Past, is_close}
 use Rattle.endpoint_laws.specs.Contexts.{session_context, inward, OpensUnder, ContextOf}
 use Rattle.endpoint_laws.specs.History.{History, IsOut, WasSent, past_at}
 use Rattle.endpoint_laws.proofs.AnswerCarried.{opens_again}
@@ -24,7 +24,7 @@ use Rattle.endpoint_checks.proofs.Ending.{holds}
 -- ---- honest
 
 -- a datagram that opens in the startup context under session ID 0 was sent in it
-sent_so : (setup : Setup) (past : List Stamped) (earlier : History) (number plain : List ℕ) → length number ≡ 16 →
+sent_so : (setup : Setup) (past : Past) (earlier : History) (number plain : List ℕ) → length number ≡ 16 →
     ((context : Context) (p : List ℕ) → ContextOf (own_of setup) past (sid_of (datagram 0 (sealed_in setup.secret Startup 0 number plain))) context →
     OpensUnder setup.secret context (sid_of (datagram 0 (sealed_in setup.secret Startup 0 number plain))) (datagram 0 (sealed_in setup.secret Startup 0 number plain)) p → WasSent (datagram 0 (sealed_in setup.secret Startup 0 number plain)) context earlier) →
     WasSent (datagram 0 (sealed_in setup.secret Startup 0 number plain)) Startup earlier

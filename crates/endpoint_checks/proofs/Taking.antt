@@ -9,7 +9,7 @@ use Rattle.glare_core.specs.declared.facts.Joined.{Joined}
 use Rattle.endpoint_model.specs.declared.config.Draws.{Draws}
 use Rattle.endpoint_model.specs.Event.{Setup, ReceiveCall, Receive, Answer, Done, Stopped, Event}
 use Rattle.endpoint_model.specs.Keying.{IsAmong, chunks_of}
-use Rattle.endpoint_laws.specs.Past.{Stamped}
+use Rattle.endpoint_laws.specs.Past.{Past}
 use Rattle.endpoint_laws.specs.Taken.{Taken, taken_since, count_in, IsNewAfter, TakesChunkOf}
 use Rattle.endpoint_checks.specs.Logs.{doing}
 use Rattle.endpoint_checks.specs.Takes.{context_here, UntakenRefused}
@@ -36,9 +36,9 @@ too_old : (sent first : ℕ) → sent + 1024 ≤ first → first < sent + 1024 �
 too_old sent first old new = omega arith
 
 -- Of a chunk that the datagram of a call has to bring, at an end that did one of these before.
-module _ (setup : Setup) (from : AddressParts) (sent : List ℕ) (draws : Draws) (j : Joined) (chunk : Chunk) (IsRefusedOf : List Event → Answer → Type 0) (moment : ℕ) (alone : List Stamped) (later : List ℕ →
-    List Stamped) (stopped : ℕ →
-    List Stamped) where
+module _ (setup : Setup) (from : AddressParts) (sent : List ℕ) (draws : Draws) (j : Joined) (chunk : Chunk) (IsRefusedOf : List Event → Answer → Type 0) (moment : ℕ) (alone : Past) (later : List ℕ →
+    Past) (stopped : ℕ →
+    Past) where
   abbrev pub call : ReceiveCall
   call = record { from = from; datagram = sent; draws = draws }
 

@@ -12,7 +12,7 @@ use Rattle.endpoint_model.specs.Views.{fact_in}
 use Rattle.endpoint_model.specs.Event.{Event, moment_at}
 use Rattle.endpoint_model.specs.State.{State}
 use Rattle.endpoint_model.specs.Log.{Step, Leads}
-use Rattle.endpoint_laws.specs.Past.{Stamped, stamped, onto, fact_and, facts_of, begun, with_event}
+use Rattle.endpoint_laws.specs.Past.{Past, stamped, onto, fact_and, facts_of, begun, with_event}
 use Rattle.endpoint_laws.specs.Past.{last_moment, past_of}
 use Rattle.endpoint_laws.specs.Lawful.{nonces_of}
 use Rattle.endpoint_laws.specs.Laws.{AreCalls, IsCall}
@@ -47,11 +47,11 @@ calls_before (x ∷ log) e calls = let rest = calls_before log e calls.1 in ((ca
 
 -- ---- its facts
 
-past_more : (last : ℕ) (past : List Stamped) (log : List Event) (e : Event) → past_of last past (log ++ e ∷ []) ≡ with_event (moment_at (last_moment last log) e) e (past_of last past log)
+past_more : (last : ℕ) (past : Past) (log : List Event) (e : Event) → past_of last past (log ++ e ∷ []) ≡ with_event (moment_at (last_moment last log) e) e (past_of last past log)
 past_more last past [] e = refl
 past_more last past (x ∷ log) e = past_more (moment_at last x) (with_event (moment_at last x) x past) log e
 
-facts_more : (moment : ℕ) (entries : List Entry) (past : List Stamped) → facts_of (onto moment entries past) ≡ facts_onto entries (facts_of past)
+facts_more : (moment : ℕ) (entries : List Entry) (past : Past) → facts_of (onto moment entries past) ≡ facts_onto entries (facts_of past)
 facts_more moment [] past = refl
 facts_more moment (entry ∷ rest) past = facts_more moment rest (stamped moment entry ∷ past)
 

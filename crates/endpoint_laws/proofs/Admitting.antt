@@ -33,7 +33,7 @@ use Rattle.session_core.proofs.Hears.{opens_some_plain}
 use Rattle.endpoint_model.specs.declared.place.Place.{Place}
 use Rattle.endpoint_model.specs.declared.place.Place.TheVariants.{Startup, Attempt, Session}
 use Rattle.endpoint_model.specs.Event.{Setup}
-use Rattle.endpoint_laws.specs.Past.{Stamped}
+use Rattle.endpoint_laws.specs.Past.{Past}
 use Rattle.endpoint_laws.specs.Contexts.{OpensUnder, ReadsUnder}
 use Rattle.endpoint_model.specs.Keying.{IsAmong, chunks_of}
 use Rattle.endpoint_model.specs.State.{State}
@@ -160,7 +160,7 @@ Came setup datagram (Session near) packet = Unit {0}
 read_is : (plain : List ℕ) (packet : Whole) → IsBytes plain → packet_in plain ≡ Ok packet → Reads packet plain
 read_is plain packet are e = subst (PacketReading plain) e (packet_reads plain are)
 
-startup_read : (setup : Setup) (past : List Stamped) (s : State) (datagram : List ℕ) (sid : ℕ) (plain : List ℕ) (packet : Whole) → Tied setup past s → IsStartupPlain s datagram sid plain → packet_in plain ≡ Ok packet →
+startup_read : (setup : Setup) (past : Past) (s : State) (datagram : List ℕ) (sid : ℕ) (plain : List ℕ) (packet : Whole) → Tied setup past s → IsStartupPlain s datagram sid plain → packet_in plain ≡ Ok packet →
     IsRead setup.secret sid datagram packet
 startup_read setup past s datagram sid plain packet tied opened e =
     let reads = read_is plain packet opened.bytes e in
@@ -174,7 +174,7 @@ mode_is FromInitiator e = absurd (cc)
 mode_is FromResponder e = absurd (cc)
 mode_is FromStartup e = refl
 
-came_of : (setup : Setup) (past : List Stamped) (s t : State) (datagram plain : List ℕ) (place : Place) (packet : Whole) → Tied setup past s → IsBytes datagram → IsOpened s datagram place plain →
+came_of : (setup : Setup) (past : Past) (s t : State) (datagram plain : List ℕ) (place : Place) (packet : Whole) → Tied setup past s → IsBytes datagram → IsOpened s datagram place plain →
     packet_in plain ≡ Ok packet → has_mode packet.head (mode_at t place) ≡ true → Came setup datagram place packet
 came_of setup past s t datagram plain Startup packet tied are opened e mode =
     (startup_read setup past s datagram 0 plain packet tied (startup_plain s datagram 0 plain are opened.id opened.opened) e, mode_is packet.head.mode mode)
@@ -182,7 +182,7 @@ came_of setup past s t datagram plain (Attempt near) packet tied are opened e mo
     startup_read setup past s datagram near plain packet tied (startup_plain s datagram near plain are opened.id opened.opened) e
 came_of setup past s t datagram plain (Session near) packet tied are opened e mode = tt
 
-heard_of : (setup : Setup) (past : List Stamped) (s : State) (datagram plain : List ℕ) (place : Place) → Tied setup past s → IsOpened s datagram place plain → HeardAt s place datagram
+heard_of : (setup : Setup) (past : Past) (s : State) (datagram plain : List ℕ) (place : Place) → Tied setup past s → IsOpened s datagram place plain → HeardAt s place datagram
 heard_of setup past s datagram plain Startup tied opened = tt
 heard_of setup past s datagram plain (Attempt near) tied opened = tt
 heard_of setup past s datagram plain (Session near) tied opened =
@@ -191,13 +191,13 @@ heard_of setup past s datagram plain (Session near) tied opened =
 -- ---- what it leaves
 
 -- the state after a step of the admission
-pub record Leaves (setup : Setup) (past : List Stamped) (s : State) (datagram : List ℕ) (place : Place) (t : State) : Type 0 where
+pub record Leaves (setup : Setup) (past : Past) (s : State) (datagram : List ℕ) (place : Place) (t : State) : Type 0 where
   pub tied : Tied setup past t
   pub sent : Sent setup past t
   pub same : t.moment ≡ s.moment
   pub heard : HeardAt t place datagram
 
-counted_leaves : (setup : Setup) (past : List Stamped) (s : State) (datagram part : List ℕ) (near : ℕ) (o : Option Row) → get s.sessions near ≡ o → Tied setup past s → Sent setup past s → HeardIn datagram near o →
+counted_leaves : (setup : Setup) (past : Past) (s : State) (datagram part : List ℕ) (near : ℕ) (o : Option Row) → get s.sessions near ≡ o → Tied setup past s → Sent setup past s → HeardIn datagram near o →
     Leaves setup past s datagram (Session near) (counted_by s near part o)
 counted_leaves setup past s datagram part near None is tied sent heard = record { tied = tied; sent = sent; same = refl; heard = subst (HeardIn datagram near) (sym is) heard }
 counted_leaves setup past s datagram part near (Some row) is tied sent heard =
@@ -209,7 +209,7 @@ counted_leaves setup past s datagram part near (Some row) is tied sent heard =
       heard = subst (HeardIn datagram near) (sym (get_inserted s.sessions near new)) heard;
     }
 
-timed_leaves : (setup : Setup) (past : List Stamped) (s : State) (datagram : List ℕ) (head : PacketHead) (near : ℕ) (o : Option Row) → get s.sessions near ≡ o → Tied setup past s → Sent setup past s → HeardIn datagram near o →
+timed_leaves : (setup : Setup) (past : Past) (s : State) (datagram : List ℕ) (head : PacketHead) (near : ℕ) (o : Option Row) → get s.sessions near ≡ o → Tied setup past s → Sent setup past s → HeardIn datagram near o →
     Leaves setup past s datagram (Session near) (timed_by s near head o)
 timed_leaves setup past s datagram head near None is tied sent heard = record { tied = tied; sent = sent; same = refl; heard = subst (HeardIn datagram near) (sym is) heard }
 timed_leaves setup past s datagram head near (Some row) is tied sent heard =
@@ -221,31 +221,31 @@ timed_leaves setup past s datagram head near (Some row) is tied sent heard =
       heard = subst (HeardIn datagram near) (sym (get_inserted s.sessions near new)) heard;
     }
 
-counted_at_leaves : (setup : Setup) (past : List Stamped) (s : State) (datagram part : List ℕ) (place : Place) → Tied setup past s → Sent setup past s → HeardAt s place datagram → Leaves setup past s datagram place (counted_at s place part)
+counted_at_leaves : (setup : Setup) (past : Past) (s : State) (datagram part : List ℕ) (place : Place) → Tied setup past s → Sent setup past s → HeardAt s place datagram → Leaves setup past s datagram place (counted_at s place part)
 counted_at_leaves setup past s datagram part Startup tied sent heard = record { tied = tied; sent = sent; same = refl; heard = heard }
 counted_at_leaves setup past s datagram part (Attempt near) tied sent heard = record { tied = tied; sent = sent; same = refl; heard = heard }
 counted_at_leaves setup past s datagram part (Session near) tied sent heard = counted_leaves setup past s datagram part near (get s.sessions near) refl tied sent heard
 
-timed_at_leaves : (setup : Setup) (past : List Stamped) (s : State) (datagram : List ℕ) (head : PacketHead) (place : Place) → Tied setup past s → Sent setup past s → HeardAt s place datagram → Leaves setup past s datagram place (timed_at s place head)
+timed_at_leaves : (setup : Setup) (past : Past) (s : State) (datagram : List ℕ) (head : PacketHead) (place : Place) → Tied setup past s → Sent setup past s → HeardAt s place datagram → Leaves setup past s datagram place (timed_at s place head)
 timed_at_leaves setup past s datagram head Startup tied sent heard = record { tied = tied; sent = sent; same = refl; heard = heard }
 timed_at_leaves setup past s datagram head (Attempt near) tied sent heard = record { tied = tied; sent = sent; same = refl; heard = heard }
 timed_at_leaves setup past s datagram head (Session near) tied sent heard = timed_leaves setup past s datagram head near (get s.sessions near) refl tied sent heard
 
 -- What an admission says: the state that it leaves agrees, and a datagram that is taken is what it has to be.
-pub record IsTaken (setup : Setup) (past : List Stamped) (s : State) (datagram : List ℕ) (t : State) (place : Place) (packet : Whole) : Type 0 where
+pub record IsTaken (setup : Setup) (past : Past) (s : State) (datagram : List ℕ) (t : State) (place : Place) (packet : Whole) : Type 0 where
   pub leaves : Leaves setup past s datagram place t
   pub came : Came setup datagram place packet
 
-pub record IsRejected (setup : Setup) (past : List Stamped) (s t : State) : Type 0 where
+pub record IsRejected (setup : Setup) (past : Past) (s t : State) : Type 0 where
   pub tied : Tied setup past t
   pub sent : Sent setup past t
   pub same : t.moment ≡ s.moment
 
-abbrev pub AdmissionIs : Setup → List Stamped → State → List ℕ → Admission → Type 0
+abbrev pub AdmissionIs : Setup → Past → State → List ℕ → Admission → Type 0
 AdmissionIs setup past s datagram (Rejected t cause) = IsRejected setup past s t
 AdmissionIs setup past s datagram (Admitted t place packet) = IsTaken setup past s datagram t place packet
 
-packet_admitted : (setup : Setup) (past : List Stamped) (s t : State) (datagram : List ℕ) (place : Place) (r : Result Whole PacketFault) → Leaves setup past s datagram place t →
+packet_admitted : (setup : Setup) (past : Past) (s t : State) (datagram : List ℕ) (place : Place) (r : Result Whole PacketFault) → Leaves setup past s datagram place t →
     ((packet : Whole) → r ≡ Ok packet → has_mode packet.head (mode_at t place) ≡ true → Came setup datagram place packet) → AdmissionIs setup past s datagram (admitted_packet t place r)
 packet_admitted setup past s t datagram place (Err fault) leaves came = record { tied = leaves.tied; sent = leaves.sent; same = leaves.same }
 packet_admitted setup past s t datagram place (Ok packet) leaves came = by_mode (has_mode packet.head (mode_at t place)) (came packet refl)
@@ -257,7 +257,7 @@ packet_admitted setup past s t datagram place (Ok packet) leaves came = by_mode 
         record { leaves = record { tied = timed.tied; sent = timed.sent; same = timed.same ∙ leaves.same; heard = timed.heard }; came = is refl }
     by_mode false is = record { tied = leaves.tied; sent = leaves.sent; same = leaves.same }
 
-admitted_is : (setup : Setup) (past : List Stamped) (s : State) (datagram : List ℕ) (r : Result (Place × List ℕ) Cause) → Tied setup past s → Sent setup past s → IsBytes datagram →
+admitted_is : (setup : Setup) (past : Past) (s : State) (datagram : List ℕ) (r : Result (Place × List ℕ) Cause) → Tied setup past s → Sent setup past s → IsBytes datagram →
     ((found : Place × List ℕ) → r ≡ Ok found → IsOpened s datagram found.0 found.1) → AdmissionIs setup past s datagram (admitted s datagram r)
 admitted_is setup past s datagram (Err cause) tied sent are opened = record { tied = tied; sent = sent; same = refl }
 admitted_is setup past s datagram (Ok found) tied sent are opened =
@@ -267,6 +267,6 @@ admitted_is setup past s datagram (Ok found) tied sent are opened =
     (counted_at_leaves setup past s datagram (drop 4 datagram) found.0 tied sent (heard_of setup past s datagram found.1 found.0 tied is))
     (λ packet e mode. came_of setup past s t datagram found.1 found.0 packet tied are is e mode)
 
-pub admission_is : (setup : Setup) (past : List Stamped) (s : State) (datagram : List ℕ) → Tied setup past s → Sent setup past s → IsBytes datagram → AdmissionIs setup past s datagram (admission s datagram)
+pub admission_is : (setup : Setup) (past : Past) (s : State) (datagram : List ℕ) → Tied setup past s → Sent setup past s → IsBytes datagram → AdmissionIs setup past s datagram (admission s datagram)
 admission_is setup past s datagram tied sent are =
     admitted_is setup past s datagram (opened_datagram s datagram) tied sent are (λ found e. datagram_is s datagram (nat_lt (length datagram) 36) Short found e)

@@ -20,7 +20,7 @@ use Rattle.session_core.specs.Closing.{is_held}
 use Rattle.endpoint_model.specs.declared.row.Row.{Row}
 use Rattle.endpoint_model.specs.declared.entry.Entry.TheVariants.{Fact as FactEntry}
 use Rattle.endpoint_model.specs.Event.{Setup, own_of}
-use Rattle.endpoint_laws.specs.Past.{Stamped, stamped, facts_of, ids_in_use, IsClosing, WasDone}
+use Rattle.endpoint_laws.specs.Past.{Stamped, stamped, facts_of, ids_in_use, IsClosing, WasDone, Past}
 use Rattle.endpoint_model.specs.State.{State, is_used}
 use Rattle.endpoint_laws.proofs.Matching.{Found, of_peer, of_some, Matches, Ids}
 use Rattle.endpoint_laws.proofs.Tied.{Tied, AreBy, StageFits, IsClosed, IsClosedThing, thing_of, held_of, found_in}
@@ -34,7 +34,7 @@ abbrev pub thing_at : State → ℕ → Found
 thing_at s near = combined near (get s.startup.attempts near) (get s.sessions near)
 
 -- The session under this session ID is one of this end.
-pub record IsOurs (setup : Setup) (past : List Stamped) (near : ℕ) (session : SessionState) : Type 0 where
+pub record IsOurs (setup : Setup) (past : Past) (near : ℕ) (session : SessionState) : Type 0 where
   pub id : session.joined.near ≡ near
   pub own : session.own ≡ own_of setup
   pub secret : session.secret ≡ setup.secret
@@ -50,14 +50,14 @@ pub record IsGiven (setup : Setup) (s : State) : Type 0 where
   pub own : s.startup.ledger.own ≡ own_of setup
   pub max_peers : s.startup.ledger.max_peers ≡ setup.config.max_peers
 
-abbrev pub WasStarted : List Stamped → ℕ → AttemptState → Type 0
+abbrev pub WasStarted : Past → ℕ → AttemptState → Type 0
 WasStarted past near a = WasDone (stamped a.start (FactEntry (Started a.peer a.n near a.ni))) past
 
 -- What closes by what was done is closing under its session ID.
-abbrev pub ClosesAt : List Stamped → ℕ → Option Row → Type 0
+abbrev pub ClosesAt : Past → ℕ → Option Row → Type 0
 ClosesAt past near o = (thing : Held) (at : ℕ) → IsClosing near thing at past → IsClosedThing o thing
 
-pub record Agrees (setup : Setup) (past : List Stamped) (s : State) : Type 0 where
+pub record Agrees (setup : Setup) (past : Past) (s : State) : Type 0 where
   pub given : IsGiven setup s
   pub matches : Matches (thing_at s) (held_with s.startup.ledger)
   pub ours : (near : ℕ) (row : Row) → get s.sessions near ≡ Some row → IsOurs setup past near row.session
@@ -155,7 +155,7 @@ peer_of_found near None os peer h e = (
   (λ is. e),
 )
 
-pub tied_of : (setup : Setup) (past : List Stamped) (s : State) → Agrees setup past s → StandsFor 0 s.startup.ledger (facts_of past) → Tied setup past s
+pub tied_of : (setup : Setup) (past : Past) (s : State) → Agrees setup past s → StandsFor 0 s.startup.ledger (facts_of past) → Tied setup past s
 tied_of setup past s a account = record {
   config = a.given.config;
   cert = a.given.cert;
@@ -195,7 +195,7 @@ tied_of setup past s a account = record {
   rows = a.rows;
 }
 
-found_is : (setup : Setup) (past : List Stamped) (s : State) → Tied setup past s → (near : ℕ) (oa : Option AttemptState) (os : Option Row) →
+found_is : (setup : Setup) (past : Past) (s : State) → Tied setup past s → (near : ℕ) (oa : Option AttemptState) (os : Option Row) →
     get s.startup.attempts near ≡ oa → get s.sessions near ≡ os → (p : List ℕ) (h : Held) → combined near oa os ≡ Some (p, h) →
     (held_with s.startup.ledger p ≡ Some h) × (near_of h ≡ near)
 found_is setup past s t near (Some a) os ea es p h e =
@@ -210,7 +210,7 @@ found_is setup past s t near None os ea es p h e =
     ap (held_with s.startup.ledger) (sym found.2.peer) ∙ is.thing found.2.held ∙ ap (λ (x : Held). Some x) found.2.thing in
     (held, ap near_of (sym found.2.thing) ∙ near_of_session row.session.role row.session.stage row.session.joined ∙ is.id)
 
-attempt_there : (setup : Setup) (past : List Stamped) (s : State) → Tied setup past s → (peer : List ℕ) (n near : ℕ) (ni : List ℕ) → held_with s.startup.ledger peer ≡ Some (OpeningHeld n near ni) →
+attempt_there : (setup : Setup) (past : Past) (s : State) → Tied setup past s → (peer : List ℕ) (n near : ℕ) (ni : List ℕ) → held_with s.startup.ledger peer ≡ Some (OpeningHeld n near ni) →
     thing_at s near ≡ Some (peer, OpeningHeld n near ni)
 attempt_there setup past s t peer n near ni e = go (get s.startup.attempts near) refl (t.sound.there peer n near ni e)
   where
@@ -221,21 +221,21 @@ attempt_there setup past s t peer n near ni e = go (get s.startup.attempts near)
         let both : Some (OpeningHeld a.n near a.ni) ≡ Some (OpeningHeld n near ni) = sym (t.sound.held near a is) ∙ ap (held_with s.startup.ledger) p ∙ e in
         found_of_attempt s near a is ∙ ap (λ (q : List ℕ). Some (q, OpeningHeld a.n near a.ni)) p ∙ ap (of_peer peer) both
 
-session_there : (setup : Setup) (past : List Stamped) (s : State) → Tied setup past s → (peer : List ℕ) (thing : Held) → held_with s.startup.ledger peer ≡ Some thing → IsSession thing →
+session_there : (setup : Setup) (past : Past) (s : State) → Tied setup past s → (peer : List ℕ) (thing : Held) → held_with s.startup.ledger peer ≡ Some thing → IsSession thing →
     thing_at s (near_of thing) ≡ Some (peer, thing)
 session_there setup past s t peer thing e sess =
     let found = t.there peer thing e sess in
     let row = found_row (get s.sessions (near_of thing)) peer thing found in
     ap (λ (o : Option AttemptState). combined (near_of thing) o (get s.sessions (near_of thing))) (no_attempt s (near_of thing) row.0 (t.apart (near_of thing)) row.1) ∙ found
 
-held_there : (setup : Setup) (past : List Stamped) (s : State) → Tied setup past s → (peer : List ℕ) (thing : Held) → held_with s.startup.ledger peer ≡ Some thing →
+held_there : (setup : Setup) (past : Past) (s : State) → Tied setup past s → (peer : List ℕ) (thing : Held) → held_with s.startup.ledger peer ≡ Some thing →
     thing_at s (near_of thing) ≡ Some (peer, thing)
 held_there setup past s t peer (OpeningHeld n near ni) e = attempt_there setup past s t peer n near ni e
 held_there setup past s t peer (HalfOpen j) e = session_there setup past s t peer (HalfOpen j) e tt
 held_there setup past s t peer (KeptAsResponder j) e = session_there setup past s t peer (KeptAsResponder j) e tt
 held_there setup past s t peer (KeptAsInitiator j) e = session_there setup past s t peer (KeptAsInitiator j) e tt
 
-pub agrees_of : (setup : Setup) (past : List Stamped) (s : State) → Tied setup past s → Agrees setup past s
+pub agrees_of : (setup : Setup) (past : Past) (s : State) → Tied setup past s → Agrees setup past s
 agrees_of setup past s t = record {
   given = record { config = t.config; cert = t.cert; secret = t.secret; cookie_secret = t.cookie_secret; own = t.own; max_peers = t.max_peers };
   matches = record {
@@ -257,7 +257,7 @@ clash : (b : Bool) → b ≡ true → b ≡ false → ⊥
 clash b p q = let e : true ≡ false = sym p ∙ q in cc
 
 -- under the session ID of what is held nothing closes
-pub none_closes : (setup : Setup) (past : List Stamped) (s : State) → Agrees setup past s → (near : ℕ) (p : List ℕ) (h : Held) → thing_at s near ≡ Some (p, h) → (thing : Held) (at : ℕ) → IsClosing near thing at past → ⊥
+pub none_closes : (setup : Setup) (past : Past) (s : State) → Agrees setup past s → (near : ℕ) (p : List ℕ) (h : Held) → thing_at s near ≡ Some (p, h) → (thing : Held) (at : ℕ) → IsClosing near thing at past → ⊥
 none_closes setup past s a near p h is thing at c = by (get s.startup.attempts near) refl (get s.sessions near) refl (a.closing near thing at c)
   where
     in_session : (o : Option Row) → found_in o ≡ Some (p, h) → IsClosedThing o thing → ⊥
@@ -279,13 +279,13 @@ pub record IsAt (near : ℕ) (oa : Option AttemptState) (os : Option Row) (s t :
   pub sessions : (q : ℕ) → (q ≡ near → ⊥) → get t.sessions q ≡ get s.sessions q
 
 -- More was done, that begins and ends no closing but under one session ID.
-pub record GoesOnBeside (near : ℕ) (past now : List Stamped) : Type 0 where
+pub record GoesOnBeside (near : ℕ) (past now : Past) : Type 0 where
   pub done : (x : Stamped) → WasDone x past → WasDone x now
   pub closing : (q : ℕ) → (q ≡ near → ⊥) → (thing : Held) (at : ℕ) → IsClosing q thing at past → IsClosing q thing at now
   pub back : (q : ℕ) → (q ≡ near → ⊥) → (thing : Held) (at : ℕ) → IsClosing q thing at now → IsClosing q thing at past
 
 -- an attempt or a session of this end, and not both
-abbrev pub Fits : Setup → List Stamped → ℕ → Option AttemptState → Option Row → Type 0
+abbrev pub Fits : Setup → Past → ℕ → Option AttemptState → Option Row → Type 0
 Fits setup past near None None = Unit {0}
 Fits setup past near None (Some row) = IsOurs setup past near row.session
 Fits setup past near (Some a) None = WasStarted past near a
@@ -306,21 +306,21 @@ pub used_here : (near : ℕ) (oa : Option AttemptState) (os : Option Row) (s t :
 used_here near oa os s t at =
     ap (λ (o : Option AttemptState). is_some o || is_some (get t.sessions near)) at.attempt ∙ ap (λ (o : Option Row). is_some oa || is_some o) at.session
 
-fits_session : (setup : Setup) (past : List Stamped) (near : ℕ) (oa : Option AttemptState) (os : Option Row) (row : Row) → Fits setup past near oa os → os ≡ Some row → IsOurs setup past near row.session
+fits_session : (setup : Setup) (past : Past) (near : ℕ) (oa : Option AttemptState) (os : Option Row) (row : Row) → Fits setup past near oa os → os ≡ Some row → IsOurs setup past near row.session
 fits_session setup past near oa None row f e = absurd (cc)
 fits_session setup past near None (Some x) row f e = let same : x ≡ row = cc in subst (λ (r : Row). IsOurs setup past near r.session) same f
 fits_session setup past near (Some a) (Some x) row f e = absurd f
 
-fits_attempt : (setup : Setup) (past : List Stamped) (near : ℕ) (oa : Option AttemptState) (os : Option Row) (a : AttemptState) → Fits setup past near oa os → oa ≡ Some a → (os ≡ None) × WasStarted past near a
+fits_attempt : (setup : Setup) (past : Past) (near : ℕ) (oa : Option AttemptState) (os : Option Row) (a : AttemptState) → Fits setup past near oa os → oa ≡ Some a → (os ≡ None) × WasStarted past near a
 fits_attempt setup past near None os a f e = absurd (cc)
 fits_attempt setup past near (Some x) None a f e = let same : x ≡ a = cc in (refl, subst (WasStarted past near) same f)
 fits_attempt setup past near (Some x) (Some row) a f e = absurd f
 
 -- what closes elsewhere goes on
-closed_on : (past now : List Stamped) (near q : ℕ) (session : SessionState) → GoesOnBeside near past now → (q ≡ near → ⊥) → IsClosed past q session → IsClosed now q session
+closed_on : (past now : Past) (near q : ℕ) (session : SessionState) → GoesOnBeside near past now → (q ≡ near → ⊥) → IsClosed past q session → IsClosed now q session
 closed_on past now near q session more other c = record { thing = c.thing; at = c.at; was = c.was; closing = more.closing q other c.thing c.at c.closing; since = c.since }
 
-pub agrees_changed : (setup : Setup) (past now : List Stamped) (s t : State) (near : ℕ) (oa : Option AttemptState) (os : Option Row) → Agrees setup past s → IsGiven setup t → IsAt near oa os s t →
+pub agrees_changed : (setup : Setup) (past now : Past) (s t : State) (near : ℕ) (oa : Option AttemptState) (os : Option Row) → Agrees setup past s → IsGiven setup t → IsAt near oa os s t →
     Matches (thing_at t) (held_with t.startup.ledger) → Fits setup now near oa os → GoesOnBeside near past now → ClosesAt now near os →
     Ids setup.config.max_sessions (ids_in_use now) t → AreBy t.moment now → row_count t.startup.ledger ≤ setup.config.max_peers → Agrees setup now t
 agrees_changed setup past now s t near oa os a given at matches fits more closes ids by_now rows = record {

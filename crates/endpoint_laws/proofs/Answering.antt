@@ -26,7 +26,7 @@ use Rattle.endpoint_model.specs.declared.row.Row.{Row}
 use Rattle.endpoint_model.specs.declared.config.Draws.{Draws}
 use Rattle.endpoint_model.specs.declared.entry.Entry.TheVariants.{Fact as FactEntry}
 use Rattle.endpoint_model.specs.Event.{Setup, Receive, own_of}
-use Rattle.endpoint_laws.specs.Past.{Stamped, stamped, facts_of, ids_in_use}
+use Rattle.endpoint_laws.specs.Past.{Past, stamped, facts_of, ids_in_use}
 use Rattle.endpoint_model.specs.Keying.{IsSigned, IsAmong, chunks_of, responder_part}
 use Rattle.endpoint_laws.specs.Lawful.{AnswersAttempt}
 use Rattle.endpoint_model.specs.State.{State, new_row, Did, is_used, with_startup, with_row}
@@ -62,7 +62,7 @@ first_or false b e = absurd (cc)
 moved_one : (a b c d : ℕ) → a ≡ c - 1 → 0 < c → b ≡ d + 1 → a + b ≡ c + d
 moved_one a b c d p some q = omega arith
 
-module _ (setup : Setup) (from : AddressParts) (datagram : List ℕ) (draws : Draws) (packet : Whole) (past : List Stamped) (s : State) (tied : Tied setup past s) (near : ℕ) (c : Placed) (opens : OpensAttempt s near c.payload) where
+module _ (setup : Setup) (from : AddressParts) (datagram : List ℕ) (draws : Draws) (packet : Whole) (past : Past) (s : State) (tied : Tied setup past s) (near : ℕ) (c : Placed) (opens : OpensAttempt s near c.payload) where
   abbrev a : AttemptState
   a = opens.a
 
@@ -75,7 +75,7 @@ module _ (setup : Setup) (from : AddressParts) (datagram : List ℕ) (draws : Dr
   abbrev t : State
   t = with_row (with_startup s (after_opening s.startup near (Opened j))) near new
 
-  abbrev now : List Stamped
+  abbrev now : Past
   now = stamped s.moment (FactEntry (Opened j)) ∷ past
 
   held_is : held_with s.startup.ledger a.peer ≡ Some (Opening a.n near a.ni)

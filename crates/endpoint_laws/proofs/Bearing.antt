@@ -34,7 +34,7 @@ use Rattle.startup.specs.declared.cause.Cause.TheVariants.{WrongResponder, OwnCe
 use Rattle.startup.specs.Packets.{is_signed}
 use Rattle.startup.specs.Keyings.{InitiatorKeying, initiator_keying_in, keying_of, is_own, heard_cause, named_cause, cookie_cause, repeated_session}
 use Rattle.endpoint_model.specs.Event.{Setup, own_of}
-use Rattle.endpoint_laws.specs.Past.{Stamped, facts_of}
+use Rattle.endpoint_laws.specs.Past.{Past, facts_of}
 use Rattle.endpoint_model.specs.Keying.{IsFirst, IsSigned, chunks_of, initiator_part, IsAmong}
 use Rattle.endpoint_laws.specs.Admissible.{Admissible, Offer}
 use Rattle.endpoint_laws.specs.Laws.{AreBytes}
@@ -201,7 +201,7 @@ prevailed own peer (KeptAsInitiator j) other e is = absurd is
 abbrev pub offer_of : InitiatorKeying → Offer
 offer_of keying = record { peer = sha256 keying.cert; n = keying.part.n; ni = keying.part.ni; far = keying.near }
 
-pub admissible : (setup : Setup) (past : List Stamped) (s : State) (from : AddressParts) (datagram : List ℕ) (packet : Whole) (c : Placed) (keying : InitiatorKeying) → Tied setup past s →
+pub admissible : (setup : Setup) (past : Past) (s : State) (from : AddressParts) (datagram : List ℕ) (packet : Whole) (c : Placed) (keying : InitiatorKeying) → Tied setup past s →
     IsRead setup.secret 0 datagram packet → packet.head.mode ≡ StartupMode → IsAmong c (chunks_of packet) → IsFirst c (chunks_of packet) → c.kind ≡ 0x38 → IsHeard s from c.payload keying →
     cookie_test s.startup.cookie_secret keying.cookie from s.moment ≡ Current → IsNamed s keying → MayBear s (keying_of keying) → Admissible setup past s.moment from datagram (offer_of keying)
 admissible setup past s from datagram packet c keying tied read mode among first kind heard current named may =

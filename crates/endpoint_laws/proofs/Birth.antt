@@ -16,7 +16,7 @@ use Rattle.startup.specs.State.{AttemptState, Attempts}
 use Rattle.endpoint_model.specs.declared.row.Row.{Row}
 use Rattle.endpoint_model.specs.declared.entry.Entry.TheVariants.{Fact as FactEntry}
 use Rattle.endpoint_model.specs.Event.{Setup}
-use Rattle.endpoint_laws.specs.Past.{Stamped, stamped, is_close, ids_in_use}
+use Rattle.endpoint_laws.specs.Past.{Past, stamped, is_close, ids_in_use}
 use Rattle.endpoint_model.specs.State.{State, uses, is_used}
 use Rattle.endpoint_laws.proofs.Matching.{of_peer, ids_more, ids_less}
 use Rattle.endpoint_laws.proofs.Tied.{by_later, found_in}
@@ -31,17 +31,17 @@ some_used near None (Some row) x e = refl
 some_used near None None x e = absurd (cc)
 
 -- what is held is used
-pub held_used : (setup : Setup) (past : List Stamped) (s : State) (peer : List ℕ) (thing : Held) → Agrees setup past s → held_with s.startup.ledger peer ≡ Some thing → is_used s (near_of thing) ≡ true
+pub held_used : (setup : Setup) (past : Past) (s : State) (peer : List ℕ) (thing : Held) → Agrees setup past s → held_with s.startup.ledger peer ≡ Some thing → is_used s (near_of thing) ≡ true
 held_used setup past s peer thing a is = some_used (near_of thing) (get s.startup.attempts (near_of thing)) (get s.sessions (near_of thing)) (peer, thing) (a.matches.there peer thing is)
 
 -- a thing has ended
-pub agrees_end : (setup : Setup) (past : List Stamped) (s t : State) (moment : ℕ) (peer : List ℕ) (thing : Held) (why : Why) → Agrees setup past s → held_with s.startup.ledger peer ≡ Some thing → IsGiven setup t → is_close why ≡ false →
+pub agrees_end : (setup : Setup) (past : Past) (s t : State) (moment : ℕ) (peer : List ℕ) (thing : Held) (why : Why) → Agrees setup past s → held_with s.startup.ledger peer ≡ Some thing → IsGiven setup t → is_close why ≡ false →
     IsAt (near_of thing) None None s t → t.startup.ledger ≡ noted s.startup.ledger (Ended peer (near_of thing) why) → uses t + 1 ≡ uses s → (s.moment ≤ t.moment) × (moment ≤ t.moment) →
     Agrees setup (stamped moment (FactEntry (Ended peer (near_of thing) why)) ∷ past) t
 agrees_end setup past s t moment peer thing why a is given opens at ledger count in_time =
     let near : ℕ = near_of thing in
     let fact : Fact = Ended peer near why in
-    let now : List Stamped = stamped moment (FactEntry fact) ∷ past in
+    let now : Past = stamped moment (FactEntry fact) ∷ past in
     let was = a.matches.there peer thing is in
     agrees_changed setup past now s t near None None a given at
     (noted_matches s t fact near None None a.matches at ledger (was ∙ sym (ap (of_peer peer) is)) refl (λ h e. absurd (cc)))
@@ -52,12 +52,12 @@ agrees_end setup past s t moment peer thing why a is given opens at ledger count
     (subst (λ l. row_count l ≤ setup.config.max_peers) (sym ledger) (rows_after_known s.startup.ledger fact setup.config.max_peers (knows_held s.startup.ledger peer thing is) a.rows))
 
 -- a session is born
-pub agrees_born : (setup : Setup) (past : List Stamped) (s t : State) (moment : ℕ) (j : Joined) (new : Row) → Agrees setup past s → held_with s.startup.ledger j.peer ≡ None → IsNew s j.near → IsGiven setup t →
+pub agrees_born : (setup : Setup) (past : Past) (s t : State) (moment : ℕ) (j : Joined) (new : Row) → Agrees setup past s → held_with s.startup.ledger j.peer ≡ None → IsNew s j.near → IsGiven setup t →
     IsAt j.near None (Some new) s t → t.startup.ledger ≡ noted s.startup.ledger (Born j) → uses t ≡ uses s + 1 → (s.moment ≤ t.moment) × (moment ≤ t.moment) → uses s < setup.config.max_sessions →
     row_count (noted s.startup.ledger (Born j)) ≤ setup.config.max_peers → found_in (Some new) ≡ Some (j.peer, HalfOpen j) → IsOurs setup (stamped moment (FactEntry (Born j)) ∷ past) j.near new.session →
     Agrees setup (stamped moment (FactEntry (Born j)) ∷ past) t
 agrees_born setup past s t moment j new a unheld free given at ledger count in_time room rows is ours =
-    let now : List Stamped = stamped moment (FactEntry (Born j)) ∷ past in
+    let now : Past = stamped moment (FactEntry (Born j)) ∷ past in
     let was : thing_at s j.near ≡ of_peer j.peer (held_with s.startup.ledger j.peer) =
     ap (λ (o : Option AttemptState). combined j.near o (get s.sessions j.near)) free.attempt ∙ ap (combined j.near None) free.session ∙ sym (ap (of_peer j.peer) unheld) in
     agrees_changed setup past now s t j.near None (Some new) a given at
@@ -105,7 +105,7 @@ less_left a b c d p some q = omega arith
 less_right : (a b c d : ℕ) → a ≡ b → c ≡ d - 1 → 0 < d → a + c + 1 ≡ b + d
 less_right a b c d p q some = omega arith
 
-attempt_found : (setup : Setup) (past : List Stamped) (s : State) (peer : List ℕ) (n near : ℕ) (ni : List ℕ) → Agrees setup past s → held_with s.startup.ledger peer ≡ Some (Opening n near ni) →
+attempt_found : (setup : Setup) (past : Past) (s : State) (peer : List ℕ) (n near : ℕ) (ni : List ℕ) → Agrees setup past s → held_with s.startup.ledger peer ≡ Some (Opening n near ni) →
     (a : AttemptState) × (get s.startup.attempts near ≡ Some a)
 attempt_found setup past s peer n near ni g is = go (get s.startup.attempts near) (get s.sessions near) (g.matches.there peer (Opening n near ni) is)
   where
@@ -116,7 +116,7 @@ attempt_found setup past s peer n near ni g is = go (get s.startup.attempts near
         let row : Row = found.0 in
         absurd (subst IsSession found.2.thing (is_session row.session.role row.session.stage row.session.joined))
 
-session_found : (setup : Setup) (past : List Stamped) (s : State) (peer : List ℕ) (thing : Held) → Agrees setup past s → held_with s.startup.ledger peer ≡ Some thing → IsSession thing →
+session_found : (setup : Setup) (past : Past) (s : State) (peer : List ℕ) (thing : Held) → Agrees setup past s → held_with s.startup.ledger peer ≡ Some thing → IsSession thing →
     (row : Row) × (get s.sessions (near_of thing) ≡ Some row)
 session_found setup past s peer thing g is sess = go (get s.startup.attempts (near_of thing)) (get s.sessions (near_of thing)) (g.matches.there peer thing is)
   where
@@ -127,7 +127,7 @@ session_found setup past s peer thing g is sess = go (get s.startup.attempts (ne
         absurd (subst IsSession (sym is) sess)
     go None os e = let found = found_row os peer thing e in (found.0, found.1)
 
-without_attempt_is : (setup : Setup) (past : List Stamped) (s : State) (fact : Fact) (peer : List ℕ) (n near : ℕ) (ni : List ℕ) → Agrees setup past s → held_with s.startup.ledger peer ≡ Some (Opening n near ni) → IsWithout s fact (Opening n near ni)
+without_attempt_is : (setup : Setup) (past : Past) (s : State) (fact : Fact) (peer : List ℕ) (n near : ℕ) (ni : List ℕ) → Agrees setup past s → held_with s.startup.ledger peer ≡ Some (Opening n near ni) → IsWithout s fact (Opening n near ni)
 without_attempt_is setup past s fact peer n near ni g is =
     let found = attempt_found setup past s peer n near ni g is in
     record {
@@ -141,7 +141,7 @@ without_attempt_is setup past s fact peer n near ni g is =
           (len_less s.startup.attempts near found.0 found.1) (some_entry s.startup.attempts near found.0 found.1) (len_absent s.sessions near (g.apart near found.0 found.1));
     }
 
-without_session_is : (setup : Setup) (past : List Stamped) (s : State) (fact : Fact) (peer : List ℕ) (thing : Held) → Agrees setup past s → held_with s.startup.ledger peer ≡ Some thing → IsSession thing → attempt_id thing ≡ None → IsWithout s fact thing
+without_session_is : (setup : Setup) (past : Past) (s : State) (fact : Fact) (peer : List ℕ) (thing : Held) → Agrees setup past s → held_with s.startup.ledger peer ≡ Some thing → IsSession thing → attempt_id thing ≡ None → IsWithout s fact thing
 without_session_is setup past s fact peer thing g is sess none =
     let near : ℕ = near_of thing in
     let found = session_found setup past s peer thing g is sess in
@@ -157,7 +157,7 @@ without_session_is setup past s fact peer thing g is sess none =
           (ap len same) (len_less s.sessions near found.0 found.1) (some_entry s.sessions near found.0 found.1);
     }
 
-pub without_thing_is : (setup : Setup) (past : List Stamped) (s : State) (fact : Fact) (peer : List ℕ) (thing : Held) → Agrees setup past s → held_with s.startup.ledger peer ≡ Some thing → IsWithout s fact thing
+pub without_thing_is : (setup : Setup) (past : Past) (s : State) (fact : Fact) (peer : List ℕ) (thing : Held) → Agrees setup past s → held_with s.startup.ledger peer ≡ Some thing → IsWithout s fact thing
 without_thing_is setup past s fact peer (Opening n near ni) g is = without_attempt_is setup past s fact peer n near ni g is
 without_thing_is setup past s fact peer (HalfOpen j) g is = without_session_is setup past s fact peer (HalfOpen j) g is tt refl
 without_thing_is setup past s fact peer (KeptAsResponder j) g is = without_session_is setup past s fact peer (KeptAsResponder j) g is tt refl

@@ -24,7 +24,7 @@ use Rattle.glare_core.specs.Tells.{Tell, Keying, Answer, Under, Values}
 use Rattle.glare_core.specs.Steps.{Step}
 use Rattle.glare_core.specs.Told.{WasSent}
 use Rattle.endpoint_model.specs.Event.{Setup, own_of}
-use Rattle.endpoint_laws.specs.Past.{Stamped, facts_of, IsClosing}
+use Rattle.endpoint_laws.specs.Past.{Past, facts_of, IsClosing}
 use Rattle.endpoint_laws.specs.Agreed.{no_generation}
 use Rattle.endpoint_laws.specs.Contexts.{session_context, outward, OpensUnder, StandsUnder}
 use Rattle.endpoint_model.specs.Keying.{chunks_of, IsAmong, initiator_part, responder_part}
@@ -39,14 +39,14 @@ pub record WasTold (own peer : List ℕ) (h : Held) (steps : List Step) : Type 0
   pub sizes : SizesOf peer h
 
 -- What closes at an end was told in these steps, with its peer.
-abbrev pub ClosingTold : List ℕ → List Stamped → List Step → Type 0
+abbrev pub ClosingTold : List ℕ → Past → List Step → Type 0
 ClosingTold own past steps = (near : ℕ) (thing : Held) (at : ℕ) → IsClosing near thing at past → (peer : List ℕ) × WasSent (tell_of own peer thing) steps
 
 -- A datagram went out in this context, of an end of the group that told in these steps what it held then.
 pub record Carried (secret sent : List ℕ) (context : Context) (steps : List Step) : Type 0 where
   pub setup : Setup
   pub group : setup.secret ≡ secret
-  pub past : List Stamped
+  pub past : Past
   pub line : OutLine setup past sent context
   pub told : (peer : List ℕ) (h : Held) → held peer (facts_of past) ≡ Some h → WasTold (own_of setup) peer h steps
   pub closing : ClosingTold (own_of setup) past steps

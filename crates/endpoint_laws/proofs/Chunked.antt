@@ -20,7 +20,7 @@ use Rattle.endpoint_model.specs.declared.config.Draws.{Draws}
 use Rattle.endpoint_model.specs.declared.place.Place.{Place}
 use Rattle.endpoint_model.specs.declared.place.Place.TheVariants.{Startup, Attempt, Session}
 use Rattle.endpoint_model.specs.Event.{Setup, Call, Receive}
-use Rattle.endpoint_laws.specs.Past.{Stamped}
+use Rattle.endpoint_laws.specs.Past.{Past}
 use Rattle.endpoint_model.specs.Keying.{IsAmong, IsFirst, chunks_of}
 use Rattle.endpoint_model.specs.State.{State, full}
 use Rattle.endpoint_model.specs.Admission.{sid_at}
@@ -126,7 +126,7 @@ module _ (setup : Setup) (from : AddressParts) (datagram : List ℕ) (draws : Dr
   abbrev call : Call
   call = Receive from datagram draws
 
-  initiator_goes : (s : State) (past : List Stamped) (place : Place) (walk : Walk) (c : Placed) → Tied setup past s → Came setup datagram place packet → IsAmong c (chunks_of packet) → (walk.keyed ≡ false → c.kind ≡ 0x38 → IsFirst c (chunks_of packet)) →
+  initiator_goes : (s : State) (past : Past) (place : Place) (walk : Walk) (c : Placed) → Tied setup past s → Came setup datagram place packet → IsAmong c (chunks_of packet) → (walk.keyed ≡ false → c.kind ≡ 0x38 → IsFirst c (chunks_of packet)) →
       c.kind ≡ 0x38 → takes place 0x38 ≡ true → initiator_keying_cause s walk from c.payload ≡ None → fault_in (initiator_keying_in c.payload) ≡ None → Goes setup call past s (initiator_keyed s from draws c.payload)
   initiator_goes s past Startup walk c tied came among first kind taken none formed =
       let reads = read_ok (initiator_keying_in c.payload) formed in
@@ -135,7 +135,7 @@ module _ (setup : Setup) (from : AddressParts) (datagram : List ℕ) (draws : Dr
   initiator_goes s past (Attempt near) walk c tied came among first kind taken none formed = absurd (cc)
   initiator_goes s past (Session near) walk c tied came among first kind taken none formed = absurd (cc)
 
-  responder_goes : (s : State) (past : List Stamped) (place : Place) (c : Placed) → Tied setup past s → Came setup datagram place packet → IsAmong c (chunks_of packet) →
+  responder_goes : (s : State) (past : Past) (place : Place) (c : Placed) → Tied setup past s → Came setup datagram place packet → IsAmong c (chunks_of packet) →
       c.kind ≡ 0x78 → takes place 0x78 ≡ true → responder_keying_cause s (sid_at place) c.payload ≡ None → fault_in (responder_keying_in c.payload) ≡ None → Goes setup call past s (responder_keyed s (sid_at place) from c.payload)
   responder_goes s past Startup c tied came among kind taken none formed = absurd (cc)
   responder_goes s past (Attempt near) c tied came among kind taken none formed =
@@ -143,13 +143,13 @@ module _ (setup : Setup) (from : AddressParts) (datagram : List ℕ) (draws : Dr
       goes_responder setup from datagram draws packet past s tied near c (opening_of s near c.payload reads.0 reads.1 none) came among kind
   responder_goes s past (Session near) c tied came among kind taken none formed = absurd (cc)
 
-  told_goes : (s : State) (past : List Stamped) (place : Place) (c : Placed) → Tied setup past s → PassedAt past place datagram packet s → IsAmong c (chunks_of packet) → is_told_in_session c.kind ≡ true →
+  told_goes : (s : State) (past : Past) (place : Place) (c : Placed) → Tied setup past s → PassedAt past place datagram packet s → IsAmong c (chunks_of packet) → is_told_in_session c.kind ≡ true →
       takes place c.kind ≡ true → has_state_for s place c.kind ≡ true → Goes setup call past s (told_in_session s (sid_at place) from c)
   told_goes s past Startup c tied passed among told taken has = absurd (not_at_startup c.kind (told_kinds c.kind told) taken)
   told_goes s past (Attempt near) c tied passed among told taken has = absurd (not_at_attempt near c.kind (told_kinds c.kind told) taken)
   told_goes s past (Session near) c tied passed among told taken has = goes_told setup from datagram draws packet past s tied near passed c among has
 
-  pub chunk_goes : (s : State) (past : List Stamped) (place : Place) (walk : Walk) (c : Placed) → Tied setup past s → Came setup datagram place packet → PassedAt past place datagram packet s → IsAmong c (chunks_of packet) → (walk.keyed ≡ false → c.kind ≡ 0x38 → IsFirst c (chunks_of packet)) →
+  pub chunk_goes : (s : State) (past : Past) (place : Place) (walk : Walk) (c : Placed) → Tied setup past s → Came setup datagram place packet → PassedAt past place datagram packet s → IsAmong c (chunks_of packet) → (walk.keyed ≡ false → c.kind ≡ 0x38 → IsFirst c (chunks_of packet)) →
       Goes setup call past s (chunk_did place from draws walk s c)
   chunk_goes s past place walk c tied came passed among first = chunk_by_kind (λ d. Goes setup call past s d) place from draws walk s c (record {
     discarded = λ cause. goes_discarded setup call s c.at cause past tied;

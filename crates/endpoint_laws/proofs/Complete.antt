@@ -57,7 +57,7 @@ use Rattle.endpoint_model.specs.declared.place.Place.TheVariants.{Startup, Attem
 use Rattle.endpoint_model.specs.declared.entry.Entry.{Entry}
 use Rattle.endpoint_model.specs.declared.entry.Entry.TheVariants.{Fact as FactEntry, Out}
 use Rattle.endpoint_model.specs.Event.{Setup, own_of, Receive, Answer as CallAnswer, Began, Done, NotOpened, Refused, NotAdded, Stopped, OutOfMemory}
-use Rattle.endpoint_laws.specs.Past.{Stamped, onto, facts_of, ids_in_use, past_of, last_moment}
+use Rattle.endpoint_laws.specs.Past.{Past, onto, facts_of, ids_in_use, past_of, last_moment}
 use Rattle.endpoint_model.specs.Keying.{IsFirst, chunks_of}
 use Rattle.endpoint_laws.specs.Admissible.{Admissible, Offer}
 use Rattle.endpoint_laws.specs.Lawful.{AnswersAttempt}
@@ -172,7 +172,7 @@ heard_own l (Again near) = refl
 heard_own l (Birth None born) = refl
 heard_own l (Birth (Some ended) born) = refl
 
-module _ (setup : Setup) (past : List Stamped) (u : State) (tied : Tied setup past u) (from : AddressParts) (draws : Draws) (payload : List ℕ) (keying : InitiatorKeying) (b : IsBearing u from payload keying)
+module _ (setup : Setup) (past : Past) (u : State) (tied : Tied setup past u) (from : AddressParts) (draws : Draws) (payload : List ℕ) (keying : InitiatorKeying) (b : IsBearing u from payload keying)
     (some : (u.sealed == last_count) ≡ false) where
   abbrev k : Keying
   k = keying_of keying
@@ -245,7 +245,7 @@ module _ (setup : Setup) (past : List Stamped) (u : State) (tied : Tied setup pa
 
 -- ---- a datagram with an admissible keying
 
-module _ (setup : Setup) (past : List Stamped) (s : State) (tied : Tied setup past s) (sent_so : Sent setup past s) (well : HeardWell past s) (from : AddressParts) (datagram : List ℕ) (draws : Draws) (offer : Offer) (now : ℕ)
+module _ (setup : Setup) (past : Past) (s : State) (tied : Tied setup past s) (sent_so : Sent setup past s) (well : HeardWell past s) (from : AddressParts) (datagram : List ℕ) (draws : Draws) (offer : Offer) (now : ℕ)
     (a : Admissible setup past now from datagram offer) (at : s.moment ≡ now) (is : IsSetup setup) (fits : IsCall (Receive from datagram draws))
     (other : offer.peer ≢ own_of setup) (gone rest : List Placed) (goes : chunks_of a.packet ≡ gone ++ rest) (firstly : IsFirst a.chunk gone) where
   abbrev part : List ℕ
@@ -306,7 +306,7 @@ module _ (setup : Setup) (past : List Stamped) (s : State) (tied : Tied setup pa
   abbrev after_front : Goes setup (Receive from datagram draws) past s first
   after_front = front_orderly.goes
 
-  abbrev told : List Stamped
+  abbrev told : Past
   told = onto s.moment first.entries past
 
   facts_same : facts_of told ≡ facts_of past
@@ -431,7 +431,7 @@ went_first OutOfMemory chunks gone went = absurd went
 
 pub admissible_keyings_bear : AdmissibleKeyingsBear
 admissible_keyings_bear setup log s t moment from datagram draws answer entries offer gone is calls stands fits step a went firstly other few =
-    let past : List Stamped = past_of 0 [] log in
+    let past : Past = past_of 0 [] log in
     let said : LogIs setup [] (fresh setup) log s = log_is setup log s is calls stands in
     let noted : State = at_moment s moment in
     let tied : Tied setup past noted = tied_alike setup past s (max s.moment moment) s.sealed (omega arith) said.holds.tied in

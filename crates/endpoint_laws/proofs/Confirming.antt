@@ -28,7 +28,7 @@ use Rattle.endpoint_model.specs.declared.place.Place.{Place}
 use Rattle.endpoint_model.specs.declared.place.Place.TheVariants.{Startup, Attempt, Session}
 use Rattle.endpoint_model.specs.declared.entry.Entry.TheVariants.{Fact as FactEntry}
 use Rattle.endpoint_model.specs.Event.{Setup, Receive, own_of}
-use Rattle.endpoint_laws.specs.Past.{Stamped, stamped, facts_of, ids_in_use}
+use Rattle.endpoint_laws.specs.Past.{Past, stamped, facts_of, ids_in_use}
 use Rattle.endpoint_laws.specs.Contexts.{inward, OpensUnder}
 use Rattle.endpoint_model.specs.State.{State, Did, is_used, nothing, fact_entries, with_startup, with_session}
 use Rattle.endpoint_model.specs.Admission.{confirming_by, confirming}
@@ -75,10 +75,10 @@ module _ (setup : Setup) (from : AddressParts) (datagram : List ℕ) (draws : Dr
   abbrev fact : Fact
   fact = Confirmed j.peer j.near
 
-  abbrev now : List Stamped → List Stamped
+  abbrev now : Past → Past
   now past = stamped s.moment (FactEntry fact) ∷ past
 
-  confirmed_tied : (past : List Stamped) → Tied setup past s → row.session.role ≡ Responder → row.session.stage ≡ Opening → held_with s.startup.ledger j.peer ≡ Some (HalfOpen j) → Tied setup (now past) (did (Some (HalfOpen j))).state
+  confirmed_tied : (past : Past) → Tied setup past s → row.session.role ≡ Responder → row.session.stage ≡ Opening → held_with s.startup.ledger j.peer ≡ Some (HalfOpen j) → Tied setup (now past) (did (Some (HalfOpen j))).state
   confirmed_tied past tied role stage is =
       let t : State = (did (Some (HalfOpen j))).state in
       let a = agrees_of setup past s tied in
@@ -123,7 +123,7 @@ module _ (setup : Setup) (from : AddressParts) (datagram : List ℕ) (draws : Dr
       (rows_after_known s.startup.ledger fact setup.config.max_peers (knows_held s.startup.ledger j.peer (HalfOpen j) is) tied.rows))
       ((subst P is (gave_confirmed s.startup.ledger j.peer)) 0 (facts_of past) tied.account)
 
-  confirmed_goes : (past : List Stamped) → Tied setup past s → HeardIn datagram near (Some row) → is_opening row.session.stage ≡ true →
+  confirmed_goes : (past : Past) → Tied setup past s → HeardIn datagram near (Some row) → is_opening row.session.stage ≡ true →
       Goes setup (Receive from datagram draws) past s (did (held_with s.startup.ledger j.peer))
   confirmed_goes past tied heard opening =
       let is = tied.sessions near row there in

@@ -19,7 +19,7 @@ use Rattle.endpoint_model.specs.declared.config.Draws.{Draws}
 use Rattle.endpoint_model.specs.declared.entry.Entry.{Entry}
 use Rattle.endpoint_model.specs.declared.entry.Entry.TheVariants.{Fact as FactEntry}
 use Rattle.endpoint_model.specs.Event.{Setup, own_of, Call, Open, Answer, Began, NotOpened, OpenCall, open_in}
-use Rattle.endpoint_laws.specs.Past.{Stamped, stamped, onto, facts_of, fact_and}
+use Rattle.endpoint_laws.specs.Past.{Past, stamped, onto, facts_of, fact_and}
 use Rattle.endpoint_laws.specs.Lawful.{Opens, FactLine, IsCounted, OpensIn}
 use Rattle.endpoint_model.specs.State.{State, with_startup, free_from}
 use Rattle.endpoint_model.specs.Sending.{sent_each}
@@ -37,7 +37,7 @@ none_counted : (o : Option Fact) (P : Type 0) → NoFactAnd o P → CountMeets o
 none_counted None P none = tt
 none_counted (Some fact) P none = absurd none
 
-no_facts_counted : (setup : Setup) (now : ℕ) (call : Call) (past : List Stamped) (entries : List Entry) → NoFacts entries → EntriesMeet CountPart setup now call past entries
+no_facts_counted : (setup : Setup) (now : ℕ) (call : Call) (past : Past) (entries : List Entry) → NoFacts entries → EntriesMeet CountPart setup now call past entries
 no_facts_counted setup now call past [] none = tt
 no_facts_counted setup now call past (entry ∷ rest) none =
     (none_counted (fact_in entry) (NoFacts rest) none, no_facts_counted setup now call (stamped now entry ∷ past) rest (the_rest (fact_in entry) (NoFacts rest) none))
@@ -50,30 +50,30 @@ IsNotOpen call = open_in call ≡ None
 opens_none : (call : Call) (peer ni : List ℕ) → IsNotOpen call → Opens call peer ni → ⊥
 opens_none call peer ni other by = subst (λ (o : Option OpenCall). OpensIn o peer ni) other by
 
-fact_counted : (setup : Setup) (now : ℕ) (call : Call) (past : List Stamped) (rest : List Entry) (fact : Fact) → IsNotOpen call → FactLine setup now call past rest fact → IsCounted fact
+fact_counted : (setup : Setup) (now : ℕ) (call : Call) (past : Past) (rest : List Entry) (fact : Fact) → IsNotOpen call → FactLine setup now call past rest fact → IsCounted fact
 fact_counted setup now call past rest (Started peer n near ni) other line = absurd (opens_none call peer ni other line.by)
 fact_counted setup now call past rest (Born j) other line = tt
 fact_counted setup now call past rest (Opened j) other line = tt
 fact_counted setup now call past rest (Confirmed peer near) other line = tt
 fact_counted setup now call past rest (Ended peer near why) other line = tt
 
-by_counted : (setup : Setup) (now : ℕ) (call : Call) (past : List Stamped) (rest : List Entry) (o : Option Fact) → IsNotOpen call → FactMeets setup now call past rest o → CountMeets o
+by_counted : (setup : Setup) (now : ℕ) (call : Call) (past : Past) (rest : List Entry) (o : Option Fact) → IsNotOpen call → FactMeets setup now call past rest o → CountMeets o
 by_counted setup now call past rest None other meets = tt
 by_counted setup now call past rest (Some fact) other meets = fact_counted setup now call past rest fact other meets.1
 
-other_counted : (setup : Setup) (now : ℕ) (call : Call) (past : List Stamped) (entries : List Entry) → IsNotOpen call → EntriesMeet FactPart setup now call past entries → EntriesMeet CountPart setup now call past entries
+other_counted : (setup : Setup) (now : ℕ) (call : Call) (past : Past) (entries : List Entry) → IsNotOpen call → EntriesMeet FactPart setup now call past entries → EntriesMeet CountPart setup now call past entries
 other_counted setup now call past [] other meets = tt
 other_counted setup now call past (entry ∷ rest) other meets =
     (by_counted setup now call past rest (fact_in entry) other meets.0.0, other_counted setup now call (stamped now entry ∷ past) rest other meets.1)
 
 -- ---- the count after an event
 
-few_with : (setup : Setup) (now : ℕ) (call : Call) (past : List Stamped) (rest : List Entry) (o : Option Fact) → FactMeets setup now call past rest o → CountMeets o →
+few_with : (setup : Setup) (now : ℕ) (call : Call) (past : Past) (rest : List Entry) (o : Option Fact) → FactMeets setup now call past rest o → CountMeets o →
     count (facts_of past) < 2 ^ 64 → count (fact_and o (facts_of past)) < 2 ^ 64
 few_with setup now call past rest None f n few = few
 few_with setup now call past rest (Some fact) f n few = count_more (own_of setup) (facts_of past) fact few f.0 n
 
-pub few_after : (setup : Setup) (now : ℕ) (call : Call) (past : List Stamped) (entries : List Entry) → EntriesMeet FactPart setup now call past entries → EntriesMeet CountPart setup now call past entries →
+pub few_after : (setup : Setup) (now : ℕ) (call : Call) (past : Past) (entries : List Entry) → EntriesMeet FactPart setup now call past entries → EntriesMeet CountPart setup now call past entries →
     count (facts_of past) < 2 ^ 64 → count (facts_of (onto now entries past)) < 2 ^ 64
 few_after setup now call past [] f n few = few
 few_after setup now call past (entry ∷ rest) f n few =
@@ -91,7 +91,7 @@ not_last s peer candidates none =
 next_fits : (n : ℕ) → n < 2 ^ 64 → (n == 2 ^ 64 - 1) ≡ false → n + 1 < 2 ^ 64
 next_fits n few other = grind (arith, nat_tests)
 
-opening_counted : (setup : Setup) (now : ℕ) (past : List Stamped) (s : State) (peer : List ℕ) (candidates : List AddressParts) (draws : Draws) (entries : List Entry) → Tied setup past s → count (facts_of past) < 2 ^ 64 →
+opening_counted : (setup : Setup) (now : ℕ) (past : Past) (s : State) (peer : List ℕ) (candidates : List AddressParts) (draws : Draws) (entries : List Entry) → Tied setup past s → count (facts_of past) < 2 ^ 64 →
     open_refusal s peer candidates ≡ None → entries ≡ (opening s peer candidates draws).entries → EntriesMeet CountPart setup now (Open peer candidates draws) past entries
 opening_counted setup now past s peer candidates draws entries tied few none is =
     let started : s.startup.ledger.started ≡ 0 + count (facts_of past) = reads_started 0 s.startup.ledger (facts_of past) tied.account in
@@ -105,7 +105,7 @@ opening_counted setup now past s peer candidates draws entries tied few none is 
 
 -- ---- a call
 
-opening_answers : (setup : Setup) (now : ℕ) (past : List Stamped) (s t : State) (peer : List ℕ) (candidates : List AddressParts) (draws : Draws) (answer : Answer) (entries : List Entry) → Tied setup past s →
+opening_answers : (setup : Setup) (now : ℕ) (past : Past) (s t : State) (peer : List ℕ) (candidates : List AddressParts) (draws : Draws) (answer : Answer) (entries : List Entry) → Tied setup past s →
     count (facts_of past) < 2 ^ 64 → Answers s (Open peer candidates draws) answer entries t → EntriesMeet CountPart setup now (Open peer candidates draws) past entries
 opening_answers setup now past s t peer candidates draws (Began n) entries tied few h = opening_counted setup now past s peer candidates draws entries tied few h.0 h.2.entries
 opening_answers setup now past s t peer candidates draws (NotOpened refusal) entries tied few h =
@@ -113,7 +113,7 @@ opening_answers setup now past s t peer candidates draws (NotOpened refusal) ent
 opening_answers setup now past s t peer candidates draws _ entries tied few h = absurd h
 
 -- Only an open adds a number.
-pub answers_counted : (setup : Setup) (now : ℕ) (past : List Stamped) (s t : State) (call : Call) (answer : Answer) (entries : List Entry) → Tied setup past s → count (facts_of past) < 2 ^ 64 →
+pub answers_counted : (setup : Setup) (now : ℕ) (past : Past) (s t : State) (call : Call) (answer : Answer) (entries : List Entry) → Tied setup past s → count (facts_of past) < 2 ^ 64 →
     EntriesMeet FactPart setup now call past entries → Answers s call answer entries t → EntriesMeet CountPart setup now call past entries
 answers_counted setup now past s t call answer entries tied few meets h = by (open_in call) refl
   where

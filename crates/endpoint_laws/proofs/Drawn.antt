@@ -36,7 +36,7 @@ use Rattle.endpoint_model.specs.Introducing.{with_redirect, introducing}
 use Rattle.endpoint_model.specs.OnFlows.{flow_entry, flow_called}
 use Rattle.endpoint_model.specs.FlowChunks.{acked}
 use Rattle.endpoint_model.specs.FlowTimes.{all_late}
-use Rattle.endpoint_laws.specs.Past.{Stamped, stamped, onto, facts_of, fact_and}
+use Rattle.endpoint_laws.specs.Past.{Past, stamped, onto, facts_of, fact_and}
 use Rattle.endpoint_model.specs.State.{State, full, Did, Does, nothing, fact_entries, with_startup, free_from}
 use Rattle.endpoint_model.specs.Sending.{sent_answer}
 use Rattle.endpoint_model.specs.Admission.{Admission, Rejected, Admitted, admission, sid_at, confirming}
@@ -298,7 +298,7 @@ draws_none (Some (Opened j)) l facts e = (e, refl)
 draws_none (Some (Confirmed peer near)) l facts e = (e, refl)
 draws_none (Some (Ended peer near why)) l facts e = (e, refl)
 
-pub nonces_none : (moment : ℕ) (entries : List Entry) (past : List Stamped) → drawn entries ≡ [] → nonces_of (facts_of (onto moment entries past)) ≡ nonces_of (facts_of past)
+pub nonces_none : (moment : ℕ) (entries : List Entry) (past : Past) → drawn entries ≡ [] → nonces_of (facts_of (onto moment entries past)) ≡ nonces_of (facts_of past)
 nonces_none moment [] past e = refl
 nonces_none moment (entry ∷ rest) past e =
     let both = draws_none (fact_in entry) (drawn rest) (facts_of past) e in
@@ -319,7 +319,7 @@ draws_one (Some (Opened j)) l facts nonce none e = inr (e, none)
 draws_one (Some (Confirmed peer near)) l facts nonce none e = inr (e, none)
 draws_one (Some (Ended peer near why)) l facts nonce none e = inr (e, none)
 
-pub nonces_once : (moment : ℕ) (entries : List Entry) (past : List Stamped) (nonce : List ℕ) → nonces_of (facts_of past) ≡ [] → drawn entries ≡ nonce ∷ [] → nonces_of (facts_of (onto moment entries past)) ≡ nonce ∷ []
+pub nonces_once : (moment : ℕ) (entries : List Entry) (past : Past) (nonce : List ℕ) → nonces_of (facts_of past) ≡ [] → drawn entries ≡ nonce ∷ [] → nonces_of (facts_of (onto moment entries past)) ≡ nonce ∷ []
 nonces_once moment [] past nonce none e = absurd (cc)
 nonces_once moment (entry ∷ rest) past nonce none e = elim (draws_one (fact_in entry) (drawn rest) (facts_of past) nonce none e) [
   | inl own ↦ nonces_none moment rest (stamped moment entry ∷ past) own.0 ∙ own.1

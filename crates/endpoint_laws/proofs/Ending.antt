@@ -29,7 +29,7 @@ use Rattle.startup.specs.Due.{repeat_signed, repeat_of, is_over, repeated}
 use Rattle.endpoint_model.specs.declared.row.Row.{Row}
 use Rattle.endpoint_model.specs.declared.entry.Entry.TheVariants.{Fact as FactEntry}
 use Rattle.endpoint_model.specs.Event.{Setup, Call, Cancel, own_of}
-use Rattle.endpoint_laws.specs.Past.{Stamped, stamped, is_close, facts_of, ids_in_use}
+use Rattle.endpoint_laws.specs.Past.{Past, stamped, is_close, facts_of, ids_in_use}
 use Rattle.endpoint_laws.specs.Lawful.{IsTick}
 use Rattle.endpoint_model.specs.State.{State, Did, fact_entries, with_startup}
 use Rattle.endpoint_model.specs.Effects.{cancelling, due_done}
@@ -80,7 +80,7 @@ pub ids_gone : {most : ℕ} (why : Why) (ids : List ℕ) (near : ℕ) (t : State
 ids_gone {most} why ids near t opens i = subst (λ (b : Bool). Ids most (if b then ids else without near ids) t) (sym opens) i
 
 -- the end of an attempt, for a cause that may end attempts
-module _ (setup : Setup) (past : List Stamped) (s : State) (tied : Tied setup past s) (near : ℕ) (a : AttemptState) (there : get s.startup.attempts near ≡ Some a) (why : Why) where
+module _ (setup : Setup) (past : Past) (s : State) (tied : Tied setup past s) (near : ℕ) (a : AttemptState) (there : get s.startup.attempts near ≡ Some a) (why : Why) where
   abbrev the_end : Fact
   the_end = Ended a.peer near why
 
@@ -89,7 +89,7 @@ module _ (setup : Setup) (past : List Stamped) (s : State) (tied : Tied setup pa
 
   pub end_tied : MayEnd why (Opening a.n near a.ni) → Tied setup (stamped s.moment (FactEntry the_end) ∷ past) left
   end_tied may =
-      let now : List Stamped = stamped s.moment (FactEntry the_end) ∷ past in
+      let now : Past = stamped s.moment (FactEntry the_end) ∷ past in
       let g = agrees_of setup past s tied in
       let is : held_with s.startup.ledger a.peer ≡ Some (Opening a.n near a.ni) = tied.sound.held near a there in
       let was = found_of_attempt s near a there in
@@ -185,7 +185,7 @@ module _ (setup : Setup) (call : Call) (is_tick : IsTick call) (s : State) where
       }
 
   -- a thing in a state that was reached without entries
-  from : (d : State → Did) (t : State) → t.moment ≡ s.moment → ((past : List Stamped) → Tied setup past s → Tied setup past t) → Keeps setup call t (d t) → Keeps setup call s (d t)
+  from : (d : State → Did) (t : State) → t.moment ≡ s.moment → ((past : Past) → Tied setup past s → Tied setup past t) → Keeps setup call t (d t) → Keeps setup call s (d t)
   from d t moment more keeps past tied =
       goes_then setup call past s (record { state = t; entries = [] }) d (record { meets = tt; tied = more past tied; moment = moment }) (keeps past (more past tied))
 

@@ -16,7 +16,7 @@ use Rattle.endpoint_model.specs.Views.{fact_in}
 use Rattle.endpoint_model.specs.declared.entry.Entry.{Entry}
 use Rattle.endpoint_model.specs.declared.entry.Entry.TheVariants.{Fact as FactEntry, Out}
 use Rattle.endpoint_model.specs.Event.{Setup, own_of, Call}
-use Rattle.endpoint_laws.specs.Past.{Stamped, stamped, facts_of, fact_and, onto, Closes}
+use Rattle.endpoint_laws.specs.Past.{Past, stamped, facts_of, fact_and, onto, Closes}
 use Rattle.endpoint_laws.specs.Lawful.{FactLine, IsCounted, EntriesLawful}
 use Rattle.endpoint_laws.specs.History.{HasOut, IsOut}
 use Rattle.endpoint_laws.specs.Laws.{IsCall}
@@ -31,7 +31,7 @@ use Rattle.endpoint_laws.proofs.Heard.{WasCarried, IsHeardBy, Hears, hears, size
 use Rattle.endpoint_laws.proofs.Counted.{count_more}
 
 -- How far an event has come: after these entries of its end, the facts of all ends are these, and they are told in these steps.
-pub record Far (setup : Setup) (call : Call) (start : List Fact) (base : List Step) (past : List Stamped) (so_far steps : List Step) : Type 0 where
+pub record Far (setup : Setup) (call : Call) (start : List Fact) (base : List Step) (past : Past) (so_far steps : List Step) : Type 0 where
   pub telling : Telling steps
   pub is : alone steps ≡ so_far
   pub stated : facts (view (own_of setup) steps) ≡ facts_of past
@@ -40,7 +40,7 @@ pub record Far (setup : Setup) (call : Call) (start : List Fact) (base : List St
   pub closing : ClosingTold (own_of setup) past steps
 
 -- the steps after the rest of the entries, in which their datagrams carry what was told
-pub record Reached (setup : Setup) (now : ℕ) (past : List Stamped) (entries : List Entry) (so_far steps : List Step) : Type 0 where
+pub record Reached (setup : Setup) (now : ℕ) (past : Past) (entries : List Entry) (so_far steps : List Step) : Type 0 where
   pub last : List Step
   pub telling : Telling last
   pub is : alone last ≡ stated_onto (own_of setup) entries so_far
@@ -48,7 +48,7 @@ pub record Reached (setup : Setup) (now : ℕ) (past : List Stamped) (entries : 
   pub outs : (sent : List ℕ) (context : Context) → HasOut sent context entries → Carried setup.secret sent context last
   pub closing : ClosingTold (own_of setup) (onto now entries past) last
 
-module _ (setup : Setup) (now : ℕ) (call : Call) (begin : List Stamped) (base : List Step) (is_call : IsCall call) (carried : WasCarried setup begin base call) where
+module _ (setup : Setup) (now : ℕ) (call : Call) (begin : Past) (base : List Step) (is_call : IsCall call) (carried : WasCarried setup begin base call) where
   abbrev own : List ℕ
   own = own_of setup
 
@@ -56,13 +56,13 @@ module _ (setup : Setup) (now : ℕ) (call : Call) (begin : List Stamped) (base 
   start = facts_of begin
 
   -- what an entry leaves
-  record Next (fact : Fact) (past : List Stamped) (so_far steps : List Step) : Type 0 where
+  record Next (fact : Fact) (past : Past) (so_far steps : List Step) : Type 0 where
     next : List Step
     far : Far setup call start base (stamped now (FactEntry fact) ∷ past) (step own (Did fact no_generation) ∷ so_far) next
     more : (t : Tell) → WasSent t steps → WasSent t next
 
   -- a fact that has heard in these steps what it asks for
-  fact_grows : (fact : Fact) (past : List Stamped) (so_far steps : List Step) → Far setup call start base past so_far steps → Stands own (count (facts_of past)) (facts_of past) fact → IsCounted fact → FactSizes fact →
+  fact_grows : (fact : Fact) (past : Past) (so_far steps : List Step) → Far setup call start base past so_far steps → Stands own (count (facts_of past)) (facts_of past) fact → IsCounted fact → FactSizes fact →
       IsHeardBy own (view own steps) fact → AllDifferent (with_nonce (Did fact no_generation) (nonces so_far)) → Grown own fact steps
   fact_grows fact past so_far steps far stands fits sizes heard new =
       let same : facts_of past ≡ facts (view own steps) = sym far.stated in
@@ -76,7 +76,7 @@ module _ (setup : Setup) (now : ℕ) (call : Call) (begin : List Stamped) (base 
       sizes (subst (λ (fs : List Fact). count (fact ∷ fs) < 2 ^ 64) same (count_more own (facts_of past) fact few stands fits))
 
   -- what closes was held, and so told
-  closes_told : (past : List Stamped) (so_far steps : List Step) → Far setup call start base past so_far steps → (near : ℕ) (thing : Held) (fact : Fact) → Closes near thing (facts_of past) (Some fact) →
+  closes_told : (past : Past) (so_far steps : List Step) → Far setup call start base past so_far steps → (near : ℕ) (thing : Held) (fact : Fact) → Closes near thing (facts_of past) (Some fact) →
       (peer : List ℕ) × WasSent (tell_of own peer thing) steps
   closes_told past so_far steps far near thing (Started p n id ni) c = absurd c
   closes_told past so_far steps far near thing (Born j) c = absurd c
@@ -86,7 +86,7 @@ module _ (setup : Setup) (now : ℕ) (call : Call) (begin : List Stamped) (base 
       let is : holding own p steps ≡ Some thing = ap (held p) far.stated ∙ c.2 in
       (p, subst (λ (o : Option Held). SentFor own p steps o) is (far.telling.sent own p))
 
-  after_fact : (fact : Fact) (past : List Stamped) (rest : List Entry) (so_far steps older : List Step) → Far setup call start base past so_far steps → FactLine setup now call past rest fact →
+  after_fact : (fact : Fact) (past : Past) (rest : List Entry) (so_far steps older : List Step) → Far setup call start base past so_far steps → FactLine setup now call past rest fact →
       ((t : Tell) → WasSent t older → WasSent t steps) → Grown own fact steps → Next fact past so_far older
   after_fact fact past rest so_far steps older far line more g = record {
     next = g.next;
@@ -106,7 +106,7 @@ module _ (setup : Setup) (now : ℕ) (call : Call) (begin : List Stamped) (base 
     more = λ t w. g.grows t (more t w);
   }
 
-  fact_next : (fact : Fact) (past : List Stamped) (rest : List Entry) (so_far steps : List Step) → Far setup call start base past so_far steps → Stands own (count (facts_of past)) (facts_of past) fact →
+  fact_next : (fact : Fact) (past : Past) (rest : List Entry) (so_far steps : List Step) → Far setup call start base past so_far steps → Stands own (count (facts_of past)) (facts_of past) fact →
       FactLine setup now call past rest fact → IsCounted fact → AllDifferent (with_nonce (Did fact no_generation) (nonces so_far)) → Hears own steps fact → Next fact past so_far steps
   fact_next fact past rest so_far steps far stands line fits new (inl heard) =
       let few : count (facts_of past) < 2 ^ 64 = subst (λ (fs : List Fact). count fs < 2 ^ 64) far.stated (far.telling.few own) in
@@ -129,7 +129,7 @@ module _ (setup : Setup) (now : ℕ) (call : Call) (begin : List Stamped) (base 
       (fact_grows fact past so_far more far' stands fits sizes (subst (λ (log : List Item). IsHeardBy own log fact) (sym (view_same own (Told t) steps)) told.2) new)
 
   -- what is held at a moment was told, and has its sizes
-  was_told : (past : List Stamped) (so_far steps last : List Step) → Far setup call start base past so_far steps → ((t : Tell) → WasSent t steps → WasSent t last) → (peer : List ℕ) (h : Held) →
+  was_told : (past : Past) (so_far steps last : List Step) → Far setup call start base past so_far steps → ((t : Tell) → WasSent t steps → WasSent t last) → (peer : List ℕ) (h : Held) →
       held peer (facts_of past) ≡ Some h → WasTold own peer h last
   was_told past so_far steps last far more peer h e =
       let is : holding own peer steps ≡ Some h = ap (held peer) far.stated ∙ e in
@@ -137,7 +137,7 @@ module _ (setup : Setup) (now : ℕ) (call : Call) (begin : List Stamped) (base 
       let sent = subst (λ (o : Option Held). SentFor own peer steps o) is (far.telling.sent own peer) in
       record { sent = more (tell_of own peer h) sent; sizes = holds.1 }
 
-  beside : (entry : Entry) (past : List Stamped) (so_far steps : List Step) → fact_in entry ≡ None → Far setup call start base past so_far steps →
+  beside : (entry : Entry) (past : Past) (so_far steps : List Step) → fact_in entry ≡ None → Far setup call start base past so_far steps →
       Far setup call start base (stamped now entry ∷ past) so_far steps
   beside entry past so_far steps none far =
       let same : facts_of (stamped now entry ∷ past) ≡ facts_of past = ap (λ (o : Option Fact). fact_and o (facts_of past)) none in
@@ -155,15 +155,15 @@ module _ (setup : Setup) (now : ℕ) (call : Call) (begin : List Stamped) (base 
 
   -- ---- what the rest of the entries reach, after one entry
 
-  abbrev ReachedBy : List Entry → List Stamped → List Step → List Step → Type 0
+  abbrev ReachedBy : List Entry → Past → List Step → List Step → Type 0
   ReachedBy entries past so_far steps = Far setup call start base past so_far steps → EntriesLawful setup now call past entries → AllDifferent (nonces (stated_onto own entries so_far)) →
       Reached setup now past entries so_far steps
 
   -- whatever the past, the facts and the steps so far
   abbrev ReachesOn : List Entry → Type 0
-  ReachesOn entries = (past : List Stamped) (so_far steps : List Step) → ReachedBy entries past so_far steps
+  ReachesOn entries = (past : Past) (so_far steps : List Step) → ReachedBy entries past so_far steps
 
-  reached_fact : (fact : Fact) (rest : List Entry) → ReachesOn rest → (past : List Stamped) (so_far steps : List Step) → ReachedBy (FactEntry fact ∷ rest) past so_far steps
+  reached_fact : (fact : Fact) (rest : List Entry) → ReachesOn rest → (past : Past) (so_far steps : List Step) → ReachedBy (FactEntry fact ∷ rest) past so_far steps
   reached_fact fact rest later past so_far steps far lawful new =
       let line = lawful.0 in
       let heard = hears setup now begin past base steps far.telling far.stated far.grows call fact rest is_call carried far.came line.0 line.1 lawful.1 in
@@ -178,7 +178,7 @@ module _ (setup : Setup) (now : ℕ) (call : Call) (begin : List Stamped) (base 
         closing = r.closing;
       }
 
-  reached_out : (to : AddressParts) (datagram : List ℕ) (context : Context) (rest : List Entry) → ReachesOn rest → (past : List Stamped) (so_far steps : List Step) →
+  reached_out : (to : AddressParts) (datagram : List ℕ) (context : Context) (rest : List Entry) → ReachesOn rest → (past : Past) (so_far steps : List Step) →
       ReachedBy (Out to datagram context ∷ rest) past so_far steps
   reached_out to datagram context rest later past so_far steps far lawful new =
       let r = later (stamped now (Out to datagram context) ∷ past) so_far steps (beside (Out to datagram context) past so_far steps refl far) lawful.1 new in
@@ -195,7 +195,7 @@ module _ (setup : Setup) (now : ℕ) (call : Call) (begin : List Stamped) (base 
         closing = r.closing;
       }
 
-  reached_other : (entry : Entry) → IsOther entry → (rest : List Entry) → ReachesOn rest → (past : List Stamped) (so_far steps : List Step) → ReachedBy (entry ∷ rest) past so_far steps
+  reached_other : (entry : Entry) → IsOther entry → (rest : List Entry) → ReachesOn rest → (past : Past) (so_far steps : List Step) → ReachedBy (entry ∷ rest) past so_far steps
   reached_other entry other rest later past so_far steps far lawful new =
       let as_none : stated_on own (fact_in entry) so_far ≡ so_far = ap (λ (o : Option Fact). stated_on own o so_far) other.no_fact in
       let r = later (stamped now entry ∷ past) so_far steps (beside entry past so_far steps other.no_fact far) lawful.1

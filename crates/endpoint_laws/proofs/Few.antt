@@ -4,7 +4,7 @@ use Rattle.endpoint_model.specs.declared.entry.Entry.{Entry}
 use Rattle.endpoint_model.specs.State.{State, Did}
 use Rattle.endpoint_model.specs.Event.{Call, Answer}
 use Rattle.endpoint_model.specs.Log.{Answers}
-use Rattle.endpoint_laws.specs.Past.{Stamped, stamped, onto}
+use Rattle.endpoint_laws.specs.Past.{Past, stamped, onto}
 use Rattle.endpoint_laws.specs.Complete.{outs_in, outs_of}
 use Rattle.endpoint_laws.proofs.Small.{Quiet, Any, All, Begins, Enters}
 use Rattle.endpoint_laws.proofs.Made.{all_law, answers_made}
@@ -61,6 +61,6 @@ few_answers s t call answer entries h =
 
 -- ---- what was done so far
 
-pub onto_outs : (now : ℕ) (entries : List Entry) (past : List Stamped) → outs_of (onto now entries past) ≡ outs_in entries + outs_of past
+pub onto_outs : (now : ℕ) (entries : List Entry) (past : Past) → outs_of (onto now entries past) ≡ outs_in entries + outs_of past
 onto_outs now [] past = omega arith
 onto_outs now (x ∷ xs) past = omega (arith, onto_outs now xs (stamped now x ∷ past))

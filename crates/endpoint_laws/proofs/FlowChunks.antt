@@ -18,7 +18,7 @@ use Rattle.endpoint_model.specs.State.{State, nothing}
 use Rattle.endpoint_model.specs.Sending.{packet_head}
 use Rattle.endpoint_model.specs.OnFlows.{flow_entry, with_flows}
 use Rattle.endpoint_model.specs.FlowChunks.{flow_taken_by, flow_taken, acks_body, acked_by, unowed_by}
-use Rattle.endpoint_laws.specs.Past.{Stamped}
+use Rattle.endpoint_laws.specs.Past.{Past}
 use Rattle.endpoint_laws.proofs.Unseen.{flows_unseen}
 use Rattle.endpoint_laws.proofs.Tied.{Tied}
 use Rattle.endpoint_laws.proofs.Going.{Goes, Keeps, goes_nothing}
@@ -68,7 +68,7 @@ module _ (s : State) (near : ℕ) (chunk : DataChunk) where
   goes_by setup call None is = goes_nothing setup call s
   goes_by setup call (Some row) is = goes_unseen s near row (left row) is (like_after s.moment row.session row.flows chunk) (added row) (flows_unseen near (chunk_done row.flows chunk).stated) setup call
 
-  meets_by : (setup : Setup) (call : Call) (past : List Stamped) → Sent setup past s → (o : Option Row) → get s.sessions near ≡ o → Meets setup s.moment call past (flow_taken_by s near chunk o)
+  meets_by : (setup : Setup) (call : Call) (past : Past) → Sent setup past s → (o : Option Row) → get s.sessions near ≡ o → Meets setup s.moment call past (flow_taken_by s near chunk o)
   meets_by setup call past sent None is = meets_nothing setup s.moment call past s sent
   meets_by setup call past sent (Some row) is =
       meets_unseen s near row (left row) is (like_after s.moment row.session row.flows chunk) (added row) (flows_unseen near (chunk_done row.flows chunk).stated) setup call past sent
@@ -77,7 +77,7 @@ pub goes_flow_taken : (setup : Setup) (call : Call) (s : State) (near : ℕ) (re
 goes_flow_taken setup call s near (Ok chunk) = goes_by s near chunk setup call (get s.sessions near) refl
 goes_flow_taken setup call s near (Err fault) = goes_nothing setup call s
 
-pub meets_flow_taken : (setup : Setup) (call : Call) (past : List Stamped) (s : State) → Sent setup past s → (near : ℕ) (read : Result DataChunk DataFault) → Meets setup s.moment call past (flow_taken s near read)
+pub meets_flow_taken : (setup : Setup) (call : Call) (past : Past) (s : State) → Sent setup past s → (near : ℕ) (read : Result DataChunk DataFault) → Meets setup s.moment call past (flow_taken s near read)
 meets_flow_taken setup call past s sent near (Ok chunk) = meets_by s near chunk setup call past sent (get s.sessions near) refl
 meets_flow_taken setup call past s sent near (Err fault) = meets_nothing setup s.moment call past s sent
 
@@ -91,7 +91,7 @@ module _ (s : State) (near : ℕ) where
   abbrev paid_flows : Row → FlowsState
   paid_flows row = after_acks row.flows (packet_head row.session s.moment)
 
-  module _ (setup : Setup) (call : Call) (past : List Stamped) (tied : Tied setup past s) where
+  module _ (setup : Setup) (call : Call) (past : Past) (tied : Tied setup past s) where
     goes_these : (row : Row) (flows : FlowsState) → get s.sessions near ≡ Some row → Goes setup call past s (nothing (with_flows s near row flows))
     goes_these row flows is = goes_unseen s near row (with_these row flows) is (like_itself s.moment row.session) [] tt setup call past tied
 

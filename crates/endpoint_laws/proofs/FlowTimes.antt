@@ -1,5 +1,5 @@
 -- What time makes due of a session and of its flows: what is stated is lawful, each datagram that goes out meets its line, and the state agrees with both.
-use Rattle.std.proofs.Common.{◌≡◌, ℕ, List, [], ◌∷◌, Bool, true, false, if◌then◌else◌, Option, Some, None, inl, refl, ap}
+use Rattle.std.proofs.Common.{◌≡◌, ℕ, [], ◌∷◌, Bool, true, false, if◌then◌else◌, Option, Some, None, inl, refl, ap}
 use Rattle.std.specs.FinMap.{get}
 use Rattle.glare_core.specs.Calls.{where_true, first_that_stands}
 use Rattle.session_core.specs.declared.stage.SessionDue.{SessionDue}
@@ -14,7 +14,7 @@ use Rattle.endpoint_model.specs.declared.row_due.RowDue.TheVariants.{Session as 
 use Rattle.endpoint_model.specs.Event.{Setup, Call}
 use Rattle.endpoint_model.specs.State.{State, nothing, with_row}
 use Rattle.endpoint_model.specs.FlowTimes.{late_marked, end_due, abandon_due, row_due, data_packed, data_body, row_due_done}
-use Rattle.endpoint_laws.specs.Past.{Stamped}
+use Rattle.endpoint_laws.specs.Past.{Past}
 use Rattle.endpoint_laws.specs.Lawful.{IsTick}
 use Rattle.endpoint_laws.proofs.Tied.{Tied}
 use Rattle.endpoint_laws.proofs.Going.{Goes}
@@ -51,7 +51,7 @@ end_is None None true d due e = absurd (cc)
 end_is None None false true due e = absurd (cc)
 end_is None None false false due e = absurd (cc)
 
-module _ (setup : Setup) (call : Call) (is_tick : IsTick call) (past : List Stamped) (s : State) (tied : Tied setup past s) (near : ℕ) (row : Row) (there : get s.sessions near ≡ Some row)
+module _ (setup : Setup) (call : Call) (is_tick : IsTick call) (past : Past) (s : State) (tied : Tied setup past s) (near : ℕ) (row : Row) (there : get s.sessions near ≡ Some row)
     (known : IsKnown past s.moment near row.session) where
   -- the row whose flows went
   abbrev sent_row : Row

@@ -11,7 +11,7 @@ use Rattle.endpoint_model.specs.Views.{fact_in}
 use Rattle.endpoint_model.specs.declared.entry.Entry.{Entry}
 use Rattle.endpoint_model.specs.declared.entry.Entry.TheVariants.{Discard}
 use Rattle.endpoint_model.specs.Event.{Setup, Call}
-use Rattle.endpoint_laws.specs.Past.{Stamped, stamped, onto}
+use Rattle.endpoint_laws.specs.Past.{Past, stamped, onto}
 use Rattle.endpoint_laws.specs.Lawful.{FactLine, EndedLine, BornFollows}
 use Rattle.endpoint_model.specs.State.{State, Did, nothing, then_do}
 use Rattle.endpoint_model.specs.Effects.{discarded}
@@ -22,7 +22,7 @@ use Rattle.endpoint_laws.proofs.Moving.{IsAlike, alike_itself, tied_session, tie
 
 -- ---- entries one after another
 
-pub onto_append : (now : ℕ) (xs ys : List Entry) (past : List Stamped) → onto now (xs ++ ys) past ≡ onto now ys (onto now xs past)
+pub onto_append : (now : ℕ) (xs ys : List Entry) (past : Past) → onto now (xs ++ ys) past ≡ onto now ys (onto now xs past)
 onto_append now [] ys past = refl
 onto_append now (x ∷ xs) ys past = onto_append now xs ys (stamped now x ∷ past)
 
@@ -30,7 +30,7 @@ follows_more : (peer : List ℕ) (xs ys : List Entry) → BornFollows peer xs �
 follows_more peer [] ys f = absurd f
 follows_more peer (entry ∷ xs) ys f = f
 
-ended_more : (setup : Setup) (now : ℕ) (call : Call) (past : List Stamped) (xs ys : List Entry) (peer : List ℕ) (near : ℕ) (why : Why) → EndedLine setup now call past xs peer near why → EndedLine setup now call past (xs ++ ys) peer near why
+ended_more : (setup : Setup) (now : ℕ) (call : Call) (past : Past) (xs ys : List Entry) (peer : List ℕ) (near : ℕ) (why : Why) → EndedLine setup now call past xs peer near why → EndedLine setup now call past (xs ++ ys) peer near why
 ended_more setup now call past xs ys peer near Cancelled f = f
 ended_more setup now call past xs ys peer near Expired f = f
 ended_more setup now call past xs ys peer near Glare f = follows_more peer xs ys f
@@ -40,46 +40,46 @@ ended_more setup now call past xs ys peer near Near f = f
 ended_more setup now call past xs ys peer near Far f = f
 ended_more setup now call past xs ys peer near Idle f = f
 
-line_more : (setup : Setup) (now : ℕ) (call : Call) (past : List Stamped) (xs ys : List Entry) (fact : Fact) → FactLine setup now call past xs fact → FactLine setup now call past (xs ++ ys) fact
+line_more : (setup : Setup) (now : ℕ) (call : Call) (past : Past) (xs ys : List Entry) (fact : Fact) → FactLine setup now call past xs fact → FactLine setup now call past (xs ++ ys) fact
 line_more setup now call past xs ys (Started peer n near ni) f = f
 line_more setup now call past xs ys (Born j) f = f
 line_more setup now call past xs ys (Opened j) f = f
 line_more setup now call past xs ys (Confirmed peer near) f = f
 line_more setup now call past xs ys (Ended peer near why) f = ended_more setup now call past xs ys peer near why f
 
-fact_more : (setup : Setup) (now : ℕ) (call : Call) (past : List Stamped) (xs ys : List Entry) (o : Option Fact) → FactMeets setup now call past xs o → FactMeets setup now call past (xs ++ ys) o
+fact_more : (setup : Setup) (now : ℕ) (call : Call) (past : Past) (xs ys : List Entry) (o : Option Fact) → FactMeets setup now call past xs o → FactMeets setup now call past (xs ++ ys) o
 fact_more setup now call past xs ys None f = tt
 fact_more setup now call past xs ys (Some fact) f = (f.0, line_more setup now call past xs ys fact f.1)
 
-part_more : (setup : Setup) (now : ℕ) (call : Call) (past : List Stamped) (xs ys : List Entry) (entry : Entry) → FactPart setup now call past xs entry → FactPart setup now call past (xs ++ ys) entry
+part_more : (setup : Setup) (now : ℕ) (call : Call) (past : Past) (xs ys : List Entry) (entry : Entry) → FactPart setup now call past xs entry → FactPart setup now call past (xs ++ ys) entry
 part_more setup now call past xs ys entry f = (fact_more setup now call past xs ys (fact_in entry) f.0, f.1)
 
-pub meet_append : (setup : Setup) (now : ℕ) (call : Call) (past : List Stamped) (xs ys : List Entry) → EntriesMeet FactPart setup now call past xs →
+pub meet_append : (setup : Setup) (now : ℕ) (call : Call) (past : Past) (xs ys : List Entry) → EntriesMeet FactPart setup now call past xs →
     EntriesMeet FactPart setup now call (onto now xs past) ys → EntriesMeet FactPart setup now call past (xs ++ ys)
 meet_append setup now call past [] ys f g = g
 meet_append setup now call past (x ∷ xs) ys f g = (part_more setup now call past xs ys x f.0, meet_append setup now call (stamped now x ∷ past) xs ys f.1 g)
 
 -- ---- what a thing keeps
 
-pub record Goes (setup : Setup) (call : Call) (past : List Stamped) (s : State) (d : Did) : Type 0 where
+pub record Goes (setup : Setup) (call : Call) (past : Past) (s : State) (d : Did) : Type 0 where
   pub meets : EntriesMeet FactPart setup s.moment call past d.entries
   pub tied : Tied setup (onto s.moment d.entries past) d.state
   pub moment : d.state.moment ≡ s.moment
 
 -- what holds whatever the call is, and whatever was done
 abbrev pub Keeps : Setup → Call → State → Did → Type 0
-Keeps setup call s d = (past : List Stamped) → Tied setup past s → Goes setup call past s d
+Keeps setup call s d = (past : Past) → Tied setup past s → Goes setup call past s d
 
 pub goes_nothing : (setup : Setup) (call : Call) (s : State) → Keeps setup call s (nothing s)
 goes_nothing setup call s past t = record { meets = tt; tied = t; moment = refl }
 
-pub goes_then : (setup : Setup) (call : Call) (past : List Stamped) (s : State) (d : Did) (next : State → Did) → Goes setup call past s d →
+pub goes_then : (setup : Setup) (call : Call) (past : Past) (s : State) (d : Did) (next : State → Did) → Goes setup call past s d →
     Goes setup call (onto s.moment d.entries past) d.state (next d.state) → Goes setup call past s (then_do d next)
 goes_then setup call past s d next f g =
     let e : Did = next d.state in
     let P : ℕ → Type 0 = λ m. EntriesMeet FactPart setup m call (onto s.moment d.entries past) e.entries in
     let Q : ℕ → Type 0 = λ m. Tied setup (onto m e.entries (onto s.moment d.entries past)) e.state in
-    let R : List Stamped → Type 0 = λ p. Tied setup p e.state in
+    let R : Past → Type 0 = λ p. Tied setup p e.state in
     record {
       meets = meet_append setup s.moment call past d.entries e.entries f.meets (subst P f.moment g.meets);
       tied = subst R (sym (onto_append s.moment d.entries e.entries past)) (subst Q f.moment g.tied);

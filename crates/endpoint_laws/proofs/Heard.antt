@@ -27,7 +27,7 @@ use Rattle.endpoint_model.specs.declared.config.Draws.{Draws}
 use Rattle.endpoint_model.specs.declared.entry.Entry.{Entry}
 use Rattle.endpoint_model.specs.declared.entry.Entry.TheVariants.{Fact as FactEntry}
 use Rattle.endpoint_model.specs.Event.{Setup, own_of, Call, Open, Receive, OpenCall, ReceiveCall, open_in, receive_in}
-use Rattle.endpoint_laws.specs.Past.{Stamped, stamped, facts_of}
+use Rattle.endpoint_laws.specs.Past.{Past, stamped, facts_of}
 use Rattle.endpoint_laws.specs.Contexts.{session_context, inward, ContextOf, OpensUnder}
 use Rattle.endpoint_model.specs.Keying.{IsFirst, IsAmong, chunks_of}
 use Rattle.endpoint_laws.specs.Admissible.{Admissible, Offer}
@@ -39,12 +39,12 @@ use Rattle.endpoint_laws.proofs.Carried.{Carried, keying_carried, answer_carried
 use Rattle.endpoint_laws.proofs.Since.{Comes, CameIn, CameSince}
 
 -- The datagram of a call was sent in the context of its session ID, if it opens in it.
-abbrev pub CarriedIn : Setup → List Stamped → List Step → Option ReceiveCall → Type 0
+abbrev pub CarriedIn : Setup → Past → List Step → Option ReceiveCall → Type 0
 CarriedIn setup begin steps None = Unit {0}
 CarriedIn setup begin steps (Some r) = (context : Context) (plain : List ℕ) → ContextOf (own_of setup) begin (sid_of r.datagram) context →
     OpensUnder setup.secret context (sid_of r.datagram) r.datagram plain → Carried setup.secret r.datagram context steps
 
-abbrev pub WasCarried : Setup → List Stamped → List Step → Call → Type 0
+abbrev pub WasCarried : Setup → Past → List Step → Call → Type 0
 WasCarried setup begin steps call = CarriedIn setup begin steps (receive_in call)
 
 -- what the table and the cause Override ask to have been told
@@ -65,7 +65,7 @@ one_half_open o j k p q = let same : HalfOpen k ≡ HalfOpen j = cc in cc
 
 -- ---- the three tells
 
-pub keying_told : (setup : Setup) (begin past : List Stamped) (now : ℕ) (base : List Step) (from : AddressParts) (datagram : List ℕ) (draws : Draws) (offer : Offer) →
+pub keying_told : (setup : Setup) (begin past : Past) (now : ℕ) (base : List Step) (from : AddressParts) (datagram : List ℕ) (draws : Draws) (offer : Offer) →
     WasCarried setup begin base (Receive from datagram draws) → Admissible setup past now from datagram offer → WasSent (Keying offer.peer (own_of setup) offer.n offer.ni offer.far no_generation) base
 keying_told setup begin past now base from datagram draws offer carried a =
     let plain : List ℕ = a.reads.plain in
@@ -76,7 +76,7 @@ keying_told setup begin past now base from datagram draws offer carried a =
     (keying_carried setup.secret datagram base there (sid_of datagram) plain opens a.packet a.reads.reads a.chunk offer.far a.cookie a.cert offer.ni offer.n (own_of setup) a.sign
     (first_among a.chunk (chunks_of a.packet) a.first) a.spells a.nonce_size a.number)
 
-pub answer_told : (setup : Setup) (begin : List Stamped) (facts : List Fact) (base : List Step) (from : AddressParts) (datagram : List ℕ) (draws : Draws) (j : Joined) →
+pub answer_told : (setup : Setup) (begin : Past) (facts : List Fact) (base : List Step) (from : AddressParts) (datagram : List ℕ) (draws : Draws) (j : Joined) →
     WasCarried setup begin base (Receive from datagram draws) → IsCall (Receive from datagram draws) → held j.peer (facts_of begin) ≡ Some (Opening j.n j.near j.ni) → length j.peer ≡ 32 → length j.ni ≡ 16 →
     AnswersAttempt setup.secret j datagram → WasSent (Answer j.near j.peer j.far j.nr j.k j.ni no_generation) base
 answer_told setup begin facts base from datagram draws j carried is_call is_held peer_size ni_size a =
@@ -86,7 +86,7 @@ answer_told setup begin facts base from datagram draws j carried is_call is_held
     let there = carried Startup plain (inr (Opening j.n j.near j.ni, inl (record { peer = j.peer; is_held = is_held; id = sym id }), refl)) opens in
     answer_carried setup.secret datagram base there j.near plain a.reads.opens a.packet a.reads.reads a.chunk j.far j.nr j.k j.peer j.ni a.sign a.among a.spells is_call.0 peer_size ni_size a.number
 
-pub under_told : (setup : Setup) (begin : List Stamped) (base : List Step) (from : AddressParts) (datagram : List ℕ) (draws : Draws) (peer : List ℕ) (near : ℕ) (j : Joined) →
+pub under_told : (setup : Setup) (begin : Past) (base : List Step) (from : AddressParts) (datagram : List ℕ) (draws : Draws) (peer : List ℕ) (near : ℕ) (j : Joined) →
     WasCarried setup begin base (Receive from datagram draws) → Comes (sid_of datagram) (facts_of begin) peer (Some (HalfOpen j)) → near ≡ j.near →
     ((plain : List ℕ) × OpensUnder setup.secret (inward (own_of setup) (HalfOpen j)) near datagram plain) → WasSent (Under (as_responder (own_of setup) j) true no_generation) base
 under_told setup begin base from datagram draws peer near j carried (inl is_held) near_is by =
@@ -100,7 +100,7 @@ under_told setup begin base from datagram draws peer near j carried (inr born) n
 
 -- ---- a fact
 
-module _ (setup : Setup) (now : ℕ) (begin past : List Stamped) (base steps : List Step) (is : Telling steps) (stated : facts (view (own_of setup) steps) ≡ facts_of past)
+module _ (setup : Setup) (now : ℕ) (begin past : Past) (base steps : List Step) (is : Telling steps) (stated : facts (view (own_of setup) steps) ≡ facts_of past)
     (grows : (t : Tell) → WasSent t base → WasSent t steps) where
   abbrev own : List ℕ
   own = own_of setup
@@ -130,7 +130,7 @@ module _ (setup : Setup) (now : ℕ) (begin past : List Stamped) (base steps : L
       }
 
   -- the keying of which a session is born
-  bears : (call : Call) (before : List Stamped) (offer : Offer) (nr : List ℕ) → WasCarried setup begin base call → Bears setup before now call offer nr →
+  bears : (call : Call) (before : Past) (offer : Offer) (nr : List ℕ) → WasCarried setup begin base call → Bears setup before now call offer nr →
       WasSent (Keying offer.peer own offer.n offer.ni offer.far no_generation) steps
   bears call before offer nr carried by = in_receive (receive_in call) carried by
     where
@@ -142,7 +142,7 @@ module _ (setup : Setup) (now : ℕ) (begin past : List Stamped) (base steps : L
   offer_of : Joined → Offer
   offer_of j = record { peer = j.peer; n = j.n; ni = j.ni; far = j.far }
 
-  hears_born : (call : Call) (before : List Stamped) (j : Joined) → WasCarried setup begin base call → BornLine setup now call before j → Hears own steps (Born j)
+  hears_born : (call : Call) (before : Past) (j : Joined) → WasCarried setup begin base call → BornLine setup now call before j → Hears own steps (Born j)
   unfolding offer_of
   hears_born call before j carried line = inr (Keying j.peer own j.n j.ni j.far no_generation, bears call line.before (offer_of j) j.nr carried line.by, (inl refl, tt))
 
@@ -212,7 +212,7 @@ module _ (setup : Setup) (now : ℕ) (begin past : List Stamped) (base steps : L
 
 -- ---- the sizes of a fact
 
-born_sizes : (setup : Setup) (now : ℕ) (call : Call) (before : List Stamped) (j : Joined) → IsCall call → j.k < 2 ^ 64 → Bears setup before now call (record { peer = j.peer; n = j.n; ni = j.ni; far = j.far }) j.nr → BornSizes j
+born_sizes : (setup : Setup) (now : ℕ) (call : Call) (before : Past) (j : Joined) → IsCall call → j.k < 2 ^ 64 → Bears setup before now call (record { peer = j.peer; n = j.n; ni = j.ni; far = j.far }) j.nr → BornSizes j
 born_sizes setup now call before j is_call few by = in_receive (receive_in call) refl by
   where
     in_receive : (o : Option ReceiveCall) → receive_in call ≡ o → BearsIn setup before now o (record { peer = j.peer; n = j.n; ni = j.ni; far = j.far }) j.nr → BornSizes j
@@ -230,7 +230,7 @@ started_sizes call peer n ni is_call fits by = in_open (open_in call) refl by
         let sizes : IsCall (Open o.peer o.candidates o.draws) = subst IsCall (opens_alone call o e) is_call in
         (sym (ap length opens.0) ∙ sizes.0, ap length opens.1 ∙ sizes.1, fits)
 
-pub sizes_of : (setup : Setup) (now : ℕ) (call : Call) (past : List Stamped) (rest : List Entry) (fact : Fact) → IsCall call → count (facts_of past) < 2 ^ 64 →
+pub sizes_of : (setup : Setup) (now : ℕ) (call : Call) (past : Past) (rest : List Entry) (fact : Fact) → IsCall call → count (facts_of past) < 2 ^ 64 →
     Stands (own_of setup) (count (facts_of past)) (facts_of past) fact → FactLine setup now call past rest fact → IsCounted fact → FactSizes fact
 sizes_of setup now call past rest (Started peer n near ni) is_call few stands line fits = started_sizes call peer n ni is_call fits line.by
 sizes_of setup now call past rest (Born j) is_call few stands line fits = born_sizes setup now call line.before j is_call (subst (λ (k : ℕ). k < 2 ^ 64) (sym stands.counted) few) line.by

@@ -30,7 +30,7 @@ use Rattle.endpoint_model.specs.Event.{Event}
 use Rattle.endpoint_model.specs.State.{Sessions, State, at_moment, with_session}
 use Rattle.endpoint_model.specs.Admission.{packet_in, place_of, heard_by, heard_in, opened_at, placed, opened_found, counted_by, timed_by, mode_by, peers_mode, has_mode, Admission, Rejected, Admitted, admitted_packet, admitted, admission}
 use Rattle.endpoint_model.proofs.Reading.{packet_reads}
-use Rattle.endpoint_laws.specs.Past.{Stamped, OfEvent, begun}
+use Rattle.endpoint_laws.specs.Past.{Past, OfEvent, begun}
 use Rattle.endpoint_laws.specs.Contexts.{OpensUnder}
 use Rattle.endpoint_laws.specs.Taken.{Taken, datagram_in, taken_and, taken_since, PassesIn}
 use Rattle.endpoint_laws.proofs.Bytes.{plain_is}
@@ -64,14 +64,14 @@ mode_is FromStartup FromInitiator e = absurd (cc)
 mode_is FromStartup FromResponder e = absurd (cc)
 mode_is FromStartup FromStartup e = refl
 
-module _ (past : List Stamped) (s : State) (e : Event) (datagram : List ℕ) (are : IsBytes datagram) (is : datagram_in (OfEvent e) ≡ Some datagram) (named : AreNamed s) (well : HeardWell past s) where
+module _ (past : Past) (s : State) (e : Event) (datagram : List ℕ) (are : IsBytes datagram) (is : datagram_in (OfEvent e) ≡ Some datagram) (named : AreNamed s) (well : HeardWell past s) where
   abbrev now : ℕ
   now = max s.moment e.moment
 
   abbrev t : State
   t = at_moment s e.moment
 
-  abbrev more : List Stamped
+  abbrev more : Past
   more = begun now e ∷ past
 
   abbrev this : Taken

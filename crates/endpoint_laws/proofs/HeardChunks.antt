@@ -14,7 +14,7 @@ use Rattle.glare_core.specs.declared.facts.Joined.{Joined}
 use Rattle.session_core.specs.declared.stage.Role.{Role}
 use Rattle.endpoint_model.specs.declared.row.Row.{Row}
 use Rattle.session_core.specs.Session.{SessionState, first_stage, is_opening, new_session}
-use Rattle.endpoint_laws.specs.Past.{Stamped, onto, stamped}
+use Rattle.endpoint_laws.specs.Past.{Past, onto, stamped}
 use Rattle.glare_core.specs.declared.facts.Why.{Why}
 use Rattle.endpoint_laws.specs.Taken.{begins, taken_since}
 use Rattle.rtmfp_base.proofs.Maps.{found_inserted, found_left}
@@ -52,7 +52,7 @@ nothing_taken near session first = record {
   times = λ moment none. absurd none;
 }
 
-known_begun : (past : List Stamped) (now : ℕ) (role : Role) (j : Joined) (own secret : List ℕ) (from : AddressParts) →
+known_begun : (past : Past) (now : ℕ) (role : Role) (j : Joined) (own secret : List ℕ) (from : AddressParts) →
     IsKnown (stamped now (FactEntry (first_fact role j)) ∷ past) now j.near (new_session j own role from secret now)
 known_begun past now role j own secret from =
     let session : SessionState = new_session j own role from secret now in
@@ -63,10 +63,10 @@ known_begun past now role j own secret from =
       not_later = omega arith;
     }
 
-are_begun : (past : List Stamped) (now : ℕ) (sessions : Sessions) (role : Role) (j : Joined) (own secret : List ℕ) (from : AddressParts) → AreKnown past now sessions →
+are_begun : (past : Past) (now : ℕ) (sessions : Sessions) (role : Role) (j : Joined) (own secret : List ℕ) (from : AddressParts) → AreKnown past now sessions →
     AreKnown (stamped now (FactEntry (first_fact role j)) ∷ past) now (insert sessions j.near (new_row (new_session j own role from secret now)))
 are_begun past now sessions role j own secret from h q row e =
-    let more : List Stamped = stamped now (FactEntry (first_fact role j)) ∷ past in
+    let more : Past = stamped now (FactEntry (first_fact role j)) ∷ past in
     elim (found_inserted sessions j.near (new_row (new_session j own role from secret now)) q row e) [
       | inl here ↦ subst (λ (r : Row). IsKnown more now q r.session) here.1 (subst (λ (k : ℕ). IsKnown more now k (new_session j own role from secret now)) (sym here.0) (known_begun past now role j own secret from))
       | inr beside ↦
@@ -75,12 +75,12 @@ are_begun past now sessions role j own secret from h q row e =
 
 -- and another makes way for it
 
-are_left : (past : List Stamped) (now : ℕ) (sessions : Sessions) (peer : List ℕ) (near : ℕ) (why : Why) → AreKnown past now sessions →
+are_left : (past : Past) (now : ℕ) (sessions : Sessions) (peer : List ℕ) (near : ℕ) (why : Why) → AreKnown past now sessions →
     AreKnown (stamped now (FactEntry (Ended peer near why)) ∷ past) now (remove sessions near)
 are_left past now sessions peer near why h q row e =
     known_more past (stamped now (FactEntry (Ended peer near why)) ∷ past) now now q row.session (h q row (found_left sessions near q row e).1) refl (λ done w. inr w) (omega arith)
 
-made_way : (past : List Stamped) (now : ℕ) (sessions : Sessions) (peer : List ℕ) (o : Option Held) → AreKnown past now sessions →
+made_way : (past : Past) (now : ℕ) (sessions : Sessions) (peer : List ℕ) (o : Option Held) → AreKnown past now sessions →
     AreKnown (onto now (fact_entries (way_made peer o)) past) now (without_ended sessions (way_made peer o))
 made_way past now sessions peer None h = h
 made_way past now sessions peer (Some (Opening n near ni)) h = are_left past now sessions peer near Glare h
@@ -93,7 +93,7 @@ heard_birth s peer o j from = λ past h.
     let ended : List Entry = fact_entries (way_made peer o) in
     let d : Did = birth s (way_made peer o) j from in
     record {
-      well = subst (λ (p : List Stamped). AreKnown p s.moment d.state.sessions) (sym (onto_append s.moment ended (FactEntry (Born j) ∷ []) past))
+      well = subst (λ (p : Past). AreKnown p s.moment d.state.sessions) (sym (onto_append s.moment ended (FactEntry (Born j) ∷ []) past))
           (are_begun (onto s.moment ended past) s.moment (without_ended s.sessions (way_made peer o)) Responder j s.startup.ledger.own s.startup.secret from (made_way past s.moment s.sessions peer o h));
       moment = refl;
     }

@@ -8,7 +8,7 @@ use Rattle.endpoint_model.specs.declared.row.Row.{Row}
 use Rattle.endpoint_model.specs.Event.{Setup, ReceiveCall, receive_in, Event}
 use Rattle.endpoint_model.specs.State.{State, fresh, at_moment, is_used}
 use Rattle.endpoint_model.specs.Admission.{Admission, Rejected, Admitted}
-use Rattle.endpoint_laws.specs.Past.{Stamped, OfEvent, begun}
+use Rattle.endpoint_laws.specs.Past.{Past, OfEvent, begun}
 use Rattle.endpoint_laws.specs.Taken.{was_gone_through, datagram_of, datagram_in, taken_and, taken_since}
 use Rattle.endpoint_laws.proofs.Hearing.{HeardWell, known_more}
 use Rattle.endpoint_laws.proofs.Passing.{PassedAt}
@@ -36,7 +36,7 @@ gone_through_is e r call is = ap (λ (b : Bool). if b then datagram_of (receive_
 -- ---- an event begins
 
 -- one whose datagram doesn't count
-pub heard_begun : (past : List Stamped) (s : State) (e : Event) → datagram_in (OfEvent e) ≡ None → HeardWell past s → HeardWell (begun (max s.moment e.moment) e ∷ past) (at_moment s e.moment)
+pub heard_begun : (past : Past) (s : State) (e : Event) → datagram_in (OfEvent e) ≡ None → HeardWell past s → HeardWell (begun (max s.moment e.moment) e ∷ past) (at_moment s e.moment)
 heard_begun past s e none h near row there =
     let now : ℕ = max s.moment e.moment in
     known_more past (begun now e ∷ past) s.moment now near row.session (h near row there) (ap (λ (o : Option (List ℕ)). taken_and now o (taken_since near past)) none) (λ done w. inr w) (omega arith)
@@ -71,10 +71,10 @@ are_named s named apart zero near row there = record {
 }
 
 -- what the admission leaves is known well, and a datagram that is taken in a session passes
-pub record IsWell (more : List Stamped) (now : ℕ) (u : State) : Type 0 where
+pub record IsWell (more : Past) (now : ℕ) (u : State) : Type 0 where
   pub well : HeardWell more u
   pub moment : u.moment ≡ now
 
-abbrev pub AdmissionHeard : List Stamped → ℕ → List ℕ → Admission → Type 0
+abbrev pub AdmissionHeard : Past → ℕ → List ℕ → Admission → Type 0
 AdmissionHeard more now datagram (Rejected u cause) = IsWell more now u
 AdmissionHeard more now datagram (Admitted u place packet) = IsWell more now u × PassedAt more place datagram packet u

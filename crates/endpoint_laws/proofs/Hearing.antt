@@ -17,7 +17,7 @@ use Rattle.endpoint_model.specs.declared.entry.Entry.TheVariants.{Fact as FactEn
 use Rattle.endpoint_model.specs.Views.{fact_in}
 use Rattle.endpoint_model.specs.State.{Sessions, State, Did, nothing, then_do}
 use Rattle.endpoint_model.specs.Admission.{peers_mode}
-use Rattle.endpoint_laws.specs.Past.{Stamped, stamped, onto, WasDone}
+use Rattle.endpoint_laws.specs.Past.{Stamped, stamped, onto, WasDone, Past}
 use Rattle.endpoint_laws.specs.Taken.{Taken, begins, taken_since, IsNewAfter, TookIn}
 
 -- ---- what of a session lasts
@@ -54,25 +54,25 @@ first_fact Initiator j = Opened j
 first_fact Responder j = Born j
 
 -- It began before it took anything.
-pub record Began (past : List Stamped) (l : Lasting) : Type 0 where
+pub record Began (past : Past) (l : Lasting) : Type 0 where
   pub first : ℕ
   pub done : WasDone (stamped first (FactEntry (first_fact l.role l.joined))) past
   pub early : first ≤ l.taken
 
 -- A session that is half-open was born here, at the moment that it keeps.
-abbrev pub BornSince : List Stamped → SessionState → Type 0
+abbrev pub BornSince : Past → SessionState → Type 0
 BornSince past session = (session.role ≡ Responder) × WasDone (stamped session.since (FactEntry (Born session.joined))) past
 
-pub record IsKnown (past : List Stamped) (now near : ℕ) (session : SessionState) : Type 0 where
+pub record IsKnown (past : Past) (now near : ℕ) (session : SessionState) : Type 0 where
   pub counts : Counts (taken_since near past) near (lasting session)
   pub began : Began past (lasting session)
   pub half_open : is_opening session.stage ≡ true → BornSince past session
   pub not_later : session.taken ≤ now
 
-abbrev pub AreKnown : List Stamped → ℕ → Sessions → Type 0
+abbrev pub AreKnown : Past → ℕ → Sessions → Type 0
 AreKnown past now sessions = (near : ℕ) (row : Row) → get sessions near ≡ Some row → IsKnown past now near row.session
 
-abbrev pub HeardWell : List Stamped → State → Type 0
+abbrev pub HeardWell : Past → State → Type 0
 HeardWell past s = AreKnown past s.moment s.sessions
 
 -- ---- entries that begin no session
@@ -89,19 +89,19 @@ none_append [] ys p q = q
 none_append (x ∷ xs) ys p q = (p.0, none_append xs ys p.1 q)
 
 -- what was taken since a session began stays, where it isn't begun anew
-pub since_entry : (near now : ℕ) (entry : Entry) (past : List Stamped) → begins near (fact_in entry) ≡ false → taken_since near (stamped now entry ∷ past) ≡ taken_since near past
+pub since_entry : (near now : ℕ) (entry : Entry) (past : Past) → begins near (fact_in entry) ≡ false → taken_since near (stamped now entry ∷ past) ≡ taken_since near past
 since_entry near now entry past e = ap (λ (b : Bool). if b then [] else taken_since near past) e
 
-pub since_onto : (near now : ℕ) (entries : List Entry) (past : List Stamped) → NoneBegin entries → taken_since near (onto now entries past) ≡ taken_since near past
+pub since_onto : (near now : ℕ) (entries : List Entry) (past : Past) → NoneBegin entries → taken_since near (onto now entries past) ≡ taken_since near past
 since_onto near now [] past none = refl
 since_onto near now (x ∷ xs) past none = since_onto near now xs (stamped now x ∷ past) none.1 ∙ since_entry near now x past (none.0 near)
 
-pub done_onto : (now : ℕ) (entries : List Entry) (past : List Stamped) (done : Stamped) → WasDone done past → WasDone done (onto now entries past)
+pub done_onto : (now : ℕ) (entries : List Entry) (past : Past) (done : Stamped) → WasDone done past → WasDone done (onto now entries past)
 done_onto now [] past done w = w
 done_onto now (x ∷ xs) past done w = done_onto now xs (stamped now x ∷ past) done (inr w)
 
 -- what is known stays known, where more was done that doesn't begin the session
-pub known_more : (past more : List Stamped) (now later near : ℕ) (session : SessionState) → IsKnown past now near session → taken_since near more ≡ taken_since near past →
+pub known_more : (past more : Past) (now later near : ℕ) (session : SessionState) → IsKnown past now near session → taken_since near more ≡ taken_since near past →
     ((done : Stamped) → WasDone done past → WasDone done more) → now ≤ later → IsKnown more later near session
 known_more past more now later near session k same done up = record {
   counts = subst (λ taken. Counts taken near (lasting session)) (sym same) k.counts;
@@ -110,7 +110,7 @@ known_more past more now later near session k same done up = record {
   not_later = omega (arith, k.not_later, up);
 }
 
-pub known_onto : (past : List Stamped) (now near : ℕ) (session : SessionState) (entries : List Entry) → NoneBegin entries → IsKnown past now near session → IsKnown (onto now entries past) now near session
+pub known_onto : (past : Past) (now near : ℕ) (session : SessionState) (entries : List Entry) → NoneBegin entries → IsKnown past now near session → IsKnown (onto now entries past) now near session
 known_onto past now near session entries none k =
     known_more past (onto now entries past) now now near session k (since_onto near now entries past none) (λ done w. done_onto now entries past done w) (omega arith)
 
@@ -129,7 +129,7 @@ descends_then a b c p q = record {
   opening = λ e. let one = q.opening e in let two = p.opening one.0 in (two.0, one.1 ∙ two.1);
 }
 
-pub known_descends : (past : List Stamped) (now near : ℕ) (old new : SessionState) → Descends old new → IsKnown past now near old → IsKnown past now near new
+pub known_descends : (past : Past) (now near : ℕ) (old new : SessionState) → Descends old new → IsKnown past now near old → IsKnown past now near new
 known_descends past now near old new d k =
     let back : lasting old ≡ lasting new = sym d.same in
     record {
@@ -147,22 +147,22 @@ known_descends past now near old new d k =
 -- ---- one thing more
 
 -- What a thing does keeps what is known of the sessions.
-pub record Heard (past : List Stamped) (s : State) (d : Did) : Type 0 where
+pub record Heard (past : Past) (s : State) (d : Did) : Type 0 where
   pub well : HeardWell (onto s.moment d.entries past) d.state
   pub moment : d.state.moment ≡ s.moment
 
 abbrev pub KeepsHeard : State → Did → Type 0
-KeepsHeard s d = (past : List Stamped) → HeardWell past s → Heard past s d
+KeepsHeard s d = (past : Past) → HeardWell past s → Heard past s d
 
-pub onto_append : (now : ℕ) (xs ys : List Entry) (past : List Stamped) → onto now (xs ++ ys) past ≡ onto now ys (onto now xs past)
+pub onto_append : (now : ℕ) (xs ys : List Entry) (past : Past) → onto now (xs ++ ys) past ≡ onto now ys (onto now xs past)
 onto_append now [] ys past = refl
 onto_append now (x ∷ xs) ys past = onto_append now xs ys (stamped now x ∷ past)
 
-pub heard_then : (past : List Stamped) (s : State) (d : Did) (next : State → Did) → Heard past s d → Heard (onto s.moment d.entries past) d.state (next d.state) → Heard past s (then_do d next)
+pub heard_then : (past : Past) (s : State) (d : Did) (next : State → Did) → Heard past s d → Heard (onto s.moment d.entries past) d.state (next d.state) → Heard past s (then_do d next)
 heard_then past s d next f g =
     let e : Did = next d.state in
     let P : ℕ → Type 0 = λ m. HeardWell (onto m e.entries (onto s.moment d.entries past)) e.state in
-    let Q : List Stamped → Type 0 = λ p. HeardWell p e.state in
+    let Q : Past → Type 0 = λ p. HeardWell p e.state in
     record {
       well = subst Q (sym (onto_append s.moment d.entries e.entries past)) (subst P f.moment g.well);
       moment = g.moment ∙ f.moment;
@@ -221,7 +221,7 @@ keeps_if s true d e f g = f
 keeps_if s false d e f g = g
 
 -- a change of the state that keeps the moment and the sessions comes before the thing
-pub heard_from : (past : List Stamped) (s t : State) (d : Did) → t.moment ≡ s.moment → Heard past t d → Heard past s d
+pub heard_from : (past : Past) (s t : State) (d : Did) → t.moment ≡ s.moment → Heard past t d → Heard past s d
 heard_from past s t d moment h = record {
   well = subst (λ (m : ℕ). HeardWell (onto m d.entries past) d.state) moment h.well;
   moment = h.moment ∙ moment;

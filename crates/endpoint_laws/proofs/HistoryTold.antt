@@ -5,7 +5,7 @@ use Rattle.glare_core.specs.Tells.{Tell}
 use Rattle.glare_core.specs.Steps.{Step, view, facts}
 use Rattle.glare_core.specs.Told.{WasSent, nonces, AllDifferent}
 use Rattle.endpoint_model.specs.Event.{Setup, own_of, Call, Event, moment_at, ReceiveCall, receive_in}
-use Rattle.endpoint_laws.specs.Past.{Stamped, facts_of, last_moment, past_of, begun, with_event}
+use Rattle.endpoint_laws.specs.Past.{Past, facts_of, last_moment, past_of, begun, with_event}
 use Rattle.endpoint_laws.specs.Lawful.{IsLawful}
 use Rattle.endpoint_laws.specs.Laws.{AreCalls}
 use Rattle.endpoint_laws.specs.History.{Happened, History, log_of, AreLawful, WasSent as WentOut, IsHonestCall, IsHonest, TakesPart, IsHonestReceive, past_at}
@@ -71,7 +71,7 @@ carried_grows secret sent context steps more c grows = record {
   closing = λ near thing at k. (let was = c.closing near thing at k in (was.0, grows (tell_of (own_of c.setup) was.0 thing) was.1));
 }
 
-was_carried : (setup : Setup) (begin : List Stamped) (earlier : History) (steps : List Step) (call : Call) → IsHonestCall setup begin earlier call →
+was_carried : (setup : Setup) (begin : Past) (earlier : History) (steps : List Step) (call : Call) → IsHonestCall setup begin earlier call →
     ((sent : List ℕ) (context : Context) → WentOut sent context earlier → Carried setup.secret sent context steps) → WasCarried setup begin steps call
 was_carried setup begin earlier steps call honest outs = in_receive (receive_in call) honest
   where
@@ -96,7 +96,7 @@ closing_after ends h earlier steps last before grows here who = elim (tested h.w
   | inl d ↦
       subst (λ (w : ℕ). ClosingTold (own_of (ends w)) (past_of 0 [] (if h.who == w then log_of w earlier ++ h.event ∷ [] else log_of w earlier)) last) d.0
       (subst (λ (l : List Event). ClosingTold (own_of (ends h.who)) (past_of 0 [] l) last) (sym (log_here h earlier))
-      (subst (λ (p : List Stamped). ClosingTold (own_of (ends h.who)) p last) (sym (past_more 0 [] (log_of h.who earlier) h.event)) here))
+      (subst (λ (p : Past). ClosingTold (own_of (ends h.who)) p last) (sym (past_more 0 [] (log_of h.who earlier) h.event)) here))
   | inr d ↦
       subst (λ (b : Bool). ClosingTold (own_of (ends who)) (past_of 0 [] (if b then log_of who earlier ++ h.event ∷ [] else log_of who earlier)) last) (sym d.1)
       (λ near thing at c. (let was = before who near thing at c in (was.0, grows (tell_of (own_of (ends who)) was.0 thing) was.1)))
@@ -108,7 +108,7 @@ history_told ends secret (h ∷ earlier) e honest new =
     let setup : Setup = ends h.who in
     let own : List ℕ = own_of setup in
     let log : List Event = log_of h.who earlier in
-    let past : List Stamped = past_of 0 [] log in
+    let past : Past = past_of 0 [] log in
     let before = history_told ends secret earlier (ends_before ends secret h earlier e) honest.1 (different_before own h.event.entries (stated ends earlier) new) in
     let group : setup.secret ≡ secret = e.group h.who (inl refl) in
     let is_call = (calls_more log h.event (subst AreCalls (log_here h earlier) (e.calls h.who))).here in
@@ -118,7 +118,7 @@ history_told ends secret (h ∷ earlier) e honest new =
     (λ sent context out. subst (λ (s : List ℕ). Carried s sent context before.steps) (sym group) (before.outs sent context out)) in
     let view_is : facts (view own before.steps) ≡ facts_of past =
     sym (facts_alone own before.steps) ∙ ap (λ (r : List Step). facts (view own r)) before.is ∙ view_stated ends h.who earlier (λ a part same. e.prints a h.who (inr part) (inl refl) same) in
-    let start : List Stamped = begun (moment_at (last_moment 0 log) h.event) h.event ∷ past in
+    let start : Past = begun (moment_at (last_moment 0 log) h.event) h.event ∷ past in
     let far : Far setup h.event.call (facts_of past) before.steps start (stated ends earlier) before.steps =
     record { telling = before.telling; is = before.is; stated = view_is; came = came_first h.event.call (facts_of past); grows = λ t w. w; closing = λ near thing at c. elim c [ inl b ↦ absurd b.0 | inr p ↦ before.closing h.who near thing at p.1 ] } in
     let r = reached setup (moment_at (last_moment 0 log) h.event) h.event.call past before.steps is_call carried h.event.entries start (stated ends earlier) before.steps far lawful new in

@@ -27,7 +27,7 @@ use Rattle.endpoint_model.specs.Event.{Setup, own_of, Call}
 use Rattle.endpoint_model.specs.State.{State, Did, nothing, then_do, fact_entries, is_used, with_startup, with_row, with_session, without_row}
 use Rattle.endpoint_model.specs.InSessions.{sent_home, ended_as, dropped, closed}
 use Rattle.endpoint_model.proofs.Members.{tested, without}
-use Rattle.endpoint_laws.specs.Past.{Stamped, stamped, onto, facts_of, is_close, ids_in_use}
+use Rattle.endpoint_laws.specs.Past.{Past, stamped, onto, facts_of, is_close, ids_in_use}
 use Rattle.endpoint_laws.specs.OfTheLog.{WasThing}
 use Rattle.endpoint_laws.specs.Lawful.{EndedLine, ClosedLine}
 use Rattle.endpoint_laws.proofs.Matching.{of_peer, Ids, ids_same, ids_less}
@@ -86,7 +86,7 @@ pub record IsLeft (moment : ℕ) (old left : SessionState) : Type 0 where
 
 -- ---- the end of a session that is held
 
-module _ (setup : Setup) (call : Call) (past : List Stamped) (s : State) (tied : Tied setup past s) (near : ℕ) (row : Row) (there : get s.sessions near ≡ Some row) (held_now : is_held row.session.stage ≡ true) (why : Why) where
+module _ (setup : Setup) (call : Call) (past : Past) (s : State) (tied : Tied setup past s) (near : ℕ) (row : Row) (there : get s.sessions near ≡ Some row) (held_now : is_held row.session.stage ≡ true) (why : Why) where
   abbrev j : Joined
   j = row.session.joined
 
@@ -105,7 +105,7 @@ module _ (setup : Setup) (call : Call) (past : List Stamped) (s : State) (tied :
   abbrev fact : Fact
   fact = Ended j.peer (near_of thing) why
 
-  abbrev now : List Stamped
+  abbrev now : Past
   now = stamped s.moment (FactEntry fact) ∷ past
 
   -- by what is held
@@ -204,8 +204,8 @@ module _ (setup : Setup) (call : Call) (past : List Stamped) (s : State) (tied :
 
 -- ---- the end of a closing
 
-module _ (setup : Setup) (call : Call) (past : List Stamped) (s : State) (tied : Tied setup past s) (near : ℕ) (row : Row) (there : get s.sessions near ≡ Some row) (closing : is_held row.session.stage ≡ false) where
-  abbrev later : List Stamped
+module _ (setup : Setup) (call : Call) (past : Past) (s : State) (tied : Tied setup past s) (near : ℕ) (row : Row) (there : get s.sessions near ≡ Some row) (closing : is_held row.session.stage ≡ false) where
+  abbrev later : Past
   later = stamped s.moment (ClosedEntry near) ∷ past
 
   closed_tied : Tied setup later (without_row s near)
@@ -253,5 +253,5 @@ module _ (setup : Setup) (call : Call) where
     moment = refl;
   }
 
-  pub goes_and_home : (s : State) (near : ℕ) (body : List ℕ) (past : List Stamped) (d : Did) → Goes setup call past s d → Goes setup call past s (then_do d (λ t. sent_home t near body))
+  pub goes_and_home : (s : State) (near : ℕ) (body : List ℕ) (past : Past) (d : Did) → Goes setup call past s d → Goes setup call past s (then_do d (λ t. sent_home t near body))
   goes_and_home s near body past d goes = goes_then setup call past s d (λ t. sent_home t near body) goes (home_made (goes_sends setup call) d.state near body tt (onto s.moment d.entries past) goes.tied)

@@ -39,7 +39,7 @@ use Rattle.endpoint_model.specs.declared.row.Row.{Row}
 use Rattle.endpoint_model.specs.declared.config.Draws.{Draws}
 use Rattle.endpoint_model.specs.declared.entry.Entry.TheVariants.{Fact as FactEntry}
 use Rattle.endpoint_model.specs.Event.{Setup, Call, Receive, own_of}
-use Rattle.endpoint_laws.specs.Past.{Stamped, stamped, onto, is_close, facts_of}
+use Rattle.endpoint_laws.specs.Past.{Past, stamped, onto, is_close, facts_of}
 use Rattle.endpoint_model.specs.Keying.{IsAmong, IsFirst, chunks_of}
 use Rattle.endpoint_laws.specs.Admissible.{Admissible}
 use Rattle.endpoint_laws.specs.Lawful.{EndedLine}
@@ -77,7 +77,7 @@ for_born (HalfOpen j) = inr refl
 for_born (KeptAsResponder j) = inr refl
 for_born (KeptAsInitiator j) = inr refl
 
-end_line : (setup : Setup) (now : ℕ) (call : Call) (past : List Stamped) (peer : List ℕ) (thing : Held) (j : Joined) → j.peer ≡ peer → EndedLine setup now call past (FactEntry (Born j) ∷ []) peer (near_of thing) (why_of thing)
+end_line : (setup : Setup) (now : ℕ) (call : Call) (past : Past) (peer : List ℕ) (thing : Held) (j : Joined) → j.peer ≡ peer → EndedLine setup now call past (FactEntry (Born j) ∷ []) peer (near_of thing) (why_of thing)
 end_line setup now call past peer (Opening n near ni) j is = is
 end_line setup now call past peer (HalfOpen h) j is = is
 end_line setup now call past peer (KeptAsResponder h) j is = is
@@ -92,7 +92,7 @@ either_true : (a b : Bool) → b ≡ true → cond a true b ≡ true
 either_true true b e = refl
 either_true false b e = e
 
-module _ (setup : Setup) (from : AddressParts) (datagram : List ℕ) (draws : Draws) (most : setup.config.max_sessions ≤ 65536) (small : draws.word < 2 ^ 32) (past : List Stamped) (s : State) (tied : Tied setup past s) (keying : InitiatorKeying) where
+module _ (setup : Setup) (from : AddressParts) (datagram : List ℕ) (draws : Draws) (most : setup.config.max_sessions ≤ 65536) (small : draws.word < 2 ^ 32) (past : Past) (s : State) (tied : Tied setup past s) (keying : InitiatorKeying) where
   abbrev call : Call
   call = Receive from datagram draws
 
@@ -184,7 +184,7 @@ module _ (setup : Setup) (from : AddressParts) (datagram : List ℕ) (draws : Dr
     way_goes admitted is gave =
         let t : State = after_way.state in
         let m : State = without_thing s ended thing in
-        let middle : List Stamped = stamped s.moment (FactEntry ended) ∷ past in
+        let middle : Past = stamped s.moment (FactEntry ended) ∷ past in
         let g = agrees_of setup past s tied in
         let way = without_thing_is setup past s ended k.peer thing g is in
         let given : IsGiven setup m = record { config = g.given.config; cert = g.given.cert; secret = g.given.secret; cookie_secret = g.given.cookie_secret; own = g.given.own; max_peers = g.given.max_peers } in

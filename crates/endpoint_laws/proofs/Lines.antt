@@ -6,23 +6,23 @@ use Rattle.glare_core.specs.Stands.{Stands}
 use Rattle.endpoint_model.specs.declared.entry.Entry.{Entry}
 use Rattle.endpoint_model.specs.Views.{Sending, fact_in, out_in, closed_in}
 use Rattle.endpoint_model.specs.Event.{Setup, own_of, Call, Event, moment_at}
-use Rattle.endpoint_laws.specs.Past.{Stamped, begun, stamped, with_event, facts_of}
+use Rattle.endpoint_laws.specs.Past.{Past, begun, stamped, with_event, facts_of}
 use Rattle.endpoint_laws.specs.Lawful.{FactLine, IsCounted, OutLine, ClosedLine, LineOf, EntriesLawful, LawfulFrom}
 
 -- what is asked of an entry, by its event, the entries before it, and those after it in its event
 abbrev pub Part : Type 1
-Part = Setup → ℕ → Call → List Stamped → List Entry → Entry → Type 0
+Part = Setup → ℕ → Call → Past → List Entry → Entry → Type 0
 
 -- of a fact, where there is one
-abbrev pub FactMeets : Setup → ℕ → Call → List Stamped → List Entry → Option Fact → Type 0
+abbrev pub FactMeets : Setup → ℕ → Call → Past → List Entry → Option Fact → Type 0
 FactMeets setup now call past rest None = Unit {0}
 FactMeets setup now call past rest (Some fact) = Stands (own_of setup) (count (facts_of past)) (facts_of past) fact × FactLine setup now call past rest fact
 
-abbrev pub OutMeets : Setup → List Stamped → Option Sending → Type 0
+abbrev pub OutMeets : Setup → Past → Option Sending → Type 0
 OutMeets setup past None = Unit {0}
 OutMeets setup past (Some sent) = OutLine setup past sent.datagram sent.context
 
-abbrev pub ClosedMeets : Setup → ℕ → Call → List Stamped → Option ℕ → Type 0
+abbrev pub ClosedMeets : Setup → ℕ → Call → Past → Option ℕ → Type 0
 ClosedMeets setup now call past None = Unit {0}
 ClosedMeets setup now call past (Some near) = ClosedLine setup now call past near
 
@@ -40,31 +40,31 @@ OutPart setup now call past rest entry = OutMeets setup past (out_in entry)
 abbrev pub CountPart : Part
 CountPart setup now call past rest entry = CountMeets (fact_in entry)
 
-abbrev pub EntriesMeet : Part → Setup → ℕ → Call → List Stamped → List Entry → Type 0
+abbrev pub EntriesMeet : Part → Setup → ℕ → Call → Past → List Entry → Type 0
 EntriesMeet P setup now call past [] = Unit {0}
 EntriesMeet P setup now call past (entry ∷ rest) = P setup now call past rest entry × EntriesMeet P setup now call (stamped now entry ∷ past) rest
 
-abbrev pub EventsMeet : Part → Setup → ℕ → List Stamped → List Event → Type 0
+abbrev pub EventsMeet : Part → Setup → ℕ → Past → List Event → Type 0
 EventsMeet P setup last past [] = Unit {0}
 EventsMeet P setup last past (e ∷ events) =
     EntriesMeet P setup (moment_at last e) e.call (begun (moment_at last e) e ∷ past) e.entries × EventsMeet P setup (moment_at last e) (with_event (moment_at last e) e past) events
 
 -- these parts are the whole table
 
-line_of : (setup : Setup) (now : ℕ) (call : Call) (past : List Stamped) (rest : List Entry) (fact : Option Fact) (sent : Option Sending) (over : Option ℕ) → FactMeets setup now call past rest fact →
+line_of : (setup : Setup) (now : ℕ) (call : Call) (past : Past) (rest : List Entry) (fact : Option Fact) (sent : Option Sending) (over : Option ℕ) → FactMeets setup now call past rest fact →
     CountMeets fact → OutMeets setup past sent → ClosedMeets setup now call past over → LineOf setup now call past rest fact sent over
 line_of setup now call past rest (Some fact) sent over f n o c = (f.0, f.1, n)
 line_of setup now call past rest None (Some sent) over f n o c = o
 line_of setup now call past rest None None (Some near) f n o c = c
 line_of setup now call past rest None None None f n o c = tt
 
-entries_lawful : (setup : Setup) (now : ℕ) (call : Call) (past : List Stamped) (entries : List Entry) → EntriesMeet FactPart setup now call past entries →
+entries_lawful : (setup : Setup) (now : ℕ) (call : Call) (past : Past) (entries : List Entry) → EntriesMeet FactPart setup now call past entries →
     EntriesMeet CountPart setup now call past entries → EntriesMeet OutPart setup now call past entries → EntriesLawful setup now call past entries
 entries_lawful setup now call past [] f n o = tt
 entries_lawful setup now call past (entry ∷ rest) f n o =
     (line_of setup now call past rest (fact_in entry) (out_in entry) (closed_in entry) f.0.0 n.0 o.0 f.0.1, entries_lawful setup now call (stamped now entry ∷ past) rest f.1 n.1 o.1)
 
-pub events_lawful : (setup : Setup) (last : ℕ) (past : List Stamped) (events : List Event) → EventsMeet FactPart setup last past events →
+pub events_lawful : (setup : Setup) (last : ℕ) (past : Past) (events : List Event) → EventsMeet FactPart setup last past events →
     EventsMeet CountPart setup last past events → EventsMeet OutPart setup last past events → LawfulFrom setup last past events
 events_lawful setup last past [] f n o = tt
 events_lawful setup last past (e ∷ events) f n o =

@@ -21,7 +21,7 @@ use Rattle.endpoint_model.specs.Effects.{opening, cancelling, ticks, received}
 use Rattle.endpoint_model.specs.Log.{Answers, Leads, StandsFor, stopped}
 use Rattle.introducer.specs.Directory.{AddressRows}
 use Rattle.introducer.proofs.FewRows.{few_addresses}
-use Rattle.endpoint_laws.specs.Past.{Stamped, OfEvent, onto, facts_of, past_of, last_moment, begun}
+use Rattle.endpoint_laws.specs.Past.{Past, OfEvent, onto, facts_of, past_of, last_moment, begun}
 use Rattle.endpoint_laws.specs.Taken.{was_gone_through, datagram_in}
 use Rattle.endpoint_laws.specs.Complete.{outs_in, outs_of}
 use Rattle.endpoint_laws.specs.Laws.{IsSetup, IsCall, AreCalls, EveryLogIsLawful, TheLedgerIsOfTheLog, UsesAreWithin, RowsAreWithin}
@@ -61,19 +61,19 @@ few_inserted rows print addresses few all q list e = by _ (sym (get-insert nat_l
 -- ---- calls
 
 -- What a call did is an orderly thing.
-pub record CallDid (setup : Setup) (call : Call) (past : List Stamped) (s t : State) (entries : List Entry) : Type 0 where
+pub record CallDid (setup : Setup) (call : Call) (past : Past) (s t : State) (entries : List Entry) : Type 0 where
   pub did : Did
   pub orderly : Orderly setup call past s did
   pub does : Does did t [] entries
 
 -- What is known of the sessions when the call was made: of a datagram that is gone through, after its admission.
-abbrev pub KnownFor : List Stamped → State → Call → Answer → Type 0
+abbrev pub KnownFor : Past → State → Call → Answer → Type 0
 KnownFor past s (Receive from datagram draws) Done = AdmissionHeard past s.moment datagram (admission s datagram)
 KnownFor past s (Receive from datagram draws) (Stopped stop) = StopHeard datagram past s stop.taken (admission s datagram)
 KnownFor past s (Receive from datagram draws) answer = Unit {0}
 KnownFor past s call answer = HeardWell past s
 
-module _ (setup : Setup) (is : IsSetup setup) (past : List Stamped) (s t : State) (tied : Tied setup past s) (sent : Sent setup past s) where
+module _ (setup : Setup) (is : IsSetup setup) (past : Past) (s t : State) (tied : Tied setup past s) (sent : Sent setup past s) where
   pub answers_orderly : (call : Call) (answer : Answer) (entries : List Entry) → IsCall call → KnownFor past s call answer → Answers s call answer entries t → CallDid setup call past s t entries
   answers_orderly (Open peer candidates draws) (Began n) entries fits well h = record {
     did = opening s peer candidates draws;
@@ -138,21 +138,21 @@ module _ (setup : Setup) (is : IsSetup setup) (past : List Stamped) (s t : State
 -- ---- logs
 
 -- What holds of a state and of what was done: the state agrees with it, what went out is counted, and the numbers of attempts are of 64 bits.
-pub record Holds (setup : Setup) (past : List Stamped) (s : State) : Type 0 where
+pub record Holds (setup : Setup) (past : Past) (s : State) : Type 0 where
   pub tied : Tied setup past s
   pub sent : Sent setup past s
   pub counted : count (facts_of past) < 2 ^ 64
   pub well : HeardWell past s
 
 -- What holds when an event began, whose datagram may wait to be admitted.
-record Begun (setup : Setup) (past : List Stamped) (s : State) (call : Call) (answer : Answer) : Type 0 where
+record Begun (setup : Setup) (past : Past) (s : State) (call : Call) (answer : Answer) : Type 0 where
   tied : Tied setup past s
   sent : Sent setup past s
   counted : count (facts_of past) < 2 ^ 64
   known : KnownFor past s call answer
 
 -- what an event leaves, and its entries
-record Went (setup : Setup) (call : Call) (past : List Stamped) (s t : State) (entries : List Entry) : Type 0 where
+record Went (setup : Setup) (call : Call) (past : Past) (s t : State) (entries : List Entry) : Type 0 where
   facts : EntriesMeet FactPart setup s.moment call past entries
   outs : EntriesMeet OutPart setup s.moment call past entries
   counts : EntriesMeet CountPart setup s.moment call past entries
@@ -160,7 +160,7 @@ record Went (setup : Setup) (call : Call) (past : List Stamped) (s t : State) (e
   moment : t.moment ≡ s.moment
   few : t.sealed ≤ s.sealed + outs_in entries
 
-answers_went : (setup : Setup) → IsSetup setup → (past : List Stamped) (s t : State) (call : Call) (answer : Answer) (entries : List Entry) → Begun setup past s call answer → IsCall call → Answers s call answer entries t →
+answers_went : (setup : Setup) → IsSetup setup → (past : Past) (s t : State) (call : Call) (answer : Answer) (entries : List Entry) → Begun setup past s call answer → IsCall call → Answers s call answer entries t →
     Went setup call past s t entries
 answers_went setup is past s t call answer entries begun fits h =
     let o = answers_orderly setup is past s t begun.tied begun.sent call answer entries fits begun.known h in
@@ -184,11 +184,11 @@ answers_went setup is past s t call answer entries begun fits h =
     }
 
 -- the rows' session IDs
-named_by : (setup : Setup) (past : List Stamped) (s : State) → Tied setup past s → AreNamed s
+named_by : (setup : Setup) (past : Past) (s : State) → Tied setup past s → AreNamed s
 named_by setup past s tied = are_named s (λ near row e. (tied.sessions near row e).id) tied.apart (tied.used 0 ∙ tied.not_zero)
 
-module _ (setup : Setup) (past : List Stamped) (s : State) (e : Event) (holds : Holds setup past s) (fits : IsCall e.call) where
-  abbrev start : List Stamped
+module _ (setup : Setup) (past : Past) (s : State) (e : Event) (holds : Holds setup past s) (fits : IsCall e.call) where
+  abbrev start : Past
   start = begun (max s.moment e.moment) e ∷ past
 
   abbrev noted : State
@@ -239,7 +239,7 @@ module _ (setup : Setup) (past : List Stamped) (s : State) (e : Event) (holds : 
   }
 
 -- What is said of a log that leads from one state to another. It is the one induction over logs.
-pub record LogIs (setup : Setup) (past : List Stamped) (s : State) (log : List Event) (t : State) : Type 0 where
+pub record LogIs (setup : Setup) (past : Past) (s : State) (log : List Event) (t : State) : Type 0 where
   pub facts : EventsMeet FactPart setup s.moment past log
   pub outs : EventsMeet OutPart setup s.moment past log
   pub counts : EventsMeet CountPart setup s.moment past log
@@ -247,7 +247,7 @@ pub record LogIs (setup : Setup) (past : List Stamped) (s : State) (log : List E
   pub moment : t.moment ≡ last_moment s.moment log
   pub few : t.sealed + outs_of past ≤ s.sealed + outs_of (past_of s.moment past log)
 
-leads_go : (setup : Setup) → IsSetup setup → (past : List Stamped) (log : List Event) (s t : State) → AreCalls log → Holds setup past s → Leads s log t → LogIs setup past s log t
+leads_go : (setup : Setup) → IsSetup setup → (past : Past) (log : List Event) (s t : State) → AreCalls log → Holds setup past s → Leads s log t → LogIs setup past s log t
 leads_go setup is past [] s t calls holds leads = record {
   facts = tt;
   outs = tt;
@@ -259,8 +259,8 @@ leads_go setup is past [] s t calls holds leads = record {
 leads_go setup is past (e ∷ log) s t calls holds leads =
     let noted : State = at_moment s e.moment in
     let middle : State = leads.0 in
-    let start : List Stamped = begun noted.moment e ∷ past in
-    let after : List Stamped = onto noted.moment e.entries start in
+    let start : Past = begun noted.moment e ∷ past in
+    let after : Past = onto noted.moment e.entries start in
     let one : Went setup e.call start noted middle e.entries = answers_went setup is start noted middle e.call e.answer e.entries (holds_begun setup past s e holds calls.0) calls.0 leads.1 in
     let rest : LogIs setup after middle log t = leads_go setup is after log middle t calls.1 one.holds leads.2 in
     record {

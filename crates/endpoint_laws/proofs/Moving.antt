@@ -18,7 +18,7 @@ use Rattle.startup.proofs.Stepping.{held_after_own, held_after_other}
 use Rattle.endpoint_model.specs.declared.row.Row.{Row}
 use Rattle.endpoint_model.specs.declared.entry.Entry.TheVariants.{Fact as FactEntry, Closed}
 use Rattle.endpoint_model.specs.Event.{Setup}
-use Rattle.endpoint_laws.specs.Past.{Stamped, stamped, is_close, Closes, GoesOn, IsClosing, fact_done, fact_and, closed_done, facts_of, ids_in_use, ids_after, ids_left}
+use Rattle.endpoint_laws.specs.Past.{Stamped, stamped, is_close, Closes, GoesOn, IsClosing, fact_done, fact_and, closed_done, facts_of, ids_in_use, ids_after, ids_left, Past}
 use Rattle.endpoint_laws.specs.OfTheLog.{WasThing}
 use Rattle.endpoint_model.specs.State.{State, uses, is_used, with_row, with_startup}
 use Rattle.endpoint_laws.proofs.Matching.{Found, of_peer, Matches, changed_matches, Ids, ids_same}
@@ -103,7 +103,7 @@ closes_none near thing facts (Opened j) none c = c
 closes_none near thing facts (Confirmed peer id) none c = c
 closes_none near thing facts (Ended peer id why) none c = not_both (is_close why) c.1 none
 
-pub beside_fact : (near moment : ℕ) (past : List Stamped) (fact : Fact) → EndsAt near fact → GoesOnBeside near past (stamped moment (FactEntry fact) ∷ past)
+pub beside_fact : (near moment : ℕ) (past : Past) (fact : Fact) → EndsAt near fact → GoesOnBeside near past (stamped moment (FactEntry fact) ∷ past)
 beside_fact near moment past fact ends = record {
   done = λ x w. inr w;
   closing = λ q other thing at c. inr (tt, c);
@@ -113,18 +113,18 @@ beside_fact near moment past fact ends = record {
   ];
 }
 
-pub beside_closed : (near moment : ℕ) (past : List Stamped) → GoesOnBeside near past (stamped moment (Closed near) ∷ past)
+pub beside_closed : (near moment : ℕ) (past : Past) → GoesOnBeside near past (stamped moment (Closed near) ∷ past)
 beside_closed near moment past = record {
   done = λ x w. inr w;
   closing = λ q other thing at c. inr ((λ e. other (sym e)), c);
   back = λ q other thing at c. elim c [ inl b ↦ absurd b.0 | inr p ↦ p.1 ];
 }
 
-pub beside_same : (near : ℕ) (past : List Stamped) → GoesOnBeside near past past
+pub beside_same : (near : ℕ) (past : Past) → GoesOnBeside near past past
 beside_same near past = record { done = λ x w. w; closing = λ q other thing at c. c; back = λ q other thing at c. c }
 
 -- where something was held, nothing closes after a fact that closes nothing
-pub still_none : (setup : Setup) (past : List Stamped) (s : State) → Agrees setup past s → (near : ℕ) (p : List ℕ) (h : Held) → thing_at s near ≡ Some (p, h) → (moment : ℕ) (fact : Fact) → IsNoClose fact →
+pub still_none : (setup : Setup) (past : Past) (s : State) → Agrees setup past s → (near : ℕ) (p : List ℕ) (h : Held) → thing_at s near ≡ Some (p, h) → (moment : ℕ) (fact : Fact) → IsNoClose fact →
     (o : Option Row) → ClosesAt (stamped moment (FactEntry fact) ∷ past) near o
 still_none setup past s a near p h is moment fact still o thing at c = elim c [
   | inl b ↦ absurd (closes_none near thing (facts_of past) fact still b.0)
@@ -132,7 +132,7 @@ still_none setup past s a near p h is moment fact still o thing at c = elim c [
 ]
 
 -- nor where nothing stood
-pub none_there_still : (past : List Stamped) (near : ℕ) (before : Option Row) → ClosesAt past near before → before ≡ None → (moment : ℕ) (fact : Fact) → IsNoClose fact →
+pub none_there_still : (past : Past) (near : ℕ) (before : Option Row) → ClosesAt past near before → before ≡ None → (moment : ℕ) (fact : Fact) → IsNoClose fact →
     (o : Option Row) → ClosesAt (stamped moment (FactEntry fact) ∷ past) near o
 none_there_still past near before closes none moment fact still o thing at c = elim c [
   | inl b ↦ absurd (closes_none near thing (facts_of past) fact still b.0)
@@ -153,7 +153,7 @@ some_or false b (inl e) = absurd (cc)
 some_or false b (inr e) = e
 
 -- what stands under one session ID is replaced by the same thing
-pub agrees_same : (setup : Setup) (past : List Stamped) (s t : State) (near : ℕ) (oa : Option AttemptState) (os : Option Row) → Agrees setup past s → IsGiven setup t → IsAt near oa os s t →
+pub agrees_same : (setup : Setup) (past : Past) (s t : State) (near : ℕ) (oa : Option AttemptState) (os : Option Row) → Agrees setup past s → IsGiven setup t → IsAt near oa os s t →
     t.startup.ledger ≡ s.startup.ledger → combined near oa os ≡ thing_at s near → (is_some oa || is_some os) ≡ is_used s near → uses t ≡ uses s → t.moment ≡ s.moment → Fits setup past near oa os → ClosesAt past near os →
     Agrees setup past t
 agrees_same setup past s t near oa os a given at ledger same used count moment fits closes =
@@ -203,7 +203,7 @@ alike_found moment old new a = elim (either_way (is_held old.session.stage)) [
 was_alike : (moment : ℕ) (old new : SessionState) (thing : Held) → IsAlike moment old new → WasThing old.role old.joined thing → WasThing new.role new.joined thing
 was_alike moment old new thing a w = subst (λ r. WasThing r new.joined thing) (sym a.role) (subst (λ j. WasThing old.role j thing) (sym a.joined) w)
 
-closed_alike : (moment : ℕ) (past : List Stamped) (near : ℕ) (old new : SessionState) → IsAlike moment old new → AreBy moment past → is_held old.stage ≡ false → IsClosed past near old → IsClosed past near new
+closed_alike : (moment : ℕ) (past : Past) (near : ℕ) (old new : SessionState) → IsAlike moment old new → AreBy moment past → is_held old.stage ≡ false → IsClosed past near old → IsClosed past near new
 closed_alike moment past near old new a are e c = record {
   thing = c.thing;
   at = c.at;
@@ -215,7 +215,7 @@ closed_alike moment past near old new a are e c = record {
   ];
 }
 
-pub ours_alike : (setup : Setup) (moment : ℕ) (past : List Stamped) (near : ℕ) (old new : SessionState) → IsAlike moment old new → AreBy moment past → IsOurs setup past near old → IsOurs setup past near new
+pub ours_alike : (setup : Setup) (moment : ℕ) (past : Past) (near : ℕ) (old new : SessionState) → IsAlike moment old new → AreBy moment past → IsOurs setup past near old → IsOurs setup past near new
 ours_alike setup moment past near old new a are ours = record {
   id = ap (λ j. j.near) a.joined ∙ ours.id;
   own = a.own ∙ ours.own;
@@ -224,13 +224,13 @@ ours_alike setup moment past near old new a are ours = record {
   closed = λ e. let before = sym a.held ∙ e in closed_alike moment past near old new a are before (ours.closed before);
 }
 
-closes_alike : (moment : ℕ) (past : List Stamped) (near : ℕ) (o : Option Row) (old new : Row) → ClosesAt past near o → o ≡ Some old → IsAlike moment old.session new.session → ClosesAt past near (Some new)
+closes_alike : (moment : ℕ) (past : Past) (near : ℕ) (o : Option Row) (old new : Row) → ClosesAt past near o → o ≡ Some old → IsAlike moment old.session new.session → ClosesAt past near (Some new)
 closes_alike moment past near o old new closes is a thing at c =
     let before : IsClosedThing (Some old) thing = subst (λ (x : Option Row). IsClosedThing x thing) is (closes thing at c) in
     (a.held ∙ before.0, was_alike moment old.session new.session thing a before.1)
 
 -- a session is replaced by one like it
-pub tied_session : (setup : Setup) (past : List Stamped) (s : State) (near : ℕ) (old new : Row) → Tied setup past s → get s.sessions near ≡ Some old →
+pub tied_session : (setup : Setup) (past : Past) (s : State) (near : ℕ) (old new : Row) → Tied setup past s → get s.sessions near ≡ Some old →
     IsAlike s.moment old.session new.session → Tied setup past (with_row s near new)
 tied_session setup past s near old new tied is alike =
     let t : State = with_row s near new in
@@ -247,7 +247,7 @@ tied_session setup past s near old new tied is alike =
     (closes_alike s.moment past near (get s.sessions near) old new (a.closing near) is alike)) tied.account
 
 -- an attempt is replaced by one with the same values
-pub tied_attempt : (setup : Setup) (past : List Stamped) (s : State) (near : ℕ) (old new : AttemptState) → Tied setup past s → get s.startup.attempts near ≡ Some old →
+pub tied_attempt : (setup : Setup) (past : Past) (s : State) (near : ℕ) (old new : AttemptState) → Tied setup past s → get s.startup.attempts near ≡ Some old →
     combined near (Some new) None ≡ combined near (Some old) None → (WasStarted past near old → WasStarted past near new) → Tied setup past (with_startup s (with_attempt s.startup near new))
 tied_attempt setup past s near old new tied is same was =
     let t : State = with_startup s (with_attempt s.startup near new) in
@@ -263,7 +263,7 @@ tied_attempt setup past s near old new tied is same was =
     (omega (arith, len_known s.startup.attempts near new old is)) refl (was (a.started near old is)) (λ thing at c. none_closes setup past s a near _ _ there thing at c)) tied.account
 
 -- more was done that states no fact, and ends no closing
-pub tied_more : (setup : Setup) (past : List Stamped) (s : State) (x : Stamped) → x.moment ≤ s.moment → fact_done x.what ≡ None → closed_done x.what ≡ None → Tied setup past s → Tied setup (x ∷ past) s
+pub tied_more : (setup : Setup) (past : Past) (s : State) (x : Stamped) → x.moment ≤ s.moment → fact_done x.what ≡ None → closed_done x.what ≡ None → Tied setup past s → Tied setup (x ∷ past) s
 tied_more setup past s x in_time no_fact no_closed t =
     let facts : facts_of (x ∷ past) ≡ facts_of past = ap (λ (o : Option Fact). fact_and o (facts_of past)) no_fact in
     let ids : ids_in_use (x ∷ past) ≡ ids_in_use past = ap (λ (o : Option ℕ). ids_left o (ids_after (fact_done x.what) (ids_in_use past))) no_closed ∙ ap (λ (o : Option Fact). ids_after o (ids_in_use past)) no_fact in
@@ -295,7 +295,7 @@ tied_more setup past s x in_time no_fact no_closed t =
     }) (subst (StandsFor 0 s.startup.ledger) (sym facts) t.account)
 
 -- what doesn't touch what is held
-pub tied_alike : (setup : Setup) (past : List Stamped) (s : State) (moment sealed : ℕ) → s.moment ≤ moment → Tied setup past s →
+pub tied_alike : (setup : Setup) (past : Past) (s : State) (moment sealed : ℕ) → s.moment ≤ moment → Tied setup past s →
     Tied setup past (record s { moment = moment; sealed = sealed })
 tied_alike setup past s moment sealed up t = record {
   config = t.config;
@@ -321,7 +321,7 @@ tied_alike setup past s moment sealed up t = record {
 }
 
 -- whom an end introduces touches nothing of it
-pub tied_unseen : (setup : Setup) (past : List Stamped) (s : State) (introduces : Bool) (redirects : AddressRows) → Tied setup past s → Tied setup past (record s { introduces = introduces; redirects = redirects })
+pub tied_unseen : (setup : Setup) (past : Past) (s : State) (introduces : Bool) (redirects : AddressRows) → Tied setup past s → Tied setup past (record s { introduces = introduces; redirects = redirects })
 tied_unseen setup past s introduces redirects t = record {
   config = t.config;
   cert = t.cert;

@@ -3,7 +3,7 @@ use Rattle.std.proofs.Common.{ℕ, List, [], ◌∷◌, ◌++◌, ◌≡◌, Opt
 use Rattle.glare_core.specs.declared.facts.Fact.{Fact}
 use Rattle.endpoint_model.specs.declared.entry.Entry.{Entry}
 use Rattle.endpoint_model.specs.Views.{fact_in, closed_in}
-use Rattle.endpoint_laws.specs.Past.{Stamped, stamped, onto, fact_and, facts_of, ids_after, ids_left, ids_in_use}
+use Rattle.endpoint_laws.specs.Past.{Past, stamped, onto, fact_and, facts_of, ids_after, ids_left, ids_in_use}
 use Rattle.endpoint_laws.proofs.Small.{Any, Sends}
 
 -- there is no fact, and this
@@ -31,7 +31,7 @@ none_in_both : (xs ys : List Entry) → NoFacts xs → NoFacts ys → NoFacts (x
 none_in_both [] ys p q = q
 none_in_both (x ∷ xs) ys p q = and_then (fact_in x) (NoFacts xs) (NoFacts (xs ++ ys)) (λ rest. none_in_both xs ys rest q) p
 
-pub facts_stay : (now : ℕ) (entries : List Entry) (past : List Stamped) → NoFacts entries → facts_of (onto now entries past) ≡ facts_of past
+pub facts_stay : (now : ℕ) (entries : List Entry) (past : Past) → NoFacts entries → facts_of (onto now entries past) ≡ facts_of past
 facts_stay now [] past none = refl
 facts_stay now (entry ∷ rest) past none =
     facts_stay now rest (stamped now entry ∷ past) (the_rest (fact_in entry) (NoFacts rest) none) ∙ adds_none (fact_in entry) (NoFacts rest) (facts_of past) none
@@ -47,7 +47,7 @@ none_over_both [] ys p q = q
 none_over_both (x ∷ xs) ys p q = (p.0, none_over_both xs ys p.1 q)
 
 -- so the session IDs in use stay
-pub ids_stay : (now : ℕ) (entries : List Entry) (past : List Stamped) → NoFacts entries → NoneOver entries → ids_in_use (onto now entries past) ≡ ids_in_use past
+pub ids_stay : (now : ℕ) (entries : List Entry) (past : Past) → NoFacts entries → NoneOver entries → ids_in_use (onto now entries past) ≡ ids_in_use past
 ids_stay now [] past none over = refl
 ids_stay now (x ∷ xs) past none over =
     ids_stay now xs (stamped now x ∷ past) (the_rest (fact_in x) (NoFacts xs) none) over.1

@@ -15,7 +15,7 @@ use Rattle.session_core.specs.declared.stage.Stage.{Stage}
 use Rattle.session_core.specs.declared.stage.Stage.TheVariants.{Opening, Open, NearClose, FarLinger, Closed}
 use Rattle.endpoint_model.specs.declared.row.Row.{Row}
 use Rattle.endpoint_model.specs.Event.{Setup}
-use Rattle.endpoint_laws.specs.Past.{Stamped, facts_of, past_of, last_moment}
+use Rattle.endpoint_laws.specs.Past.{Past, facts_of, past_of, last_moment}
 use Rattle.endpoint_model.specs.State.{State}
 use Rattle.endpoint_laws.specs.OfTheLog.{IsThing, IsClosingStage, AttemptIsThere, SessionStands, SessionIsThere, ClosingIsThere, IsOfTheLog, TheStateIsOfTheLog}
 use Rattle.endpoint_laws.proofs.Tied.{Tied, StageFits, IsClosedThing, thing_of, found_in}
@@ -64,7 +64,7 @@ same_ni : (n n' near near' : ℕ) (ni ni' : List ℕ) → Some (AttemptHeld n ne
 unfolding ni_in
 same_ni n n' near near' ni ni' e = ap (ni_in ni) e
 
-module _ (setup : Setup) (past : List Stamped) (s : State) (tied : Tied setup past s) where
+module _ (setup : Setup) (past : Past) (s : State) (tied : Tied setup past s) where
   holds : (q : List ℕ) → held_with s.startup.ledger q ≡ held q (facts_of past)
   holds = reads_held 0 s.startup.ledger (facts_of past) tied.account
 

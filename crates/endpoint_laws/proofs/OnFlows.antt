@@ -11,7 +11,7 @@ use Rattle.endpoint_model.specs.FlowCall.{FlowCall, flow_did}
 use Rattle.endpoint_model.specs.State.{State, Did, with_row}
 use Rattle.endpoint_model.specs.InSessions.{held_row}
 use Rattle.endpoint_model.specs.OnFlows.{flow_entry, flows_done, flow_called_by, flow_called}
-use Rattle.endpoint_laws.specs.Past.{Stamped, stamped, onto, fact_and, facts_of}
+use Rattle.endpoint_laws.specs.Past.{Past, stamped, onto, fact_and, facts_of}
 use Rattle.endpoint_laws.proofs.Unseen.{AreUnseen, flows_unseen}
 use Rattle.endpoint_laws.proofs.Lines.{FactPart, FactMeets, OutPart, OutMeets, ClosedMeets, EntriesMeet}
 use Rattle.endpoint_laws.proofs.Tied.{Tied}
@@ -27,7 +27,7 @@ use Rattle.endpoint_laws.proofs.SessionChunks.{held_is_there}
 -- ---- entries that are unseen
 
 module _ (setup : Setup) (call : Call) (s : State) where
-  facts_meet : (entries : List Entry) (past : List Stamped) → AreUnseen entries → EntriesMeet FactPart setup s.moment call past entries
+  facts_meet : (entries : List Entry) (past : Past) → AreUnseen entries → EntriesMeet FactPart setup s.moment call past entries
   facts_meet [] past are = tt
   facts_meet (entry ∷ rest) past are = (
     (
@@ -37,16 +37,16 @@ module _ (setup : Setup) (call : Call) (s : State) where
     facts_meet rest (stamped s.moment entry ∷ past) are.1,
   )
 
-  outs_meet : (entries : List Entry) (past : List Stamped) → AreUnseen entries → EntriesMeet OutPart setup s.moment call past entries
+  outs_meet : (entries : List Entry) (past : Past) → AreUnseen entries → EntriesMeet OutPart setup s.moment call past entries
   outs_meet [] past are = tt
   outs_meet (entry ∷ rest) past are = (subst (OutMeets setup past) (sym are.0.no_out) tt, outs_meet rest (stamped s.moment entry ∷ past) are.1)
 
-  tied_unseen : (entries : List Entry) (past : List Stamped) → AreUnseen entries → Tied setup past s → Tied setup (onto s.moment entries past) s
+  tied_unseen : (entries : List Entry) (past : Past) → AreUnseen entries → Tied setup past s → Tied setup (onto s.moment entries past) s
   tied_unseen [] past are tied = tied
   tied_unseen (entry ∷ rest) past are tied =
       tied_unseen rest (stamped s.moment entry ∷ past) are.1 (tied_more setup past s (stamped s.moment entry) (omega arith) are.0.no_fact are.0.no_closed tied)
 
-  sent_unseen : (entries : List Entry) (past : List Stamped) → AreUnseen entries → Sent setup past s → Sent setup (onto s.moment entries past) s
+  sent_unseen : (entries : List Entry) (past : Past) → AreUnseen entries → Sent setup past s → Sent setup (onto s.moment entries past) s
   sent_unseen [] past are sent = sent
   sent_unseen (entry ∷ rest) past are sent = sent_unseen rest (stamped s.moment entry ∷ past) are.1 (record {
     numbered = numbered_quiet _ past s.sealed s.sessions sent.numbered (stamped s.moment entry) are.0.no_out are.0.no_fact;
@@ -76,7 +76,7 @@ module _ (s : State) (near : ℕ) (old new : Row) (there : get s.sessions near �
     moment = refl;
   }
 
-  pub meets_unseen : (setup : Setup) (call : Call) (past : List Stamped) → Sent setup past s → Meets setup s.moment call past changed
+  pub meets_unseen : (setup : Setup) (call : Call) (past : Past) → Sent setup past s → Meets setup s.moment call past changed
   meets_unseen setup call past sent = record {
     lines = outs_meet setup call s entries past are;
     sent = sent_session_changed setup (onto s.moment entries past) s near old new (sent_unseen setup call s entries past are sent) there like.alike.joined like.alike.own like.alike.role like.sealed;
@@ -91,13 +91,13 @@ module _ (s : State) (near : ℕ) (row : Row) (there : get s.sessions near ≡ S
   pub goes_done : (setup : Setup) (call : Call) → Keeps setup call s did
   goes_done = goes_unseen s near row (record row { flows = d.flows }) there (like_itself s.moment row.session) (map (flow_entry near) d.stated) (flows_unseen near d.stated)
 
-  pub meets_done : (setup : Setup) (call : Call) (past : List Stamped) → Sent setup past s → Meets setup s.moment call past did
+  pub meets_done : (setup : Setup) (call : Call) (past : Past) → Sent setup past s → Meets setup s.moment call past did
   meets_done = meets_unseen s near row (record row { flows = d.flows }) there (like_itself s.moment row.session) (map (flow_entry near) d.stated) (flows_unseen near d.stated)
 
 -- ---- a call
 
 module _ (s : State) (near : ℕ) (c : FlowCall) where
-  module _ (setup : Setup) (call : Call) (past : List Stamped) where
+  module _ (setup : Setup) (call : Call) (past : Past) where
     goes_by : (o : Option Row) → held_row s near ≡ o → Tied setup past s → Goes setup call past s (flow_called_by s near c o)
     goes_by None is tied = goes_nothing setup call s past tied
     goes_by (Some row) is tied = goes_done s near row (held_is_there (get s.sessions near) row is).0 (flow_did row.flows c) setup call past tied

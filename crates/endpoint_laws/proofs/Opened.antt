@@ -22,7 +22,7 @@ use Rattle.endpoint_model.specs.declared.row.Row.{Row}
 use Rattle.endpoint_model.specs.declared.place.Place.{Place}
 use Rattle.endpoint_model.specs.declared.place.Place.TheVariants.{Startup, Attempt, Session}
 use Rattle.endpoint_model.specs.Event.{Setup, Event, own_of}
-use Rattle.endpoint_laws.specs.Past.{Stamped, facts_of, IsClosing, past_of}
+use Rattle.endpoint_laws.specs.Past.{Past, facts_of, IsClosing, past_of}
 use Rattle.endpoint_laws.specs.Contexts.{ContextOf, HeldUnder, StandsUnder, OpensUnder, inward}
 use Rattle.endpoint_laws.specs.OfTheLog.{WasThing}
 use Rattle.session_core.specs.Closing.{is_held as is_held_stage}
@@ -65,7 +65,7 @@ place_zero : (s : State) (sid : ℕ) → (sid == 0) ≡ true → place_of s sid 
 place_zero s sid zero =
     ap (λ (b : Bool). if b then Some Startup else if contains_key s.startup.attempts sid then Some (Attempt sid) else if contains_key s.sessions sid then Some (Session sid) else None) zero
 
-module _ (setup : Setup) (past : List Stamped) (s : State) (tied : Tied setup past s) (part : List ℕ) where
+module _ (setup : Setup) (past : Past) (s : State) (tied : Tied setup past s) (part : List ℕ) where
   abbrev facts : List Fact
   facts = facts_of past
 

@@ -24,7 +24,7 @@ use Rattle.endpoint_model.specs.Log.{stopped}
 use Rattle.endpoint_model.proofs.Members.{tested}
 use Rattle.rtmfp_data_chunks.specs.Fitting.{AreSmall}
 use Rattle.rtmfp_data_chunks.proofs.Fitting.{small_next}
-use Rattle.endpoint_laws.specs.Past.{Stamped, onto}
+use Rattle.endpoint_laws.specs.Past.{Past, onto}
 use Rattle.endpoint_laws.specs.Lawful.{IsTick}
 use Rattle.endpoint_laws.specs.Laws.{IsSetup, IsCall}
 use Rattle.endpoint_laws.proofs.Lines.{FactPart, EntriesMeet}
@@ -52,15 +52,15 @@ use Rattle.endpoint_laws.proofs.Chunked.{chunk_goes}
 use Rattle.endpoint_laws.proofs.OutChunks.{meets_chunk}
 
 -- The facts of the thing meet their lines, and the state after it agrees with what was done; its datagrams meet theirs, and what went out is counted; and what is known of the sessions stays true.
-pub record Orderly (setup : Setup) (call : Call) (past : List Stamped) (s : State) (d : Did) : Type 0 where
+pub record Orderly (setup : Setup) (call : Call) (past : Past) (s : State) (d : Did) : Type 0 where
   pub goes : Goes setup call past s d
   pub meets : Meets setup s.moment call past d
   pub heard : Heard past s d
 
-pub orderly_nothing : (setup : Setup) (call : Call) (past : List Stamped) (s : State) → Tied setup past s → Sent setup past s → HeardWell past s → Orderly setup call past s (nothing s)
+pub orderly_nothing : (setup : Setup) (call : Call) (past : Past) (s : State) → Tied setup past s → Sent setup past s → HeardWell past s → Orderly setup call past s (nothing s)
 orderly_nothing setup call past s tied sent well = record { goes = goes_nothing setup call s past tied; meets = meets_nothing setup s.moment call past s sent; heard = heard_follows s (nothing s) (follows_nothing s) past well }
 
-orderly_then : (setup : Setup) (call : Call) (past : List Stamped) (s : State) (d : Did) (next : State → Did) → Orderly setup call past s d →
+orderly_then : (setup : Setup) (call : Call) (past : Past) (s : State) (d : Did) (next : State → Did) → Orderly setup call past s d →
     Orderly setup call (onto s.moment d.entries past) d.state (next d.state) → Orderly setup call past s (then_do d next)
 orderly_then setup call past s d next first later =
     let P : ℕ → Type 0 = λ m. Meets setup m call (onto s.moment d.entries past) (next d.state) in
@@ -71,7 +71,7 @@ orderly_then setup call past s d next first later =
     }
 
 -- in a state that was reached without entries
-pub orderly_from : (setup : Setup) (call : Call) (past : List Stamped) (s t : State) (d : Did) → t.moment ≡ s.moment → Orderly setup call past t d → Orderly setup call past s d
+pub orderly_from : (setup : Setup) (call : Call) (past : Past) (s t : State) (d : Did) → t.moment ≡ s.moment → Orderly setup call past t d → Orderly setup call past s d
 orderly_from setup call past s t d same orderly =
     let P : ℕ → Type 0 = λ m. EntriesMeet FactPart setup m call past d.entries in
     let Q : ℕ → Type 0 = λ m. Tied setup (onto m d.entries past) d.state in
@@ -84,7 +84,7 @@ orderly_from setup call past s t d same orderly =
 
 -- whatever was done before
 abbrev KeepsOrderly : Setup → Call → State → Did → Type 0
-KeepsOrderly setup call s d = (past : List Stamped) → Tied setup past s → Sent setup past s → HeardWell past s → Orderly setup call past s d
+KeepsOrderly setup call s d = (past : Past) → Tied setup past s → Sent setup past s → HeardWell past s → Orderly setup call past s d
 
 orderly_steps : (setup : Setup) (call : Call) → Steps (KeepsOrderly setup call)
 orderly_steps setup call = record {
@@ -167,14 +167,14 @@ one_next packet walk before c rest next = record {
 }
 
 -- a session's datagram still passes after a chunk
-passed_on : (place : Place) (from : AddressParts) (datagram : List ℕ) (draws : Draws) (packet : Whole) (walk : Walk) (past : List Stamped) (s : State) (c : Placed) → AreSmall walk.cursor → PassedAt past place datagram packet s →
+passed_on : (place : Place) (from : AddressParts) (datagram : List ℕ) (draws : Draws) (packet : Whole) (walk : Walk) (past : Past) (s : State) (c : Placed) → AreSmall walk.cursor → PassedAt past place datagram packet s →
     PassedAt (onto s.moment (chunk_did place from draws walk s c).entries past) place datagram packet (chunk_did place from draws walk s c).state
 passed_on Startup from datagram draws packet walk past s c small passed = tt
 passed_on (Attempt near) from datagram draws packet walk past s c small passed = tt
 passed_on (Session near) from datagram draws packet walk past s c small passed = passed_chunk past near datagram packet from draws walk s c small passed
 
 -- and after it is confirmed
-passed_in : (place : Place) (datagram : List ℕ) (packet : Whole) (past : List Stamped) (s : State) → PassedAt past place datagram packet s →
+passed_in : (place : Place) (datagram : List ℕ) (packet : Whole) (past : Past) (s : State) → PassedAt past place datagram packet s →
     PassedAt (onto s.moment (confirming s place).entries past) place datagram packet (confirming s place).state
 passed_in Startup datagram packet past s passed = tt
 passed_in (Attempt near) datagram packet past s passed = tt
@@ -184,7 +184,7 @@ module _ (setup : Setup) (is : IsSetup setup) (from : AddressParts) (datagram : 
   abbrev call : Call
   call = Receive from datagram draws
 
-  pub chunks_orderly : (place : Place) → Came setup datagram place packet → (walk : Walk) (before cs rest : List Placed) (s : State) (past : List Stamped) → IsNext packet walk before (cs ++ rest) →
+  pub chunks_orderly : (place : Place) → Came setup datagram place packet → (walk : Walk) (before cs rest : List Placed) (s : State) (past : Past) → IsNext packet walk before (cs ++ rest) →
       Tied setup past s → Sent setup past s → HeardWell past s → PassedAt past place datagram packet s → Orderly setup call past s (chunks_did place from draws walk s cs)
   chunks_orderly place came walk before [] rest s past next tied sent well passed = orderly_nothing setup call past s tied sent well
   chunks_orderly place came walk before (c ∷ cs) rest s past next tied sent well passed =
@@ -227,11 +227,11 @@ module _ (setup : Setup) (call : Call) where
 -- ---- a datagram
 
 -- What is known before a datagram that was stopped: where it was taken, after its admission.
-abbrev pub StopHeard : List ℕ → List Stamped → State → Bool → Admission → Type 0
+abbrev pub StopHeard : List ℕ → Past → State → Bool → Admission → Type 0
 StopHeard datagram past s true a = AdmissionHeard past s.moment datagram a
 StopHeard datagram past s false a = HeardWell past s
 
-module _ (setup : Setup) (is : IsSetup setup) (from : AddressParts) (datagram : List ℕ) (draws : Draws) (fits : IsCall (Receive from datagram draws)) (past : List Stamped) (s : State) where
+module _ (setup : Setup) (is : IsSetup setup) (from : AddressParts) (datagram : List ℕ) (draws : Draws) (fits : IsCall (Receive from datagram draws)) (past : Past) (s : State) where
   abbrev this : Call
   this = Receive from datagram draws
 
@@ -263,7 +263,7 @@ module _ (setup : Setup) (is : IsSetup setup) (from : AddressParts) (datagram : 
   whole_orderly t place packet taken well passed =
       let d : Did = gone_through_and_acked from draws t place (chunks_of packet) most_acks in
       let one : Orderly setup this past t d = acked_after_orderly t place packet (chunks_of packet) [] most_acks (sym (append-nil (chunks_of packet))) taken well passed in
-      let middle : List Stamped = onto t.moment d.entries past in
+      let middle : Past = onto t.moment d.entries past in
       orderly_then setup this past t d (λ u. tested_at u place from draws) one (record {
         goes = goes_tested setup this d.state from draws place middle one.goes.tied;
         meets = meets_tested setup this middle d.state one.meets.sent one.goes.tied from draws fits.3 place;

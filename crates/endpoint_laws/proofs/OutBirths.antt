@@ -44,7 +44,7 @@ use Rattle.endpoint_model.specs.declared.walk.Walk.{Walk}
 use Rattle.endpoint_model.specs.declared.config.Draws.{Draws}
 use Rattle.endpoint_model.specs.declared.entry.Entry.TheVariants.{Fact as FactEntry}
 use Rattle.endpoint_model.specs.Event.{Setup, own_of, Call}
-use Rattle.endpoint_laws.specs.Past.{Stamped, stamped, onto, facts_of}
+use Rattle.endpoint_laws.specs.Past.{Past, stamped, onto, facts_of}
 use Rattle.endpoint_model.specs.State.{State, new_row, with_row, Sessions, fact_entries, with_startup, free_among, free_from, next_id, is_free, full}
 use Rattle.endpoint_model.specs.Sending.{sent_answer, sent_by, sent_in_session}
 use Rattle.endpoint_model.specs.Effects.{without_ended, with_born, keying_done, initiator_keyed, opening_done, responder_keyed}
@@ -135,7 +135,7 @@ record BornHere (facts : List Fact) (j : Joined) : Type 0 where
   ni : length j.ni ≤ 16
   nr : length j.nr ≤ 16
 
-born_here : (setup : Setup) (past : List Stamped) (s : State) → Sent setup past s → Tied setup past s → (p : List ℕ) (keying : Keying) (j : Joined) →
+born_here : (setup : Setup) (past : Past) (s : State) → Sent setup past s → Tied setup past s → (p : List ℕ) (keying : Keying) (j : Joined) →
     repeated_session (held_with s.startup.ledger p) keying ≡ Some j → BornHere (facts_of past) j
 born_here setup past s sent tied p keying j e =
     let is : held_with s.startup.ledger p ≡ held p (facts_of past) = reads_held 0 s.startup.ledger (facts_of past) tied.account p in
@@ -173,7 +173,7 @@ way_light peer (Some (HalfOpen j)) = tt
 way_light peer (Some (KeptAsResponder j)) = tt
 way_light peer (Some (KeptAsInitiator j)) = tt
 
-numbered_without : (own : List ℕ) (past : List Stamped) (sealed : ℕ) (sessions : Sessions) (o : Option Fact) → Numbered own past sealed sessions → Numbered own past sealed (without_ended sessions o)
+numbered_without : (own : List ℕ) (past : Past) (sealed : ℕ) (sessions : Sessions) (o : Option Fact) → Numbered own past sealed sessions → Numbered own past sealed (without_ended sessions o)
 numbered_without own past sealed sessions None n = n
 numbered_without own past sealed sessions (Some (Started peer k near ni)) n = n
 numbered_without own past sealed sessions (Some (Born j)) n = n
@@ -184,22 +184,22 @@ numbered_without own past sealed sessions (Some (Ended peer near why)) n = numbe
 held_born : (j : Joined) (earlier : List Fact) → held j.peer (Born j ∷ earlier) ≡ Some (HalfOpen j)
 held_born j earlier = elim (same_end j.peer j.peer) [ inl d ↦ rw d.1 refl | inr d ↦ absurd (d.0 refl) ]
 
-entries_either : (now : ℕ) (ended : Option Fact) (fact : Fact) (past : List Stamped) → onto now (fact_entries ended ++ FactEntry fact ∷ []) past ≡ stamped now (FactEntry fact) ∷ onto now (fact_entries ended) past
+entries_either : (now : ℕ) (ended : Option Fact) (fact : Fact) (past : Past) → onto now (fact_entries ended ++ FactEntry fact ∷ []) past ≡ stamped now (FactEntry fact) ∷ onto now (fact_entries ended) past
 entries_either now None fact past = refl
 entries_either now (Some f) fact past = refl
 
-lines_either : (setup : Setup) (now : ℕ) (call : Call) (past : List Stamped) (ended : Option Fact) (fact : Fact) → EntriesMeet OutPart setup now call past (fact_entries ended ++ FactEntry fact ∷ [])
+lines_either : (setup : Setup) (now : ℕ) (call : Call) (past : Past) (ended : Option Fact) (fact : Fact) → EntriesMeet OutPart setup now call past (fact_entries ended ++ FactEntry fact ∷ [])
 lines_either setup now call past None fact = (tt, tt)
 lines_either setup now call past (Some f) fact = (tt, (tt, tt))
 
-module _ (setup : Setup) (now : ℕ) (call : Call) (past : List Stamped) (s : State) (sent : Sent setup past s) (tied : Tied setup past s) (from : AddressParts) where
+module _ (setup : Setup) (now : ℕ) (call : Call) (past : Past) (s : State) (sent : Sent setup past s) (tied : Tied setup past s) (from : AddressParts) where
   -- the state t keeps what is kept of s but for the attempts and the ledger
   meets_birth : (t : StartupState) (ended : Option Fact) (j : Joined) → AreShort t.attempts → t.secret ≡ setup.secret → t.cert ≡ setup.cert → t.ledger.own ≡ own_of setup → IsLight ended →
       j.near < 2 ^ 32 → length j.ni ≤ 16 → length j.nr ≤ 16 → (old : StartupState) → old.secret ≡ t.secret → old.cert ≡ setup.cert →
       Meets setup now call past (keying_done (with_startup s t) from (Some (Birth ended (Born j) (session_answer old j from))))
   meets_birth t ended j short secret cert own light near ni nr old old_secret old_cert =
-      let before : List Stamped = onto now (fact_entries ended) past in
-      let after : List Stamped = stamped now (FactEntry (Born j)) ∷ before in
+      let before : Past = onto now (fact_entries ended) past in
+      let after : Past = stamped now (FactEntry (Born j)) ∷ before in
       let told : Sent setup before s = sent_facts setup past s now ended sent light in
       let new : Row = new_row (new_session j t.ledger.own Responder from t.secret s.moment) in
       let state : State = with_born (with_startup s t) ended (Born j) from in
@@ -213,7 +213,7 @@ module _ (setup : Setup) (now : ℕ) (call : Call) (past : List Stamped) (s : St
       rikeying_may setup after j.far old.secret j (sha256 old.cert) (ap sha256 old_cert) refl (inl (held_born j (facts_of before))) near ni nr in
       let last : Meets setup now call after (sent_answer state (session_answer old j from)) = meets_answer setup now call after state kept secret own (session_answer old j from) may in
       meets_after setup now call past (fact_entries ended ++ FactEntry (Born j) ∷ []) (sent_answer state (session_answer old j from)) (lines_either setup now call past ended (Born j))
-      (subst (λ (p : List Stamped). Meets setup now call p (sent_answer state (session_answer old j from))) (sym (entries_either now ended (Born j) past)) last)
+      (subst (λ (p : Past). Meets setup now call p (sent_answer state (session_answer old j from))) (sym (entries_either now ended (Born j) past)) last)
 
   module _ (near : ℕ) (nr : List ℕ) (near_small : near < 2 ^ 32) (nr_small : length nr ≤ 16) where
     by_repeat : (keying : Keying) (o : Option Joined) → length keying.ni ≤ 16 → repeated_session (held_with s.startup.ledger keying.peer) keying ≡ o →
@@ -265,10 +265,10 @@ module _ (setup : Setup) (now : ℕ) (call : Call) (past : List Stamped) (s : St
 held_opened : (j : Joined) (earlier : List Fact) → held j.peer earlier ≡ Some (OpeningHeld j.n j.near j.ni) → held j.peer (Opened j ∷ earlier) ≡ Some (KeptAsInitiator j)
 held_opened j earlier was = elim (same_end j.peer j.peer) [ inl d ↦ rw d.1 (ap (opened_thing j) was) | inr d ↦ absurd (d.0 refl) ]
 
-module _ (setup : Setup) (now : ℕ) (call : Call) (past : List Stamped) (s : State) (sent : Sent setup past s) (tied : Tied setup past s) (from : AddressParts) (near : ℕ) where
+module _ (setup : Setup) (now : ℕ) (call : Call) (past : Past) (s : State) (sent : Sent setup past s) (tied : Tied setup past s) (from : AddressParts) (near : ℕ) where
   meets_opened : (j : Joined) → held j.peer (facts_of past) ≡ Some (OpeningHeld j.n j.near j.ni) → Meets setup now call past (opening_done s j.near from (Some (Opened j)))
   meets_opened j was =
-      let after : List Stamped = stamped now (FactEntry (Opened j)) ∷ past in
+      let after : Past = stamped now (FactEntry (Opened j)) ∷ past in
       let new : Row = new_row (new_session j s.startup.ledger.own Initiator from s.startup.secret s.moment) in
       let state : State = with_row (with_startup s (after_opening s.startup j.near (Opened j))) j.near new in
       let lawful : AreLawful (own_of setup) 0 (facts_of past) = subst (λ (o : List ℕ). AreLawful o 0 (facts_of past)) tied.own tied.account.lawful in

@@ -12,7 +12,7 @@ use Rattle.rtmfp_packet.specs.Whole.{Whole}
 use Rattle.endpoint_model.specs.Keying.{IsAmong, chunks_of}
 use Rattle.endpoint_model.specs.declared.place.Place.TheVariants.{Startup, Attempt, Session}
 use Rattle.endpoint_model.specs.InSessions.{told_in_session}
-use Rattle.endpoint_laws.specs.Past.{Stamped}
+use Rattle.endpoint_laws.specs.Past.{Past}
 use Rattle.endpoint_model.specs.State.{State}
 use Rattle.endpoint_model.specs.Admission.{sid_at}
 use Rattle.endpoint_model.specs.Effects.{is_told_in_session, chunk_did}
@@ -30,7 +30,7 @@ use Rattle.endpoint_laws.proofs.OutBirths.{meets_initiator, meets_responder}
 
 -- ---- a chunk
 
-module _ (setup : Setup) (from : AddressParts) (datagram : List ℕ) (draws : Draws) (packet : Whole) (past : List Stamped) (s : State) (sent : Sent setup past s) (tied : Tied setup past s) (cert : length setup.cert ≤ 80) where
+module _ (setup : Setup) (from : AddressParts) (datagram : List ℕ) (draws : Draws) (packet : Whole) (past : Past) (s : State) (sent : Sent setup past s) (tied : Tied setup past s) (cert : length setup.cert ≤ 80) where
   abbrev call : Call
   call = Receive from datagram draws
 

@@ -18,7 +18,7 @@ use Rattle.std.specs.FinMap.{get}
 use Rattle.glare_core.proofs.Accounts.{reads_held}
 use Rattle.endpoint_model.specs.declared.row.Row.{Row}
 use Rattle.endpoint_model.specs.State.{State}
-use Rattle.endpoint_laws.specs.Past.{Stamped, facts_of, fact_and, fact_done, Closes, IsClosing}
+use Rattle.endpoint_laws.specs.Past.{Past, facts_of, fact_and, fact_done, Closes, IsClosing}
 use Rattle.endpoint_laws.specs.Contexts.{outward}
 use Rattle.endpoint_laws.specs.OfTheLog.{WasThing}
 use Rattle.endpoint_model.specs.Event.{Setup, own_of}
@@ -125,7 +125,7 @@ held_sized p facts thing sized is = subst (λ (o : Option Held). HasSizes p o) i
 
 -- ---- the session in whose context a datagram goes
 
-in_session : (setup : Setup) (past : List Stamped) (role : Role) (stage : Stage) (j : Joined) → held j.peer (facts_of past) ≡ Some (thing_of role stage j) →
+in_session : (setup : Setup) (past : Past) (role : Role) (stage : Stage) (j : Joined) → held j.peer (facts_of past) ≡ Some (thing_of role stage j) →
     InSession setup past j.far (context_between j (own_of setup) role true)
 in_session setup past Initiator stage j is = (KeptAsInitiator j, j.near, inl (record { peer = j.peer; is_held = is; id = refl }), refl, refl)
 in_session setup past Responder StageOpening j is = (HalfOpen j, j.near, inl (record { peer = j.peer; is_held = is; id = refl }), refl, refl)
@@ -148,7 +148,7 @@ closed_nonce near thing facts (Some (Opened j)) c = absurd c
 closed_nonce near thing facts (Some (Confirmed peer id)) c = absurd c
 closed_nonce near thing facts (Some (Ended peer id why)) c = subst (λ (o : Option Held). HasNonce facts o) c.2 (has_nonce peer facts)
 
-closing_nonce : (near : ℕ) (thing : Held) (at : ℕ) (past : List Stamped) → IsClosing near thing at past → HasNonce (facts_of past) (Some thing)
+closing_nonce : (near : ℕ) (thing : Held) (at : ℕ) (past : Past) → IsClosing near thing at past → HasNonce (facts_of past) (Some thing)
 closing_nonce near thing at [] c = absurd c
 closing_nonce near thing at (s ∷ earlier) (inl b) = nonce_and (fact_done s.what) (facts_of earlier) (Some thing) (closed_nonce near thing (facts_of earlier) (fact_done s.what) b.0)
 closing_nonce near thing at (s ∷ earlier) (inr p) = nonce_and (fact_done s.what) (facts_of earlier) (Some thing) (closing_nonce near thing at earlier p.1)
@@ -158,14 +158,14 @@ was_known facts own Initiator j thing w h = subst (λ (t : Held). HasNonce facts
 was_known facts own Responder j thing (inl w) h = subst (λ (t : Held). HasNonce facts (Some t)) w h
 was_known facts own Responder j thing (inr w) h = subst (λ (t : Held). HasNonce facts (Some t)) w h
 
-was_in_session : (setup : Setup) (past : List Stamped) (near : ℕ) (role : Role) (j : Joined) (thing : Held) (at : ℕ) → WasThing role j thing → IsClosing near thing at past →
+was_in_session : (setup : Setup) (past : Past) (near : ℕ) (role : Role) (j : Joined) (thing : Held) (at : ℕ) → WasThing role j thing → IsClosing near thing at past →
     InSession setup past j.far (context_between j (own_of setup) role true)
 was_in_session setup past near Initiator j thing at w c = (thing, near, inr (at, c), ap (outward (own_of setup)) (sym w), subst (λ (t : Held). IsFarOf t j.far) (sym w) refl)
 was_in_session setup past near Responder j thing at (inl w) c = (thing, near, inr (at, c), ap (outward (own_of setup)) (sym w), subst (λ (t : Held). IsFarOf t j.far) (sym w) refl)
 was_in_session setup past near Responder j thing at (inr w) c = (thing, near, inr (at, c), ap (outward (own_of setup)) (sym w), subst (λ (t : Held). IsFarOf t j.far) (sym w) refl)
 
 -- A datagram may go out in the session: its nonce is known, and it is held or closing.
-pub record MaySend (setup : Setup) (past : List Stamped) (session : SessionState) : Type 0 where
+pub record MaySend (setup : Setup) (past : Past) (session : SessionState) : Type 0 where
   pub secret : session.secret ≡ setup.secret
   pub known : Known (context_of session true) (facts_of past)
   pub stands : InSession setup past session.joined.far (context_of session true)
@@ -175,7 +175,7 @@ either_way true = inl refl
 either_way false = inr refl
 
 -- one that is held
-pub may_send_held : (setup : Setup) (past : List Stamped) (session : SessionState) → session.secret ≡ setup.secret → session.own ≡ own_of setup →
+pub may_send_held : (setup : Setup) (past : Past) (session : SessionState) → session.secret ≡ setup.secret → session.own ≡ own_of setup →
     held session.joined.peer (facts_of past) ≡ Some (thing_of session.role session.stage session.joined) → MaySend setup past session
 may_send_held setup past session secret own thing = record {
   secret = secret;
@@ -183,7 +183,7 @@ may_send_held setup past session secret own thing = record {
   stands = subst (λ (o : List ℕ). InSession setup past session.joined.far (context_between session.joined o session.role true)) (sym own) (in_session setup past session.role session.stage session.joined thing);
 }
 
-pub may_send : (setup : Setup) (past : List Stamped) (s : State) (near : ℕ) (row : Row) → Tied setup past s → get s.sessions near ≡ Some row → MaySend setup past row.session
+pub may_send : (setup : Setup) (past : Past) (s : State) (near : ℕ) (row : Row) → Tied setup past s → get s.sessions near ≡ Some row → MaySend setup past row.session
 may_send setup past s near row tied there =
     let session : SessionState = row.session in
     let j : Joined = session.joined in

@@ -29,7 +29,7 @@ use Rattle.endpoint_model.specs.declared.place.Place.TheVariants.{Startup as Sta
 use Rattle.endpoint_model.specs.declared.entry.Entry.{Entry}
 use Rattle.endpoint_model.specs.declared.entry.Entry.TheVariants.{Fact as FactEntry, Discard}
 use Rattle.endpoint_model.specs.Event.{Setup, own_of, Call}
-use Rattle.endpoint_laws.specs.Past.{Stamped, stamped, onto, facts_of}
+use Rattle.endpoint_laws.specs.Past.{Past, stamped, onto, facts_of}
 use Rattle.endpoint_model.specs.State.{State, Did, nothing, fact_entries, with_startup, with_row, with_session, with_sealed, free_from}
 use Rattle.endpoint_model.specs.Sending.{last_count, sent_startup, sent_answer, sent_each}
 use Rattle.endpoint_model.specs.Admission.{confirming, confirming_by}
@@ -52,10 +52,10 @@ short_put attempts near a all one q b e = elim (found_inserted attempts near a q
 pub short_left : (attempts : Attempts) (near : ℕ) → AreShort attempts → AreShort (remove attempts near)
 short_left attempts near all q b e = all q b (found_left attempts near q b e).1
 
-pub sent_startup_changed : (setup : Setup) (past : List Stamped) (s : State) (t : StartupState) → Sent setup past s → AreShort t.attempts → Sent setup past (with_startup s t)
+pub sent_startup_changed : (setup : Setup) (past : Past) (s : State) (t : StartupState) → Sent setup past s → AreShort t.attempts → Sent setup past (with_startup s t)
 sent_startup_changed setup past s t sent short = record { numbered = sent.numbered; sized = sent.sized; short = short; rows = sent.rows }
 
-pub sent_fact : (setup : Setup) (past : List Stamped) (s : State) (now : ℕ) (fact : Fact) → Sent setup past s → IsSized fact → Sent setup (stamped now (FactEntry fact) ∷ past) s
+pub sent_fact : (setup : Setup) (past : Past) (s : State) (now : ℕ) (fact : Fact) → Sent setup past s → IsSized fact → Sent setup (stamped now (FactEntry fact) ∷ past) s
 sent_fact setup past s now fact sent sized = record {
   numbered = numbered_fact (own_of setup) past s.sealed s.sessions sent.numbered now fact;
   sized = (sized, sent.sized);
@@ -68,15 +68,15 @@ abbrev pub IsLight : Option Fact → Type 0
 IsLight None = Unit {0}
 IsLight (Some fact) = IsSized fact
 
-pub sent_facts : (setup : Setup) (past : List Stamped) (s : State) (now : ℕ) (o : Option Fact) → Sent setup past s → IsLight o → Sent setup (onto now (fact_entries o) past) s
+pub sent_facts : (setup : Setup) (past : Past) (s : State) (now : ℕ) (o : Option Fact) → Sent setup past s → IsLight o → Sent setup (onto now (fact_entries o) past) s
 sent_facts setup past s now None sent light = sent
 sent_facts setup past s now (Some fact) sent light = sent_fact setup past s now fact sent light
 
-pub lines_facts : (setup : Setup) (now : ℕ) (call : Call) (past : List Stamped) (o : Option Fact) → EntriesMeet OutPart setup now call past (fact_entries o)
+pub lines_facts : (setup : Setup) (now : ℕ) (call : Call) (past : Past) (o : Option Fact) → EntriesMeet OutPart setup now call past (fact_entries o)
 lines_facts setup now call past None = tt
 lines_facts setup now call past (Some fact) = (tt, tt)
 
-pub sent_session_changed : (setup : Setup) (past : List Stamped) (s : State) (near : ℕ) (old new : Row) → Sent setup past s → get s.sessions near ≡ Some old →
+pub sent_session_changed : (setup : Setup) (past : Past) (s : State) (near : ℕ) (old new : Row) → Sent setup past s → get s.sessions near ≡ Some old →
     new.session.joined ≡ old.session.joined → new.session.own ≡ old.session.own → new.session.role ≡ old.session.role → new.session.sealed ≡ old.session.sealed → Sent setup past (with_row s near new)
 sent_session_changed setup past s near old new sent there joined mine role count = record {
   numbered = numbered_changed (own_of setup) past s.sealed s.sessions sent.numbered near old new there joined mine role count;
@@ -85,7 +85,7 @@ sent_session_changed setup past s near old new sent there joined mine role count
   rows = sent.rows;
 }
 
-pub meets_discarded : (setup : Setup) (now : ℕ) (call : Call) (past : List Stamped) (s : State) (at : ℕ) (cause : Cause) → Sent setup past s → Meets setup now call past (discarded s at cause)
+pub meets_discarded : (setup : Setup) (now : ℕ) (call : Call) (past : Past) (s : State) (at : ℕ) (cause : Cause) → Sent setup past s → Meets setup now call past (discarded s at cause)
 meets_discarded setup now call past s at cause sent = record {
   lines = (tt, tt);
   sent = record {
@@ -98,7 +98,7 @@ meets_discarded setup now call past s at cause sent = record {
 
 -- ---- answers, and one packet to several addresses
 
-pub meets_answer : (setup : Setup) (now : ℕ) (call : Call) (past : List Stamped) (s : State) → Sent setup past s → s.startup.secret ≡ setup.secret → s.startup.ledger.own ≡ own_of setup →
+pub meets_answer : (setup : Setup) (now : ℕ) (call : Call) (past : Past) (s : State) → Sent setup past s → s.startup.secret ≡ setup.secret → s.startup.ledger.own ≡ own_of setup →
     (answer : Answer) → MayGo setup past answer.sid answer.plain → Meets setup now call past (sent_answer s answer)
 meets_answer setup now call past s sent secret own answer may = meets_startup setup now call past s sent secret own answer.to answer.sid answer.plain may
 
@@ -106,7 +106,7 @@ startup_stays : (b : Bool) (s : State) (entries : List Entry) → ◌≡◌ {A =
 startup_stays true s entries = refl
 startup_stays false s entries = refl
 
-pub meets_each : (setup : Setup) (now : ℕ) (call : Call) (plain : List ℕ) → ((past : List Stamped) → MayGo setup past 0 plain) → (to : List AddressParts) (past : List Stamped) (s : State) → Sent setup past s →
+pub meets_each : (setup : Setup) (now : ℕ) (call : Call) (plain : List ℕ) → ((past : Past) → MayGo setup past 0 plain) → (to : List AddressParts) (past : Past) (s : State) → Sent setup past s →
     s.startup.secret ≡ setup.secret → s.startup.ledger.own ≡ own_of setup → Meets setup now call past (sent_each s plain to)
 meets_each setup now call plain may [] past s sent secret own = meets_nothing setup now call past s sent
 meets_each setup now call plain may (to ∷ rest) past s sent secret own =
@@ -118,7 +118,7 @@ meets_each setup now call plain may (to ∷ rest) past s sent secret own =
 
 -- ---- an attempt begins
 
-pub meets_opening : (setup : Setup) (now : ℕ) (call : Call) (past : List Stamped) (s : State) → Sent setup past s → Tied setup past s → (peer : List ℕ) (candidates : List AddressParts) (draws : Draws) →
+pub meets_opening : (setup : Setup) (now : ℕ) (call : Call) (past : Past) (s : State) → Sent setup past s → Tied setup past s → (peer : List ℕ) (candidates : List AddressParts) (draws : Draws) →
     length peer ≡ 32 → length draws.nonce ≡ 16 → length draws.tag ≡ 16 → free_from s draws.word < 2 ^ 32 → Meets setup now call past (opening s peer candidates draws)
 meets_opening setup now call past s sent tied peer candidates draws peer_len nonce_len tag_len small =
     let near : ℕ = free_from s draws.word in
@@ -141,7 +141,7 @@ ended_light : (o : Option (ℕ × AttemptState)) → IsLight (end_of o Cancelled
 ended_light None = tt
 ended_light (Some e) = tt
 
-pub meets_cancelling : (setup : Setup) (now : ℕ) (call : Call) (past : List Stamped) (s : State) (n : ℕ) → Sent setup past s → Meets setup now call past (cancelling s n)
+pub meets_cancelling : (setup : Setup) (now : ℕ) (call : Call) (past : Past) (s : State) (n : ℕ) → Sent setup past s → Meets setup now call past (cancelling s n)
 meets_cancelling setup now call past s n sent =
     let o : Option (ℕ × AttemptState) = lowest (has_number n) s.startup.attempts in
     let after = sent_facts setup past s now (end_of o Cancelled) sent (ended_light o) in
@@ -152,7 +152,7 @@ meets_cancelling setup now call past s n sent =
 
 -- ---- keyings of attempts
 
-module _ (setup : Setup) (past : List Stamped) (s : State) (sent : Sent setup past s) (tied : Tied setup past s) where
+module _ (setup : Setup) (past : Past) (s : State) (sent : Sent setup past s) (tied : Tied setup past s) where
   pub attempt_held : (near : ℕ) (a : AttemptState) → get s.startup.attempts near ≡ Some a → held a.peer (facts_of past) ≡ Some (OpeningHeld a.n near a.ni)
   attempt_held near a there = sym (reads_held 0 s.startup.ledger (facts_of past) tied.account a.peer) ∙ tied.sound.held near a there
 
@@ -165,7 +165,7 @@ module _ (setup : Setup) (past : List Stamped) (s : State) (sent : Sent setup pa
       let cert : length s.startup.cert ≤ 80 = subst (λ (c : List ℕ). length c ≤ 80) (sym tied.cert) short in
       iikeying_may setup past 0 s.startup.secret near cookie s.startup.cert a.ni a.n a.peer narrow cert tied.cert (attempt_held near a there) (attempt_sized near a there)
 
-  pub hello_may : (near : ℕ) (a : AttemptState) → get s.startup.attempts near ≡ Some a → (p : List Stamped) → MayGo setup p 0 (ihello_packet (0x01 ∷ a.peer) a.tag)
+  pub hello_may : (near : ℕ) (a : AttemptState) → get s.startup.attempts near ≡ Some a → (p : Past) → MayGo setup p 0 (ihello_packet (0x01 ∷ a.peer) a.tag)
   hello_may near a there p = ihello_may setup p 0 (0x01 ∷ a.peer) a.tag (omega (arith, (attempt_sized near a there).0)) (sent.short near a there).tag
 
   -- ---- what is due
@@ -201,7 +201,7 @@ confirmed_light (Some (HalfOpen j)) peer = tt
 confirmed_light (Some (KeptAsResponder j)) peer = tt
 confirmed_light (Some (KeptAsInitiator j)) peer = tt
 
-confirming_test : (setup : Setup) (now : ℕ) (call : Call) (past : List Stamped) (s : State) (near : ℕ) (row : Row) → Sent setup past s → get s.sessions near ≡ Some row → (b : Bool) →
+confirming_test : (setup : Setup) (now : ℕ) (call : Call) (past : Past) (s : State) (near : ℕ) (row : Row) → Sent setup past s → get s.sessions near ≡ Some row → (b : Bool) →
     Meets setup now call past (if b then record {
       state = with_session (with_startup s (after_confirm s.startup row.session.joined.peer)) near row (confirmed row.session);
       entries = fact_entries (confirm_fact s.startup row.session.joined.peer);
@@ -217,11 +217,11 @@ confirming_test setup now call past s near row sent there true =
       sent = record { numbered = changed.numbered; sized = changed.sized; short = sent.short; rows = sent.rows };
     }
 
-confirming_found : (setup : Setup) (now : ℕ) (call : Call) (past : List Stamped) (s : State) (near : ℕ) (o : Option Row) → Sent setup past s → get s.sessions near ≡ o → Meets setup now call past (confirming_by s near o)
+confirming_found : (setup : Setup) (now : ℕ) (call : Call) (past : Past) (s : State) (near : ℕ) (o : Option Row) → Sent setup past s → get s.sessions near ≡ o → Meets setup now call past (confirming_by s near o)
 confirming_found setup now call past s near None sent is = meets_nothing setup now call past s sent
 confirming_found setup now call past s near (Some row) sent is = confirming_test setup now call past s near row sent is (is_opening row.session.stage)
 
-pub meets_confirming : (setup : Setup) (now : ℕ) (call : Call) (past : List Stamped) (s : State) (place : Place) → Sent setup past s → Meets setup now call past (confirming s place)
+pub meets_confirming : (setup : Setup) (now : ℕ) (call : Call) (past : Past) (s : State) (place : Place) → Sent setup past s → Meets setup now call past (confirming s place)
 meets_confirming setup now call past s StartupPlace sent = meets_nothing setup now call past s sent
 meets_confirming setup now call past s (Attempt near) sent = meets_nothing setup now call past s sent
 meets_confirming setup now call past s (Session near) sent = confirming_found setup now call past s near (get s.sessions near) sent refl

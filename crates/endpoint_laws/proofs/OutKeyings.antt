@@ -17,7 +17,7 @@ use Rattle.startup.specs.Packets.{startup_packet, ihello_packet, rhello_packet, 
 use Rattle.startup.specs.Redirects.{addresses_bytes, redirect_packet}
 use Rattle.startup.proofs.Sizes.{startup_length, ihello_length, rhello_length, redirect_length, length-addresses_bytes, cookiechange_length, iikeying_length, rikeying_length}
 use Rattle.endpoint_model.specs.Event.{Setup, own_of}
-use Rattle.endpoint_laws.specs.Past.{Stamped, facts_of}
+use Rattle.endpoint_laws.specs.Past.{Past, facts_of}
 use Rattle.endpoint_laws.specs.Lawful.{IsBornHere}
 use Rattle.endpoint_laws.proofs.OutHeld.{HasSizes}
 use Rattle.endpoint_laws.proofs.OutPackets.{startup_alone, no_keyings, these_keyings}
@@ -43,7 +43,7 @@ length-cookie_of secret address moment =
 small : (chunk : Chunk) → length (startup_packet chunk) ≤ 1164 → length (payload_bytes chunk) < 2 ^ 16
 small chunk h = omega (arith, startup_length chunk, h)
 
-module _ (setup : Setup) (past : List Stamped) (sid : ℕ) where
+module _ (setup : Setup) (past : Past) (sid : ℕ) where
   pub ihello_may : (epd tag : List ℕ) → length epd ≤ 128 → length tag ≤ 128 → MayGo setup past sid (ihello_packet epd tag)
   unfolding ihello_packet
   ihello_may epd tag p q packet reads =

@@ -24,7 +24,7 @@ use Rattle.session_core.specs.Sealed.{number_bytes}
 use Rattle.endpoint_model.specs.declared.row.Row.{Row}
 use Rattle.endpoint_model.specs.Event.{Event}
 use Rattle.endpoint_model.specs.declared.entry.Entry.TheVariants.{Fact as FactEntry, Out}
-use Rattle.endpoint_laws.specs.Past.{Stamped, stamped, facts_of, fact_and, fact_done, out_done, begun}
+use Rattle.endpoint_laws.specs.Past.{Stamped, stamped, facts_of, fact_and, fact_done, out_done, begun, Past}
 use Rattle.endpoint_model.specs.State.{Sessions}
 use Rattle.endpoint_model.specs.Sending.{last_count, startup_number}
 use Rattle.endpoint_laws.specs.Lawful.{IsNumbered, WasNumbered, AsFarAs, nonces_of}
@@ -57,7 +57,7 @@ known_stays (Session ni nr fp_i fp_r sid_i sid_r true) fact earlier k = opened_s
 known_stays (Session ni nr fp_i fp_r sid_i sid_r false) fact earlier k = nonce_stays nr fact earlier k
 
 -- The numbers that were used are those of the counts, and contexts tell the sessions apart.
-pub record Numbered (own : List ℕ) (past : List Stamped) (sealed : ℕ) (sessions : Sessions) : Type 0 where
+pub record Numbered (own : List ℕ) (past : Past) (sealed : ℕ) (sessions : Sessions) : Type 0 where
   pub few : sealed ≤ last_count
   pub startup : (number : List ℕ) → WasNumbered Startup number past → Counted (startup_number own) sealed number
   pub known : (context : Context) (number : List ℕ) → WasNumbered context number past → Known context (facts_of past)
@@ -97,7 +97,7 @@ numbered_new own =
       sent = λ near row e d number was. absurd was;
     }
 
-module _ (own : List ℕ) (past : List Stamped) (sealed : ℕ) (sessions : Sessions) (n : Numbered own past sealed sessions) where
+module _ (own : List ℕ) (past : Past) (sealed : ℕ) (sessions : Sessions) (n : Numbered own past sealed sessions) where
   pub numbered_fact : (now : ℕ) (fact : Fact) → Numbered own (stamped now (FactEntry fact) ∷ past) sealed sessions
   numbered_fact now fact = record {
     few = n.few;
@@ -273,7 +273,7 @@ module _ (own : List ℕ) (past : List Stamped) (sealed : ℕ) (sessions : Sessi
 
 -- ---- a session begins, of which nothing was sent
 
-module _ (own : List ℕ) (past : List Stamped) (sealed : ℕ) (sessions : Sessions) (n : Numbered own past sealed sessions) (now : ℕ) (j : Joined) (new : Row) (none : new.session.sealed ≡ 0) (joined : new.session.joined ≡ j) where
+module _ (own : List ℕ) (past : Past) (sealed : ℕ) (sessions : Sessions) (n : Numbered own past sealed sessions) (now : ℕ) (j : Joined) (new : Row) (none : new.session.sealed ≡ 0) (joined : new.session.joined ≡ j) where
   in_role : (role : Role) → new.session.role ≡ role → context_of new.session true ≡ context_between j new.session.own role true
   in_role role is = ap (λ (k : Joined). context_between k new.session.own new.session.role true) joined ∙ ap (λ (r : Role). context_between j new.session.own r true) is
 

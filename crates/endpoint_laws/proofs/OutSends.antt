@@ -24,7 +24,7 @@ use Rattle.endpoint_model.specs.declared.row.Row.{Row}
 use Rattle.endpoint_model.specs.declared.entry.Entry.{Entry}
 use Rattle.endpoint_model.specs.declared.entry.Entry.TheVariants.{Out}
 use Rattle.endpoint_model.specs.Event.{Setup, own_of, Call}
-use Rattle.endpoint_laws.specs.Past.{Stamped, stamped, onto, facts_of}
+use Rattle.endpoint_laws.specs.Past.{Past, stamped, onto, facts_of}
 use Rattle.endpoint_model.specs.State.{State, Did, nothing, after_entries, then_do, with_sealed, with_session}
 use Rattle.endpoint_model.specs.Sending.{last_count, startup_number, startup_datagram, sent_startup, session_packet, session_datagram, sent_by}
 use Rattle.endpoint_model.specs.Keying.{KeyingsAre}
@@ -53,34 +53,34 @@ abbrev pub AreFew : AddressRows → Type 0
 AreFew rows = (print : List ℕ) (addresses : List AddressParts) → get rows print ≡ Some addresses → length addresses ≤ 16
 
 -- what is kept of what went out, and the sizes of what goes out
-pub record Sent (setup : Setup) (past : List Stamped) (s : State) : Type 0 where
+pub record Sent (setup : Setup) (past : Past) (s : State) : Type 0 where
   pub numbered : Numbered (own_of setup) past s.sealed s.sessions
   pub sized : AreSized (facts_of past)
   pub short : AreShort s.startup.attempts
   pub rows : AreFew s.redirects
 
 -- what a thing adds meets its lines, and it leaves this
-pub record Meets (setup : Setup) (now : ℕ) (call : Call) (past : List Stamped) (d : Did) : Type 0 where
+pub record Meets (setup : Setup) (now : ℕ) (call : Call) (past : Past) (d : Did) : Type 0 where
   pub lines : EntriesMeet OutPart setup now call past d.entries
   pub sent : Sent setup (onto now d.entries past) d.state
 
-pub meets_nothing : (setup : Setup) (now : ℕ) (call : Call) (past : List Stamped) (s : State) → Sent setup past s → Meets setup now call past (nothing s)
+pub meets_nothing : (setup : Setup) (now : ℕ) (call : Call) (past : Past) (s : State) → Sent setup past s → Meets setup now call past (nothing s)
 meets_nothing setup now call past s sent = record { lines = tt; sent = sent }
 
-pub lines_append : (setup : Setup) (now : ℕ) (call : Call) (past : List Stamped) (xs ys : List Entry) → EntriesMeet OutPart setup now call past xs →
+pub lines_append : (setup : Setup) (now : ℕ) (call : Call) (past : Past) (xs ys : List Entry) → EntriesMeet OutPart setup now call past xs →
     EntriesMeet OutPart setup now call (onto now xs past) ys → EntriesMeet OutPart setup now call past (xs ++ ys)
 lines_append setup now call past [] ys p q = q
 lines_append setup now call past (x ∷ xs) ys p q = (p.0, lines_append setup now call (stamped now x ∷ past) xs ys p.1 q)
 
 -- these entries first, and then what a thing adds
-pub meets_after : (setup : Setup) (now : ℕ) (call : Call) (past : List Stamped) (entries : List Entry) (d : Did) → EntriesMeet OutPart setup now call past entries →
+pub meets_after : (setup : Setup) (now : ℕ) (call : Call) (past : Past) (entries : List Entry) (d : Did) → EntriesMeet OutPart setup now call past entries →
     Meets setup now call (onto now entries past) d → Meets setup now call past (after_entries entries d)
 meets_after setup now call past entries d first later = record {
   lines = lines_append setup now call past entries d.entries first later.lines;
-  sent = subst (λ (p : List Stamped). Sent setup p d.state) (sym (onto_append now entries d.entries past)) later.sent;
+  sent = subst (λ (p : Past). Sent setup p d.state) (sym (onto_append now entries d.entries past)) later.sent;
 }
 
-pub meets_then : (setup : Setup) (now : ℕ) (call : Call) (past : List Stamped) (d : Did) (next : State → Did) → Meets setup now call past d →
+pub meets_then : (setup : Setup) (now : ℕ) (call : Call) (past : Past) (d : Did) (next : State → Did) → Meets setup now call past d →
     Meets setup now call (onto now d.entries past) (next d.state) → Meets setup now call past (then_do d next)
 meets_then setup now call past d next first later = meets_after setup now call past d.entries (next d.state) first.lines later
 
@@ -90,7 +90,7 @@ unequal a b h e = grind (arith, nat_tests)
 -- ---- a packet in the startup context
 
 -- each keying of the packet is one that may go out under this session ID
-abbrev pub MayGo : Setup → List Stamped → ℕ → List ℕ → Type 0
+abbrev pub MayGo : Setup → Past → ℕ → List ℕ → Type 0
 MayGo setup past sid plain =
     (packet : Whole) → PacketReading plain (Ok packet) →
     KeyingsAre (λ near cookie cert part sign. KeyingOfAttempt setup Startup (facts_of past) near cert part) (λ near part sign. KeyingOfBorn setup Startup (facts_of past) sid near part) packet
@@ -99,7 +99,7 @@ startup_sized : (setup : Setup) (count : ℕ) → length (startup_number (own_of
 startup_sized setup count =
     omega (arith, length-append (take 8 (sha256 setup.cert)) (to_be_bytes w64 count), length-take-le 8 (sha256 setup.cert) (omega (arith, length-sha256 setup.cert)))
 
-module _ (setup : Setup) (now : ℕ) (call : Call) (past : List Stamped) (s : State) (sent : Sent setup past s) (secret : s.startup.secret ≡ setup.secret) (own : s.startup.ledger.own ≡ own_of setup) where
+module _ (setup : Setup) (now : ℕ) (call : Call) (past : Past) (s : State) (sent : Sent setup past s) (secret : s.startup.secret ≡ setup.secret) (own : s.startup.ledger.own ≡ own_of setup) where
   pub meets_startup : (to : AddressParts) (sid : ℕ) (plain : List ℕ) → MayGo setup past sid plain → Meets setup now call past (sent_startup s to sid plain)
   meets_startup to sid plain may = by_test (s.sealed == last_count) refl
     where
@@ -138,7 +138,7 @@ module _ (setup : Setup) (now : ℕ) (call : Call) (past : List Stamped) (s : St
 
 -- ---- a packet in a session
 
-module _ (setup : Setup) (now : ℕ) (call : Call) (past : List Stamped) (s : State) (sent : Sent setup past s) (near : ℕ) (row : Row) (there : get s.sessions near ≡ Some row) (may : MaySend setup past row.session) where
+module _ (setup : Setup) (now : ℕ) (call : Call) (past : Past) (s : State) (sent : Sent setup past s) (near : ℕ) (row : Row) (there : get s.sessions near ≡ Some row) (may : MaySend setup past row.session) where
   pub meets_session : (to : AddressParts) (body : List ℕ) → IsModest body → Meets setup now call past (sent_by s near to body (Some row))
   meets_session to body modest = by_test (row.session.sealed == last_count) refl
     where

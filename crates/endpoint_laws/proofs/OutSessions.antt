@@ -32,7 +32,7 @@ use Rattle.endpoint_model.specs.Keying.{IsAmong, chunks_of}
 use Rattle.endpoint_model.specs.Sending.{sent_in_session}
 use Rattle.endpoint_model.specs.InSessions.{held_row, sent_home, ended_as, dropped, closed, closing_by, closing, lingering, close_taken_by, moved_where, moved_by, told_in_session, test_begun, tested_by, tested, session_due_done, kept_alive_by}
 use Rattle.endpoint_model.proofs.Members.{tested as tested_number}
-use Rattle.endpoint_laws.specs.Past.{Stamped, stamped, onto}
+use Rattle.endpoint_laws.specs.Past.{Past, stamped, onto}
 use Rattle.endpoint_laws.specs.Lawful.{IsTick}
 use Rattle.endpoint_laws.proofs.Tied.{Tied}
 use Rattle.endpoint_laws.proofs.OutNumbers.{numbered_quiet, numbered_removed}
@@ -60,7 +60,7 @@ ping_is_modest bytes short = one_is_modest (Ping bytes) (omega arith) (omega ari
 
 -- ---- what is kept when a session changes, ends, or is over
 
-module _ (setup : Setup) (call : Call) (past : List Stamped) (s : State) (sent : Sent setup past s) (near : ℕ) (row : Row) (there : get s.sessions near ≡ Some row) where
+module _ (setup : Setup) (call : Call) (past : Past) (s : State) (sent : Sent setup past s) (near : ℕ) (row : Row) (there : get s.sessions near ≡ Some row) where
   meets_ended : (why : Why) (left : SessionState) → left.joined ≡ row.session.joined → left.own ≡ row.session.own → left.role ≡ row.session.role → left.sealed ≡ row.session.sealed → Meets setup s.moment call past (ended_as s near row why left)
   meets_ended why left joined own role count =
       let o : Option Fact = end_fact s.startup row.session.joined.peer why in
@@ -90,7 +90,7 @@ module _ (setup : Setup) (call : Call) (past : List Stamped) (s : State) (sent :
       let after : Sent setup (stamped s.moment (Moved near to) ∷ past) s = record { numbered = numbered_quiet _ past s.sealed s.sessions sent.numbered (stamped s.moment (Moved near to)) refl refl; sized = sent.sized; short = sent.short; rows = sent.rows } in
       record { lines = (tt, tt); sent = sent_session_changed setup (stamped s.moment (Moved near to) ∷ past) s near row new after there joined own role count }
 
-meets_closed : (setup : Setup) (call : Call) (past : List Stamped) (s : State) → Sent setup past s → (near : ℕ) → Meets setup s.moment call past (closed s near)
+meets_closed : (setup : Setup) (call : Call) (past : Past) (s : State) → Sent setup past s → (near : ℕ) → Meets setup s.moment call past (closed s near)
 meets_closed setup call past s sent near = record {
   lines = (tt, tt);
   sent = record {
@@ -104,7 +104,7 @@ meets_closed setup call past s sent near = record {
 -- ---- a body to the session's address
 
 -- something, and then that
-module _ (setup : Setup) (call : Call) (past : List Stamped) (s : State) (near : ℕ) (d : Did) (goes : Goes setup call past s d) (meets : Meets setup s.moment call past d) where
+module _ (setup : Setup) (call : Call) (past : Past) (s : State) (near : ℕ) (d : Did) (goes : Goes setup call past s d) (meets : Meets setup s.moment call past d) where
   pub and_home : (body : List ℕ) → IsModest body → Meets setup s.moment call past (then_do d (λ t. sent_home t near body))
   and_home body modest = meets_then setup s.moment call past d (λ t. sent_home t near body) meets
       (home_by setup s.moment call (onto s.moment d.entries past) d.state meets.sent goes.tied near body modest (get d.state.sessions near) refl)
@@ -131,7 +131,7 @@ same_sealed : (b : Bool) (x y : SessionState) → x.sealed ≡ y.sealed → (if 
 same_sealed true x y e = e
 same_sealed false x y e = refl
 
-module _ (setup : Setup) (call : Call) (past : List Stamped) (s : State) (sent : Sent setup past s) (near : ℕ) (row : Row) (there : get s.sessions near ≡ Some row) where
+module _ (setup : Setup) (call : Call) (past : Past) (s : State) (sent : Sent setup past s) (near : ℕ) (row : Row) (there : get s.sessions near ≡ Some row) where
   ended_if : (why : Why) (b : Bool) (left : SessionState) → left.joined ≡ row.session.joined → left.own ≡ row.session.own → left.role ≡ row.session.role → left.sealed ≡ row.session.sealed →
       Meets setup s.moment call past (ended_as s near row why (if b then left else row.session))
   ended_if why b left joined own role count =
@@ -154,7 +154,7 @@ module _ (setup : Setup) (call : Call) (past : List Stamped) (s : State) (sent :
 
 -- ---- a call that closes a session
 
-module _ (setup : Setup) (past : List Stamped) (s : State) (sent : Sent setup past s) (tied : Tied setup past s) (near : ℕ) where
+module _ (setup : Setup) (past : Past) (s : State) (sent : Sent setup past s) (tied : Tied setup past s) (near : ℕ) where
   closing_found : (o : Option Row) → held_row s near ≡ o → Meets setup s.moment (Close near) past (closing_by s near o)
   closing_found None is = meets_nothing setup s.moment (Close near) past s sent
   closing_found (Some row) is =
@@ -168,7 +168,7 @@ module _ (setup : Setup) (past : List Stamped) (s : State) (sent : Sent setup pa
 
 -- ---- closes, their answers, and answers to pings
 
-module _ (setup : Setup) (from : AddressParts) (datagram : List ℕ) (draws : Draws) (packet : Whole) (past : List Stamped) (s : State) (tied : Tied setup past s) (sent : Sent setup past s) (near : ℕ)
+module _ (setup : Setup) (from : AddressParts) (datagram : List ℕ) (draws : Draws) (packet : Whole) (past : Past) (s : State) (tied : Tied setup past s) (sent : Sent setup past s) (near : ℕ)
     (passed : PassedIn past near datagram packet s) (c : Placed) (among : IsAmong c (chunks_of packet)) where
   abbrev call : Call
   call = Receive from datagram draws
@@ -200,7 +200,7 @@ module _ (setup : Setup) (from : AddressParts) (datagram : List ℕ) (draws : Dr
 
 -- ---- a test of an address
 
-module _ (setup : Setup) (call : Call) (past : List Stamped) (s : State) (sent : Sent setup past s) (tied : Tied setup past s) (from : AddressParts) (draws : Draws) (token : length draws.token ≡ 16) where
+module _ (setup : Setup) (call : Call) (past : Past) (s : State) (sent : Sent setup past s) (tied : Tied setup past s) (from : AddressParts) (draws : Draws) (token : length draws.token ≡ 16) where
   begun : (near : ℕ) (row : Row) → get s.sessions near ≡ Some row → Meets setup s.moment call past (test_begun s near row from draws.token)
   begun near row is =
       let new : Row = record row { moves = after_seen row.moves row.session.address from draws.token s.moment } in
@@ -224,7 +224,7 @@ module _ (setup : Setup) (call : Call) (past : List Stamped) (s : State) (sent :
 
 -- ---- time
 
-module _ (setup : Setup) (call : Call) (is_tick : IsTick call) (past : List Stamped) (s : State) (sent : Sent setup past s) (tied : Tied setup past s) (near : ℕ) (row : Row) (there : get s.sessions near ≡ Some row)
+module _ (setup : Setup) (call : Call) (is_tick : IsTick call) (past : Past) (s : State) (sent : Sent setup past s) (tied : Tied setup past s) (near : ℕ) (row : Row) (there : get s.sessions near ≡ Some row)
     (known : IsKnown past s.moment near row.session) where
   pub meets_kept_alive : Meets setup s.moment call past (kept_alive_by s near row)
   meets_kept_alive =

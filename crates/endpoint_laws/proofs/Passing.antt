@@ -6,12 +6,12 @@ use Rattle.endpoint_model.specs.declared.row.Row.{Row}
 use Rattle.endpoint_model.specs.declared.place.Place.{Place}
 use Rattle.endpoint_model.specs.declared.place.Place.TheVariants.{Startup, Attempt, Session}
 use Rattle.endpoint_model.specs.State.{State, Did}
-use Rattle.endpoint_laws.specs.Past.{Stamped, onto}
+use Rattle.endpoint_laws.specs.Past.{Past, onto}
 use Rattle.endpoint_laws.specs.Taken.{Taken, taken_since, PassesIn}
 use Rattle.endpoint_laws.proofs.Hearing.{Lasting, lasting, inward_of, mode_in, Follows, since_onto}
 
 -- The datagram is the last one that was given since the session began, and passes in it.
-pub record Passed (past : List Stamped) (near : ℕ) (datagram : List ℕ) (packet : Whole) (l : Lasting) : Type 0 where
+pub record Passed (past : Past) (near : ℕ) (datagram : List ℕ) (packet : Whole) (l : Lasting) : Type 0 where
   pub moment : ℕ
   pub before : List Taken
   pub last : taken_since near past ≡ record { moment = moment; datagram = datagram } ∷ before
@@ -19,16 +19,16 @@ pub record Passed (past : List Stamped) (near : ℕ) (datagram : List ℕ) (pack
   pub is : passes.packet ≡ packet
 
 -- so for whatever row is there
-abbrev pub PassedIn : List Stamped → ℕ → List ℕ → Whole → State → Type 0
+abbrev pub PassedIn : Past → ℕ → List ℕ → Whole → State → Type 0
 PassedIn past near datagram packet s = (row : Row) → get s.sessions near ≡ Some row → Passed past near datagram packet (lasting row.session)
 
 -- at a place
-abbrev pub PassedAt : List Stamped → Place → List ℕ → Whole → State → Type 0
+abbrev pub PassedAt : Past → Place → List ℕ → Whole → State → Type 0
 PassedAt past Startup datagram packet s = Unit {0}
 PassedAt past (Attempt near) datagram packet s = Unit {0}
 PassedAt past (Session near) datagram packet s = PassedIn past near datagram packet s
 
-pub passed_follows : (past : List Stamped) (near : ℕ) (datagram : List ℕ) (packet : Whole) (s : State) (d : Did) → Follows s d → PassedIn past near datagram packet s →
+pub passed_follows : (past : Past) (near : ℕ) (datagram : List ℕ) (packet : Whole) (s : State) (d : Did) → Follows s d → PassedIn past near datagram packet s →
     PassedIn (onto s.moment d.entries past) near datagram packet d.state
 passed_follows past near datagram packet s d f passed row there =
     let was = f.had near row there in

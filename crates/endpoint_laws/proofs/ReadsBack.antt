@@ -41,7 +41,7 @@ use Rattle.startup.specs.declared.cause.Cause.TheVariants.{BadSignature, Wide, W
 use Rattle.startup.specs.Packets.{initiator_part_in, is_signed, is_signed_by, before_signature}
 use Rattle.startup.specs.Keyings.{InitiatorKeying, part_offset, cert_offset, with_initiator_part, initiator_fields, initiator_keying_in, keying_of, is_own, heard_cause, named_cause, cookie_cause, initiator_cause, cause_by, iikeying_cause, repeated_session}
 use Rattle.endpoint_model.specs.Event.{Setup, own_of}
-use Rattle.endpoint_laws.specs.Past.{Stamped, facts_of, ids_in_use}
+use Rattle.endpoint_laws.specs.Past.{Past, facts_of, ids_in_use}
 use Rattle.endpoint_model.specs.Keying.{IsSigned, initiator_part}
 use Rattle.endpoint_laws.specs.Admissible.{Admissible, Offer}
 use Rattle.endpoint_model.specs.State.{State, full, uses}
@@ -243,7 +243,7 @@ pub record IsBearing (s : State) (from : AddressParts) (payload : List ℕ) (key
   pub again : again_of (held_with s.startup.ledger (keying_of keying).peer) (keying_of keying) ≡ None
   pub repeated : repeated_session (held_with s.startup.ledger (keying_of keying).peer) (keying_of keying) ≡ None
 
-module _ (setup : Setup) (past : List Stamped) (s : State) (tied : Tied setup past s) (from : AddressParts) (datagram : List ℕ) (offer : Offer) (before : List Stamped) (now : ℕ) (a : Admissible setup before now from datagram offer)
+module _ (setup : Setup) (past : Past) (s : State) (tied : Tied setup past s) (from : AddressParts) (datagram : List ℕ) (offer : Offer) (before : Past) (now : ℕ) (a : Admissible setup before now from datagram offer)
     (same : facts_of past ≡ facts_of before) (same_ids : ids_in_use past ≡ ids_in_use before) (at : s.moment ≡ now) (other : offer.peer ≢ own_of setup) where
   abbrev l : Ledger
   l = s.startup.ledger

@@ -37,7 +37,7 @@ use Rattle.endpoint_model.specs.InSessions.{sent_home_by}
 use Rattle.endpoint_model.specs.Admission.{sid_at}
 use Rattle.endpoint_model.specs.Causes.{read_cause}
 use Rattle.endpoint_model.specs.Effects.{Reply, Silence, InStartup, Hellos, InSession, Introduction, forwarded, introduction, hello_reply, replied, read_left, read_reply, read_done}
-use Rattle.endpoint_laws.specs.Past.{Stamped, onto}
+use Rattle.endpoint_laws.specs.Past.{Past, onto}
 use Rattle.endpoint_laws.proofs.Tied.{Tied}
 use Rattle.endpoint_laws.proofs.Facts.{test_fails}
 use Rattle.endpoint_laws.proofs.Moving.{tied_attempt}
@@ -96,7 +96,7 @@ left_moment s place from (Ok (Redirect tag list)) = refl
 left_moment s place from (Ok (CookieChange old new)) = refl
 left_moment s place from _ = refl
 
-module _ (setup : Setup) (past : List Stamped) (s : State) (tied : Tied setup past s) where
+module _ (setup : Setup) (past : Past) (s : State) (tied : Tied setup past s) where
   answered_tied : (o : Option (ℕ × AttemptState)) (from : AddressParts) (cookie : List ℕ) → ((e : ℕ × AttemptState) → o ≡ Some e → get s.startup.attempts e.0 ≡ Some e.1) →
       Tied setup past (with_startup s (after_answer s.startup o from cookie s.moment))
   answered_tied None from cookie there = tied
@@ -129,14 +129,14 @@ module _ (setup : Setup) (past : List Stamped) (s : State) (tied : Tied setup pa
 -- a startup packet that is no keying may go out at any time
 abbrev MayAlways : Setup → Option Answer → Type 0
 MayAlways setup None = Unit {0}
-MayAlways setup (Some answer) = (past : List Stamped) → MayGo setup past answer.sid answer.plain
+MayAlways setup (Some answer) = (past : Past) → MayGo setup past answer.sid answer.plain
 
-abbrev MayReply : Setup → List Stamped → Reply → Type 0
+abbrev MayReply : Setup → Past → Reply → Type 0
 MayReply setup past Silence = Unit {0}
 MayReply setup past (InStartup None) = Unit {0}
 MayReply setup past (InStartup (Some answer)) = MayGo setup past answer.sid answer.plain
 MayReply setup past (Hellos None) = Unit {0}
-MayReply setup past (Hellos (Some spread)) = (past : List Stamped) → MayGo setup past 0 spread.plain
+MayReply setup past (Hellos (Some spread)) = (past : Past) → MayGo setup past 0 spread.plain
 MayReply setup past (InSession body) = IsModest body
 MayReply setup past (Introduction to body redirect) = IsModest body × MayAlways setup redirect
 
@@ -169,11 +169,11 @@ forwarded_startup s None body = refl
 forwarded_startup s (Some near) body = home_startup s near body (get s.sessions near)
 
 -- what is left keeps the sizes of what goes out, and the answer may go out
-record Fits (setup : Setup) (past : List Stamped) (t : State) (reply : Reply) : Type 0 where
+record Fits (setup : Setup) (past : Past) (t : State) (reply : Reply) : Type 0 where
   sent : Sent setup past t
   may : MayReply setup past reply
 
-module _ (setup : Setup) (past : List Stamped) (s : State) (sent : Sent setup past s) (tied : Tied setup past s) (cert : length setup.cert ≤ 80) where
+module _ (setup : Setup) (past : Past) (s : State) (sent : Sent setup past s) (tied : Tied setup past s) (cert : length setup.cert ≤ 80) where
   own_fits : (tag : List ℕ) (to : AddressParts) → length tag ≤ 128 → Fits setup past s (InStartup (Some (initiator_hello_answer s.startup tag to s.moment)))
   own_fits tag to short =
       let own : length s.startup.cert ≤ 80 = subst (λ (c : List ℕ). length c ≤ 80) (sym tied.cert) cert in
@@ -267,7 +267,7 @@ module _ (setup : Setup) (call : Call) where
   pub goes_read : (s : State) (place : Place) (from : AddressParts) (read : Result Chunk ChunkFault) → Keeps setup call s (read_done s place from read)
   goes_read s place from read = read_by (goes_sends setup call) s place from read (λ past tied. record { meets = tt; tied = left_tied setup past s tied place from read; moment = left_moment s place from read }) (carries_any Any (λ body. tt) (read_reply s place from read))
 
-module _ (setup : Setup) (now : ℕ) (call : Call) (past : List Stamped) where
+module _ (setup : Setup) (now : ℕ) (call : Call) (past : Past) where
   pub says : (s : State) → Sent setup past s → Tied setup past s → (near : ℕ) (from : AddressParts) (body : List ℕ) → IsModest body → (o : Option Row) → get s.sessions near ≡ o → Meets setup now call past (sent_by s near from body o)
   says s sent tied near from body modest None is = meets_nothing setup now call past s sent
   says s sent tied near from body modest (Some row) is =
@@ -281,7 +281,7 @@ module _ (setup : Setup) (now : ℕ) (call : Call) (past : List Stamped) where
   meets_forwarded s sent tied None body modest = meets_nothing setup now call past s sent
   meets_forwarded s sent tied (Some near) body modest = home_by s sent tied near body modest (get s.sessions near) refl
 
-  meets_redirected : (t : State) (more : List Stamped) → Sent setup more t → t.startup.secret ≡ setup.secret → t.startup.ledger.own ≡ own_of setup → (redirect : Option Answer) → MayAlways setup redirect → Meets setup now call more (sent_if t redirect)
+  meets_redirected : (t : State) (more : Past) → Sent setup more t → t.startup.secret ≡ setup.secret → t.startup.ledger.own ≡ own_of setup → (redirect : Option Answer) → MayAlways setup redirect → Meets setup now call more (sent_if t redirect)
   meets_redirected t more sent secret own None may = meets_nothing setup now call more t sent
   meets_redirected t more sent secret own (Some answer) may = meets_answer setup now call more t sent secret own answer (may more)
 

@@ -40,7 +40,7 @@ use Rattle.endpoint_model.specs.Causes.{row_takes}
 use Rattle.endpoint_model.specs.InSessions.{ended_as, closed as closed_entry, if_held, held_row, closing_by, closing, lingering, close_taken_by, moved_where, moved_by, told_in_session, test_begun, tested_by, tested, session_due_done, kept_alive_by}
 use Rattle.endpoint_model.specs.Sending.{sent_in_session}
 use Rattle.endpoint_model.proofs.Members.{tested as tested_number}
-use Rattle.endpoint_laws.specs.Past.{Stamped}
+use Rattle.endpoint_laws.specs.Past.{Past}
 use Rattle.endpoint_laws.specs.Contexts.{inward, ReadsUnder}
 use Rattle.endpoint_laws.specs.OfTheLog.{WasThing}
 use Rattle.endpoint_laws.specs.Taken.{Taken, taken_since, count_in, IsNewAfter, PassesIn, TookIn, TookAt, Passes, inward_mode, TakesChunkOf}
@@ -93,7 +93,7 @@ module _ (setup : Setup) (session : SessionState) (thing : Held) (own : session.
       ∙ ap (λ (m : Mode). TookIn setup.secret (inward (own_of setup) thing) m near moment taken) mode
 
 -- the session of a row takes a chunk of the call's datagram
-takes_chunk : (setup : Setup) (past : List Stamped) (from : AddressParts) (datagram : List ℕ) (draws : Draws) (packet : Whole) (session : SessionState) (near : ℕ) (thing : Held) → session.own ≡ own_of setup → session.secret ≡ setup.secret →
+takes_chunk : (setup : Setup) (past : Past) (from : AddressParts) (datagram : List ℕ) (draws : Draws) (packet : Whole) (session : SessionState) (near : ℕ) (thing : Held) → session.own ≡ own_of setup → session.secret ≡ setup.secret →
     WasThing session.role session.joined thing → Passed past near datagram packet (lasting session) → (c : Placed) → IsAmong c (chunks_of packet) → (chunk : Chunk) → Spells chunk c.kind c.payload →
     TakesChunkOf setup past thing near (record { from = from; datagram = datagram; draws = draws }) chunk
 unfolding as_thing
@@ -193,7 +193,7 @@ module _ (setup : Setup) (s : State) (near : ℕ) where
 
 -- ---- closes, their answers, and answers to pings
 
-module _ (setup : Setup) (from : AddressParts) (datagram : List ℕ) (draws : Draws) (packet : Whole) (past : List Stamped) (s : State) (tied : Tied setup past s) (near : ℕ) (passed : PassedIn past near datagram packet s)
+module _ (setup : Setup) (from : AddressParts) (datagram : List ℕ) (draws : Draws) (packet : Whole) (past : Past) (s : State) (tied : Tied setup past s) (near : ℕ) (passed : PassedIn past near datagram packet s)
     (c : Placed) (among : IsAmong c (chunks_of packet)) where
   abbrev call : Call
   call = Receive from datagram draws
@@ -356,7 +356,7 @@ began_with Responder NearClose j = refl
 began_with Responder FarLinger j = refl
 began_with Responder Closed j = refl
 
-module _ (setup : Setup) (call : Call) (is_tick : IsTick call) (past : List Stamped) (s : State) (tied : Tied setup past s) (near : ℕ) (row : Row) (there : get s.sessions near ≡ Some row)
+module _ (setup : Setup) (call : Call) (is_tick : IsTick call) (past : Past) (s : State) (tied : Tied setup past s) (near : ℕ) (row : Row) (there : get s.sessions near ≡ Some row)
     (known : IsKnown past s.moment near row.session) where
   abbrev session : SessionState
   session = row.session

@@ -10,7 +10,7 @@ use Rattle.glare_core.proofs.Tails.{same_end}
 use Rattle.endpoint_model.proofs.Apart.{receives_alone}
 use Rattle.endpoint_model.specs.declared.entry.Entry.{Entry}
 use Rattle.endpoint_model.specs.Event.{Setup, Call, Receive, ReceiveCall, receive_in}
-use Rattle.endpoint_laws.specs.Past.{Stamped, facts_of}
+use Rattle.endpoint_laws.specs.Past.{Past, facts_of}
 use Rattle.endpoint_laws.specs.Lawful.{FactLine}
 
 -- An attempt was held at the start, and so was a half-open session, or it was born of this datagram, which then goes under session ID 0.
@@ -73,14 +73,14 @@ came_at_first (Some r) start = λ peer. comes_first (sid_of r.datagram) start pe
 pub came_first : (call : Call) (start : List Fact) → CameSince call start start
 came_first call start = came_at_first (receive_in call) start
 
-brings : (setup : Setup) (now : ℕ) (past : List Stamped) (rest : List Entry) (r : ReceiveCall) (f : Fact) → FactLine setup now (Receive r.from r.datagram r.draws) past rest f → FactComes (sid_of r.datagram) f
+brings : (setup : Setup) (now : ℕ) (past : Past) (rest : List Entry) (r : ReceiveCall) (f : Fact) → FactLine setup now (Receive r.from r.datagram r.draws) past rest f → FactComes (sid_of r.datagram) f
 brings setup now past rest r (Started p n near ni) l = absurd l.by
 brings setup now past rest r (Born j) l = (l.by.0.reads.opens.id, l.id.some)
 brings setup now past rest r (Opened j) l = tt
 brings setup now past rest r (Confirmed p near) l = tt
 brings setup now past rest r (Ended p near why) l = tt
 
-pub came_more : (setup : Setup) (now : ℕ) (call : Call) (start : List Fact) (past : List Stamped) (rest : List Entry) (fact : Fact) → FactLine setup now call past rest fact →
+pub came_more : (setup : Setup) (now : ℕ) (call : Call) (start : List Fact) (past : Past) (rest : List Entry) (fact : Fact) → FactLine setup now call past rest fact →
     CameSince call start (facts_of past) → CameSince call start (fact ∷ facts_of past)
 came_more setup now call start past rest fact line came = in_receive (receive_in call) refl came
   where

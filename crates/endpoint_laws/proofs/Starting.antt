@@ -21,7 +21,7 @@ use Rattle.startup.specs.Attempts.{begin_spread, begun_attempt, after_begin}
 use Rattle.endpoint_model.specs.declared.config.Draws.{Draws}
 use Rattle.endpoint_model.specs.declared.entry.Entry.TheVariants.{Fact as FactEntry}
 use Rattle.endpoint_model.specs.Event.{Setup, Open, own_of}
-use Rattle.endpoint_laws.specs.Past.{Stamped, stamped, facts_of, ids_in_use}
+use Rattle.endpoint_laws.specs.Past.{Past, stamped, facts_of, ids_in_use}
 use Rattle.endpoint_laws.specs.Lawful.{IsFree}
 use Rattle.endpoint_model.specs.State.{State, Did, uses, is_used, is_free, free_from, full, with_startup}
 use Rattle.endpoint_model.specs.Sending.{sent_spread}
@@ -63,7 +63,7 @@ pub record IsNew (s : State) (near : ℕ) : Type 0 where
   pub attempt : get s.startup.attempts near ≡ None
   pub session : get s.sessions near ≡ None
 
-pub new_id : (setup : Setup) (past : List Stamped) (s : State) (word : ℕ) → Tied setup past s → setup.config.max_sessions ≤ 65536 → word < 2 ^ 32 → IsNew s (free_from s word)
+pub new_id : (setup : Setup) (past : Past) (s : State) (word : ℕ) → Tied setup past s → setup.config.max_sessions ≤ 65536 → word < 2 ^ 32 → IsNew s (free_from s word)
 new_id setup past s word t most small =
     let near : ℕ = free_from s word in
     let free : is_free s near ≡ true = free_from_is_free s word (omega (arith, most, t.within)) small in
@@ -77,7 +77,7 @@ new_id setup past s word t most small =
       session = none_there (get s.sessions near) both.1;
     }
 
-pub is_free_of : (setup : Setup) (past : List Stamped) (s : State) (near : ℕ) → Tied setup past s → IsNew s near → IsFree near past
+pub is_free_of : (setup : Setup) (past : Past) (s : State) (near : ℕ) → Tied setup past s → IsNew s near → IsFree near past
 is_free_of setup past s near t new = record { some = new.some; unused = sym (t.used near) ∙ new.unused }
 
 -- ---- room
@@ -85,7 +85,7 @@ is_free_of setup past s near t new = record { some = new.some; unused = sym (t.u
 pub full_none : (s : State) → full s ≡ None → nat_le s.config.max_sessions (uses s) ≡ false
 full_none s e = test_fails (nat_le s.config.max_sessions (uses s)) s.config.max_sessions e
 
-pub room_left : (setup : Setup) (past : List Stamped) (s : State) → Tied setup past s → full s ≡ None → uses s < setup.config.max_sessions
+pub room_left : (setup : Setup) (past : Past) (s : State) → Tied setup past s → full s ≡ None → uses s < setup.config.max_sessions
 room_left setup past s t none =
     let other : nat_le setup.config.max_sessions (uses s) ≡ false = ap (λ (m : ℕ). nat_le m (uses s)) (sym (ap (λ c. c.max_sessions) t.config)) ∙ full_none s none in
     below (uses s) setup.config.max_sessions other
@@ -94,7 +94,7 @@ room_left setup past s t none =
     below n m e = grind (arith, nat_tests)
 
 -- a peer has a row, or there is room for one
-pub row_left : (setup : Setup) (past : List Stamped) (s : State) (peer : List ℕ) → Tied setup past s → peers_full s.startup.ledger peer ≡ false →
+pub row_left : (setup : Setup) (past : Past) (s : State) (peer : List ℕ) → Tied setup past s → peers_full s.startup.ledger peer ≡ false →
     (knows s.startup.ledger peer ≡ true) ⊎ (row_count s.startup.ledger < setup.config.max_peers)
 row_left setup past s peer t e =
     room (knows s.startup.ledger peer) (row_count s.startup.ledger) setup.config.max_peers t.rows (ap (λ (m : ℕ). not (knows s.startup.ledger peer) && (row_count s.startup.ledger == m)) (sym t.max_peers) ∙ e)
@@ -136,13 +136,13 @@ may_start s peer candidates none =
       place = index_none (full s) all.1.1.0;
     }
 
-started_tied : (setup : Setup) (past : List Stamped) (s : State) (peer : List ℕ) (candidates : List AddressParts) (near : ℕ) (ni tag : List ℕ) → Tied setup past s → MayStart s peer → IsNew s near →
+started_tied : (setup : Setup) (past : Past) (s : State) (peer : List ℕ) (candidates : List AddressParts) (near : ℕ) (ni tag : List ℕ) → Tied setup past s → MayStart s peer → IsNew s near →
     Tied setup (stamped s.moment (FactEntry (started_fact s.startup.ledger peer near ni)) ∷ past) (with_startup s (after_begin s.startup peer candidates near ni tag s.moment))
 started_tied setup past s peer candidates near ni tag tied may new =
     let fact : Fact = started_fact s.startup.ledger peer near ni in
     let begun : AttemptState = begun_attempt s.startup peer candidates ni tag s.moment in
     let t : State = with_startup s (after_begin s.startup peer candidates near ni tag s.moment) in
-    let now : List Stamped = stamped s.moment (FactEntry fact) ∷ past in
+    let now : Past = stamped s.moment (FactEntry fact) ∷ past in
     let a = agrees_of setup past s tied in
     let at : IsAt near (Some begun) None s t = record {
       attempt = get_inserted s.startup.attempts near begun;
@@ -163,7 +163,7 @@ started_tied setup past s peer candidates near ni tag tied may new =
     (rows_after_either s.startup.ledger fact setup.config.max_peers peer refl tied.rows (row_left setup past s peer tied may.row)))
     (gave_started s.startup.ledger peer near ni may.start 0 (facts_of past) tied.account)
 
-pub goes_opening : (setup : Setup) (past : List Stamped) (s : State) (peer : List ℕ) (candidates : List AddressParts) (draws : Draws) → setup.config.max_sessions ≤ 65536 → draws.word < 2 ^ 32 →
+pub goes_opening : (setup : Setup) (past : Past) (s : State) (peer : List ℕ) (candidates : List AddressParts) (draws : Draws) → setup.config.max_sessions ≤ 65536 → draws.word < 2 ^ 32 →
     open_refusal s peer candidates ≡ None → Tied setup past s → Goes setup (Open peer candidates draws) past s (opening s peer candidates draws)
 goes_opening setup past s peer candidates draws most small none tied =
     let near : ℕ = free_from s draws.word in

@@ -8,7 +8,7 @@ use Rattle.glare_core.proofs.Views.{view_same, view_other}
 use Rattle.endpoint_model.specs.Views.{fact_in}
 use Rattle.endpoint_model.specs.declared.entry.Entry.{Entry}
 use Rattle.endpoint_model.specs.Event.{Setup, own_of, Event, moment_at}
-use Rattle.endpoint_laws.specs.Past.{Stamped, stamped, onto, facts_of, last_moment, past_of, fact_and, begun, with_event}
+use Rattle.endpoint_laws.specs.Past.{Past, stamped, onto, facts_of, last_moment, past_of, fact_and, begun, with_event}
 use Rattle.endpoint_laws.specs.Lawful.{EntriesLawful, LawfulFrom, nonces_of}
 use Rattle.endpoint_laws.specs.Laws.{IsCall, AreCalls}
 use Rattle.endpoint_laws.specs.History.{History, log_of, facts_at, TakesPart, nonces_in}
@@ -17,16 +17,16 @@ use Rattle.endpoint_model.proofs.Members.{tested}
 
 -- ---- a log and one event more
 
-pub past_more : (last : ℕ) (past : List Stamped) (log : List Event) (e : Event) → past_of last past (log ++ e ∷ []) ≡ with_event (moment_at (last_moment last log) e) e (past_of last past log)
+pub past_more : (last : ℕ) (past : Past) (log : List Event) (e : Event) → past_of last past (log ++ e ∷ []) ≡ with_event (moment_at (last_moment last log) e) e (past_of last past log)
 past_more last past [] e = refl
 past_more last past (x ∷ log) e = past_more (moment_at last x) (with_event (moment_at last x) x past) log e
 
 -- what is lawful before the last event, and that it is
-pub record LastLawful (setup : Setup) (last : ℕ) (past : List Stamped) (log : List Event) (e : Event) : Type 0 where
+pub record LastLawful (setup : Setup) (last : ℕ) (past : Past) (log : List Event) (e : Event) : Type 0 where
   pub before : LawfulFrom setup last past log
   pub here : EntriesLawful setup (moment_at (last_moment last log) e) e.call (begun (moment_at (last_moment last log) e) e ∷ past_of last past log) e.entries
 
-pub lawful_more : (setup : Setup) (last : ℕ) (past : List Stamped) (log : List Event) (e : Event) → LawfulFrom setup last past (log ++ e ∷ []) → LastLawful setup last past log e
+pub lawful_more : (setup : Setup) (last : ℕ) (past : Past) (log : List Event) (e : Event) → LawfulFrom setup last past (log ++ e ∷ []) → LastLawful setup last past log e
 lawful_more setup last past [] e l = record { before = tt; here = l.0 }
 lawful_more setup last past (x ∷ log) e l =
     let rest = lawful_more setup (moment_at last x) (with_event (moment_at last x) x past) log e l.1 in
@@ -46,7 +46,7 @@ facts_on : (own : List ℕ) (o : Option Fact) (before : List Step) (past : List 
 facts_on own None before past e = e
 facts_on own (Some fact) before past e = ap facts (view_same own (Did fact no_generation) before) ∙ ap (λ (fs : List Fact). fact ∷ fs) e
 
-facts_onto : (own : List ℕ) (m : ℕ) (entries : List Entry) (before : List Step) (past : List Stamped) → facts (view own before) ≡ facts_of past →
+facts_onto : (own : List ℕ) (m : ℕ) (entries : List Entry) (before : List Step) (past : Past) → facts (view own before) ≡ facts_of past →
     facts (view own (stated_onto own entries before)) ≡ facts_of (onto m entries past)
 facts_onto own m [] before past e = e
 facts_onto own m (entry ∷ rest) before past e =
@@ -93,7 +93,7 @@ nonces_with : (own : List ℕ) (o : Option Fact) (before : List Step) (past : Li
 nonces_with own None before past older e = e
 nonces_with own (Some fact) before past older e = nonce_more fact (nonces before) past older e
 
-nonces_onto : (own : List ℕ) (m : ℕ) (entries : List Entry) (before : List Step) (past : List Stamped) (older : List (List ℕ)) → nonces before ≡ nonces_of (facts_of past) ++ older →
+nonces_onto : (own : List ℕ) (m : ℕ) (entries : List Entry) (before : List Step) (past : Past) (older : List (List ℕ)) → nonces before ≡ nonces_of (facts_of past) ++ older →
     nonces (stated_onto own entries before) ≡ nonces_of (facts_of (onto m entries past)) ++ older
 nonces_onto own m [] before past older e = e
 nonces_onto own m (entry ∷ rest) before past older e =

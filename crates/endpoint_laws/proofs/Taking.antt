@@ -11,7 +11,7 @@ use Rattle.endpoint_model.specs.declared.place.Place.TheVariants.{Session}
 use Rattle.endpoint_model.specs.State.{State}
 use Rattle.endpoint_model.specs.Admission.{confirming}
 use Rattle.endpoint_model.specs.Effects.{chunk_did}
-use Rattle.endpoint_laws.specs.Past.{Stamped, onto}
+use Rattle.endpoint_laws.specs.Past.{Past, onto}
 use Rattle.endpoint_laws.specs.Contexts.{OpensUnder}
 use Rattle.endpoint_laws.specs.Taken.{Taken, count_in, IsNewAfter, PassesIn}
 use Rattle.endpoint_laws.proofs.Numbers.{room_after, refused_after, err_not_ok}
@@ -73,10 +73,10 @@ module _ (near : ℕ) (l : Lasting) (t : Taken) (taken : List Taken) (k : Counts
 
 -- ---- what confirms, and a chunk, leave a datagram that passed
 
-pub passed_confirming : (past : List Stamped) (near : ℕ) (datagram : List ℕ) (packet : Whole) (s : State) → PassedIn past near datagram packet s →
+pub passed_confirming : (past : Past) (near : ℕ) (datagram : List ℕ) (packet : Whole) (s : State) → PassedIn past near datagram packet s →
     PassedIn (onto s.moment (confirming s (Session near)).entries past) near datagram packet (confirming s (Session near)).state
 passed_confirming past near datagram packet s passed = passed_follows past near datagram packet s (confirming s (Session near)) (confirming_made follows_quiet s (Session near)) passed
 
-pub passed_chunk : (past : List Stamped) (near : ℕ) (datagram : List ℕ) (packet : Whole) (from : AddressParts) (draws : Draws) (walk : Walk) (s : State) (c : Placed) → AreSmall walk.cursor → PassedIn past near datagram packet s →
+pub passed_chunk : (past : Past) (near : ℕ) (datagram : List ℕ) (packet : Whole) (from : AddressParts) (draws : Draws) (walk : Walk) (s : State) (c : Placed) → AreSmall walk.cursor → PassedIn past near datagram packet s →
     PassedIn (onto s.moment (chunk_did (Session near) from draws walk s c).entries past) near datagram packet (chunk_did (Session near) from draws walk s c).state
 passed_chunk past near datagram packet from draws walk s c small passed = passed_follows past near datagram packet s (chunk_did (Session near) from draws walk s c) (session_chunk_made follows_law near from draws walk s c small) passed

@@ -23,7 +23,7 @@ use Rattle.session_core.specs.Closing.{is_held}
 use Rattle.endpoint_model.specs.declared.row.Row.{Row}
 use Rattle.endpoint_model.specs.declared.entry.Entry.TheVariants.{Fact as FactEntry}
 use Rattle.endpoint_model.specs.Event.{Setup, own_of}
-use Rattle.endpoint_laws.specs.Past.{Stamped, stamped, facts_of, ids_in_use, is_in_use, IsClosing, WasDone}
+use Rattle.endpoint_laws.specs.Past.{Past, stamped, facts_of, ids_in_use, is_in_use, IsClosing, WasDone}
 use Rattle.endpoint_laws.specs.OfTheLog.{WasThing}
 use Rattle.endpoint_model.specs.State.{State, fresh, uses, is_used}
 use Rattle.endpoint_model.proofs.Members.{IsOnce}
@@ -56,22 +56,22 @@ StageFits Responder FarLinger = Unit {0}
 StageFits Responder Closed = ⊥
 
 -- Each of these was done by this moment.
-abbrev pub AreBy : ℕ → List Stamped → Type 0
+abbrev pub AreBy : ℕ → Past → Type 0
 AreBy moment [] = Unit {0}
 AreBy moment (x ∷ past) = (x.moment ≤ moment) × AreBy moment past
 
-pub by_later : (moment later : ℕ) (past : List Stamped) → moment ≤ later → AreBy moment past → AreBy later past
+pub by_later : (moment later : ℕ) (past : Past) → moment ≤ later → AreBy moment past → AreBy later past
 by_later moment later [] up are = tt
 by_later moment later (x ∷ past) up are = (omega (arith, up, are.0), by_later moment later past up are.1)
 
 -- what closes was closed by then
-pub closing_by : (moment near : ℕ) (thing : Held) (at : ℕ) (past : List Stamped) → AreBy moment past → IsClosing near thing at past → at ≤ moment
+pub closing_by : (moment near : ℕ) (thing : Held) (at : ℕ) (past : Past) → AreBy moment past → IsClosing near thing at past → at ≤ moment
 closing_by moment near thing at [] are c = absurd c
 closing_by moment near thing at (x ∷ past) are (inl b) = omega (arith, are.0, b.1)
 closing_by moment near thing at (x ∷ past) are (inr p) = closing_by moment near thing at past are.1 p.1
 
 -- The session is closing, and was closed no later than its stage began.
-pub record IsClosed (past : List Stamped) (near : ℕ) (session : SessionState) : Type 0 where
+pub record IsClosed (past : Past) (near : ℕ) (session : SessionState) : Type 0 where
   pub thing : Held
   pub at : ℕ
   pub was : WasThing session.role session.joined thing
@@ -83,7 +83,7 @@ abbrev pub sealed_once : SessionState → SessionState
 sealed_once session = record session { sealed = session.sealed + 1 }
 
 -- The session under this near id is one of this end, and the ledger holds it, or it is closing.
-pub record SessionTied (setup : Setup) (past : List Stamped) (ledger : Ledger) (near : ℕ) (session : SessionState) : Type 0 where
+pub record SessionTied (setup : Setup) (past : Past) (ledger : Ledger) (near : ℕ) (session : SessionState) : Type 0 where
   pub id : session.joined.near ≡ near
   pub own : session.own ≡ own_of setup
   pub secret : session.secret ≡ setup.secret
@@ -102,7 +102,7 @@ IsClosedThing None thing = ⊥
 IsClosedThing (Some row) thing = (is_held row.session.stage ≡ false) × WasThing row.session.role row.session.joined thing
 
 -- The state agrees with what was done.
-pub record Tied (setup : Setup) (past : List Stamped) (s : State) : Type 0 where
+pub record Tied (setup : Setup) (past : Past) (s : State) : Type 0 where
   -- what was given at the beginning
   pub config : s.config ≡ setup.config
   pub cert : s.startup.cert ≡ setup.cert

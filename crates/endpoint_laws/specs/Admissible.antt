@@ -17,7 +17,7 @@ use Rattle.glare_core.specs.declared.facts.Held.{Held}
 use Rattle.glare_core.specs.Standing.{held, seen, peers_in}
 use Rattle.glare_core.specs.Things.{IsAttempt}
 use Rattle.endpoint_model.specs.Event.{Setup, own_of}
-use Rattle.endpoint_laws.specs.Past.{Stamped, facts_of, ids_in_use}
+use Rattle.endpoint_laws.specs.Past.{Past, facts_of, ids_in_use}
 use Rattle.endpoint_laws.specs.Contexts.{ReadsUnder}
 use Rattle.endpoint_model.specs.Keying.{IsFirst, IsSigned, chunks_of, initiator_part}
 
@@ -31,7 +31,7 @@ pub record Offer : Type 0 where
 
 -- The datagram opens in the startup context under session ID 0 with the startup mode, its first
 -- initiator's keying makes this offer, and what the end has done lets a session be born of it.
-pub record Admissible (setup : Setup) (past : List Stamped) (now : ℕ) (from : AddressParts)
+pub record Admissible (setup : Setup) (past : Past) (now : ℕ) (from : AddressParts)
     (datagram : List ℕ) (offer : Offer) : Type 0 where
   -- the chunk
   pub packet : Whole

@@ -24,7 +24,7 @@ use Rattle.endpoint_model.specs.declared.entry.Entry.{Entry}
 use Rattle.endpoint_model.specs.declared.entry.Entry.TheVariants.{Fact as FactEntry, Out}
 use Rattle.endpoint_model.specs.Views.{Sending, out_in}
 use Rattle.endpoint_model.specs.Event.{Setup, own_of, Receive, Answer, Began, Done, NotOpened, Refused, NotAdded, Stopped, OutOfMemory, Event, moment_at}
-use Rattle.endpoint_laws.specs.Past.{Stamped, facts_of, past_of, last_moment, out_done}
+use Rattle.endpoint_laws.specs.Past.{Past, facts_of, past_of, last_moment, out_done}
 use Rattle.endpoint_laws.specs.Contexts.{session_context}
 use Rattle.endpoint_model.specs.Keying.{IsFirst, chunks_of}
 use Rattle.endpoint_laws.specs.Admissible.{Admissible, Offer}
@@ -101,7 +101,7 @@ abbrev pub outs_in : List Entry → ℕ
 outs_in [] = 0
 outs_in (entry ∷ rest) = out_count (out_in entry) + outs_in rest
 
-abbrev pub outs_of : List Stamped → ℕ
+abbrev pub outs_of : Past → ℕ
 outs_of [] = 0
 outs_of (s ∷ earlier) = out_count (out_done s.what) + outs_of earlier
 

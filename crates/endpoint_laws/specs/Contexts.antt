@@ -12,7 +12,7 @@ use Rattle.glare_core.specs.declared.facts.Held.TheVariants.{Opening, HalfOpen, 
 use Rattle.glare_core.specs.Standing.{held}
 use Rattle.glare_core.specs.Things.{near_of}
 use Rattle.glare_core.specs.Tells.{Values, as_initiator, as_responder}
-use Rattle.endpoint_laws.specs.Past.{Stamped, facts_of, IsClosing}
+use Rattle.endpoint_laws.specs.Past.{Past, facts_of, IsClosing}
 
 -- the context of a session, in one direction
 abbrev pub session_context : Values → Bool → Context
@@ -41,13 +41,13 @@ pub record HeldUnder (facts : List Fact) (near : ℕ) (thing : Held) : Type 0 wh
   pub id : near_of thing ≡ near
 
 -- This is held or closing under this session ID.
-abbrev pub StandsUnder : List Stamped → ℕ → Held → Type 0
+abbrev pub StandsUnder : Past → ℕ → Held → Type 0
 StandsUnder past near thing = HeldUnder (facts_of past) near thing ⊎
     ((at : ℕ) × IsClosing near thing at past)
 
 -- The context of a session ID at an end that did this: startup for 0 and for an attempt's, and a
 -- session's own for that of a session that is held or closing.
-abbrev pub ContextOf : List ℕ → List Stamped → ℕ → Context → Type 0
+abbrev pub ContextOf : List ℕ → Past → ℕ → Context → Type 0
 ContextOf own past sid context =
     ((sid ≡ 0) × (context ≡ Startup)) ⊎ ((thing : Held) × StandsUnder past sid thing ×
     (context ≡ inward own thing))

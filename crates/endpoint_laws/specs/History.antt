@@ -7,7 +7,7 @@ use Rattle.glare_core.specs.Told.{AllDifferent}
 use Rattle.endpoint_model.specs.declared.entry.Entry.{Entry}
 use Rattle.endpoint_model.specs.Views.{Sending, out_in}
 use Rattle.endpoint_model.specs.Event.{Setup, own_of, Call, ReceiveCall, receive_in, Event}
-use Rattle.endpoint_laws.specs.Past.{Stamped, facts_of, past_of}
+use Rattle.endpoint_laws.specs.Past.{Past, facts_of, past_of}
 use Rattle.endpoint_laws.specs.Contexts.{ContextOf, OpensUnder}
 use Rattle.endpoint_laws.specs.Lawful.{IsLawful, nonces_of}
 
@@ -27,7 +27,7 @@ log_of who (h ∷ earlier) = if h.who == who then log_of who earlier ++ h.event 
     else log_of who earlier
 
 -- what an end did, and the facts that it stated, the newest first
-abbrev pub past_at : ℕ → History → List Stamped
+abbrev pub past_at : ℕ → History → Past
 past_at who history = past_of 0 [] (log_of who history)
 
 abbrev pub facts_at : ℕ → History → List Fact
@@ -55,7 +55,7 @@ WasSent sent context (h ∷ earlier) = HasOut sent context h.event.entries ⊎
 
 -- A datagram that opens in the context of its session ID, at the end that takes it, was sent in
 -- that context.
-abbrev pub IsHonestReceive : Setup → List Stamped → History → Option ReceiveCall → Type 0
+abbrev pub IsHonestReceive : Setup → Past → History → Option ReceiveCall → Type 0
 IsHonestReceive setup past earlier None = Unit {0}
 IsHonestReceive setup past earlier (Some r) =
     (context : Context) (plain : List ℕ) →
@@ -63,7 +63,7 @@ IsHonestReceive setup past earlier (Some r) =
     OpensUnder setup.secret context (sid_of r.datagram) r.datagram plain →
     WasSent r.datagram context earlier
 
-abbrev pub IsHonestCall : Setup → List Stamped → History → Call → Type 0
+abbrev pub IsHonestCall : Setup → Past → History → Call → Type 0
 IsHonestCall setup past earlier call = IsHonestReceive setup past earlier (receive_in call)
 
 abbrev pub IsHonest : (ℕ → Setup) → History → Type 0

@@ -24,14 +24,14 @@ use Rattle.endpoint_model.specs.declared.entry.Entry.TheVariants.{Fact as FactEn
 use Rattle.endpoint_model.specs.Views.{Sending, fact_in, out_in, closed_in}
 use Rattle.endpoint_model.specs.declared.config.Draws.{Draws}
 use Rattle.endpoint_model.specs.Event.{Setup, own_of, Call, OpenCall, ReceiveCall, open_in, cancel_in, close_in, receive_in, tick_in, Event, moment_at}
-use Rattle.endpoint_laws.specs.Past.{Stamped, begun, stamped, with_event, out_done, facts_of, is_in_use, IsClosing, WasDone}
+use Rattle.endpoint_laws.specs.Past.{Past, begun, stamped, with_event, out_done, facts_of, is_in_use, IsClosing, WasDone}
 use Rattle.endpoint_laws.specs.Contexts.{ReadsUnder, StandsUnder, inward, outward, OpensUnder}
 use Rattle.endpoint_laws.specs.Taken.{taken_since, TookAt, TakesChunkIn}
 use Rattle.endpoint_model.specs.Keying.{IsSigned, IsAmong, KeyingsAre, chunks_of, initiator_part, responder_part}
 use Rattle.endpoint_laws.specs.Admissible.{Admissible, Offer}
 
 -- The session ID isn't 0, and none that is in use.
-pub record IsFree (near : ℕ) (past : List Stamped) : Type 0 where
+pub record IsFree (near : ℕ) (past : Past) : Type 0 where
   pub some : near ≢ 0
   pub unused : is_in_use near past ≡ false
 
@@ -68,12 +68,12 @@ IsTick call = TicksIn (tick_in call)
 
 -- The call takes a datagram with an admissible keying that makes this offer, and the nonce is of
 -- its draws.
-abbrev pub BearsIn : Setup → List Stamped → ℕ → Option ReceiveCall → Offer → List ℕ → Type 0
+abbrev pub BearsIn : Setup → Past → ℕ → Option ReceiveCall → Offer → List ℕ → Type 0
 BearsIn setup past now None offer nr = ⊥
 BearsIn setup past now (Some r) offer nr =
     Admissible setup past now r.from r.datagram offer × (nr ≡ r.draws.nonce)
 
-abbrev pub Bears : Setup → List Stamped → ℕ → Call → Offer → List ℕ → Type 0
+abbrev pub Bears : Setup → Past → ℕ → Call → Offer → List ℕ → Type 0
 Bears setup past now call offer nr = BearsIn setup past now (receive_in call) offer nr
 
 -- The datagram opens in the startup context under the attempt's session ID, and a responder's
@@ -108,20 +108,20 @@ TakesUnder setup call near thing = TakesUnderIn setup (receive_in call) near thi
 
 -- ---- the lines of facts
 
-pub record StartedLine (call : Call) (past : List Stamped) (peer : List ℕ) (near : ℕ)
+pub record StartedLine (call : Call) (past : Past) (peer : List ℕ) (near : ℕ)
     (ni : List ℕ) : Type 0 where
   pub by : Opens call peer ni
   pub id : IsFree near past
 
 -- What was done before a Born, and before the Ended directly before it that makes way for it, if
 -- there is one.
-abbrev pub WayMade : ℕ → List Stamped → List Stamped → List ℕ → Type 0
+abbrev pub WayMade : ℕ → Past → Past → List ℕ → Type 0
 WayMade now past before peer = (past ≡ before) ⊎ ((near : ℕ) × (why : Why) × IsForBorn why ×
     (past ≡ stamped now (FactEntry (Ended peer near why)) ∷ before))
 
-pub record BornLine (setup : Setup) (now : ℕ) (call : Call) (past : List Stamped) (j : Joined)
+pub record BornLine (setup : Setup) (now : ℕ) (call : Call) (past : Past) (j : Joined)
     : Type 0 where
-  pub before : List Stamped
+  pub before : Past
   pub way : WayMade now past before j.peer
   pub by : Bears setup before now call (record { peer = j.peer; n = j.n; ni = j.ni; far = j.far })
       j.nr
@@ -138,7 +138,7 @@ abbrev pub lifetime : ℕ
 lifetime = 95000
 
 -- The attempt with this session ID was started at least so long ago.
-pub record IsOverdue (now : ℕ) (past : List Stamped) (peer : List ℕ) (near : ℕ) : Type 0 where
+pub record IsOverdue (now : ℕ) (past : Past) (peer : List ℕ) (near : ℕ) : Type 0 where
   pub n : ℕ
   pub ni : List ℕ
   pub is_held : held peer (facts_of past) ≡ Some (Opening n near ni)
@@ -164,7 +164,7 @@ BornFollows peer [] = ⊥
 BornFollows peer (entry ∷ rest) = IsBornIn peer (fact_in entry)
 
 -- The half-open session with this peer was born at least 20,000 ms ago.
-pub record IsUnconfirmed (now : ℕ) (past : List Stamped) (peer : List ℕ) : Type 0 where
+pub record IsUnconfirmed (now : ℕ) (past : Past) (peer : List ℕ) : Type 0 where
   pub j : Joined
   pub is_held : held peer (facts_of past) ≡ Some (HalfOpen j)
   pub birth : ℕ
@@ -172,7 +172,7 @@ pub record IsUnconfirmed (now : ℕ) (past : List Stamped) (peer : List ℕ) : T
   pub over : birth + 20000 ≤ now
 
 -- The session is held, and the call takes a datagram in it that has a close.
-pub record FarLine (setup : Setup) (call : Call) (past : List Stamped) (peer : List ℕ) (near : ℕ)
+pub record FarLine (setup : Setup) (call : Call) (past : Past) (peer : List ℕ) (near : ℕ)
     : Type 0 where
   pub thing : Held
   pub is_held : held peer (facts_of past) ≡ Some thing
@@ -186,7 +186,7 @@ BeganWith (KeptAsResponder j) fact = fact ≡ Born j
 BeganWith (KeptAsInitiator j) fact = fact ≡ Opened j
 
 -- The session began at least 120,000 ms ago, and took nothing since then.
-pub record IsIdle (setup : Setup) (now : ℕ) (past : List Stamped) (peer : List ℕ) (near : ℕ)
+pub record IsIdle (setup : Setup) (now : ℕ) (past : Past) (peer : List ℕ) (near : ℕ)
     : Type 0 where
   pub thing : Held
   pub is_held : held peer (facts_of past) ≡ Some thing
@@ -198,7 +198,7 @@ pub record IsIdle (setup : Setup) (now : ℕ) (past : List Stamped) (peer : List
   pub quiet : (moment : ℕ) → TookAt setup thing near moment (taken_since near past) →
       moment + 120000 ≤ now
 
-abbrev pub EndedLine : Setup → ℕ → Call → List Stamped → List Entry → List ℕ → ℕ → Why → Type 0
+abbrev pub EndedLine : Setup → ℕ → Call → Past → List Entry → List ℕ → ℕ → Why → Type 0
 EndedLine setup now call past rest peer near Cancelled = CancelledLine call (facts_of past) peer
 EndedLine setup now call past rest peer near Expired = IsTick call × IsOverdue now past peer near
 EndedLine setup now call past rest peer near Glare = BornFollows peer rest
@@ -209,7 +209,7 @@ EndedLine setup now call past rest peer near Far = FarLine setup call past peer 
 EndedLine setup now call past rest peer near Idle = IsTick call × IsIdle setup now past peer near
 
 -- What a fact asks of its event, beside what the facts before it ask.
-abbrev pub FactLine : Setup → ℕ → Call → List Stamped → List Entry → Fact → Type 0
+abbrev pub FactLine : Setup → ℕ → Call → Past → List Entry → Fact → Type 0
 FactLine setup now call past rest (Started peer n near ni) =
     StartedLine call past peer near ni
 FactLine setup now call past rest (Born j) = BornLine setup now call past j
@@ -236,7 +236,7 @@ IsNumbered context number (Some sent) = (sent.context ≡ context) ×
     (number_of (drop 4 sent.datagram) ≡ number)
 
 -- An earlier datagram went out in this context with this number.
-abbrev pub WasNumbered : Context → List ℕ → List Stamped → Type 0
+abbrev pub WasNumbered : Context → List ℕ → Past → Type 0
 WasNumbered context number [] = ⊥
 WasNumbered context number (s ∷ earlier) = IsNumbered context number (out_done s.what) ⊎
     WasNumbered context number earlier
@@ -291,14 +291,14 @@ IsFarOf (KeptAsInitiator j) sid = sid ≡ j.far
 
 -- A datagram in a session's context goes under the far ID of a session that is held or closing, in
 -- the direction away from this end.
-abbrev pub InSession : Setup → List Stamped → ℕ → Context → Type 0
+abbrev pub InSession : Setup → Past → ℕ → Context → Type 0
 InSession setup past sid Startup = Unit {0}
 InSession setup past sid (Session ni nr fp_i fp_r sid_i sid_r to_responder) =
     (thing : Held) × (near : ℕ) × StandsUnder past near thing ×
     (Session ni nr fp_i fp_r sid_i sid_r to_responder ≡ outward (own_of setup) thing) ×
     IsFarOf thing sid
 
-pub record OutLine (setup : Setup) (past : List Stamped) (sent : List ℕ) (context : Context)
+pub record OutLine (setup : Setup) (past : Past) (sent : List ℕ) (context : Context)
     : Type 0 where
   pub sid : ℕ
   pub number : List ℕ
@@ -316,7 +316,7 @@ pub record OutLine (setup : Setup) (past : List Stamped) (sent : List ℕ) (cont
 
 -- The session under this session ID is closing; the call takes a datagram in it that has the answer
 -- to a close, or time has gone on for 19,000 ms since it was closed.
-pub record ClosedLine (setup : Setup) (now : ℕ) (call : Call) (past : List Stamped) (near : ℕ)
+pub record ClosedLine (setup : Setup) (now : ℕ) (call : Call) (past : Past) (near : ℕ)
     : Type 0 where
   pub thing : Held
   pub at : ℕ
@@ -328,7 +328,7 @@ pub record ClosedLine (setup : Setup) (now : ℕ) (call : Call) (past : List Sta
 
 -- the line of an entry, which is a fact, a datagram that goes out, the end of a closing, or none of
 -- these
-abbrev pub LineOf : Setup → ℕ → Call → List Stamped → List Entry → Option Fact → Option Sending →
+abbrev pub LineOf : Setup → ℕ → Call → Past → List Entry → Option Fact → Option Sending →
     Option ℕ → Type 0
 LineOf setup now call past rest (Some fact) sent over =
     Stands (own_of setup) (count (facts_of past)) (facts_of past) fact ×
@@ -338,18 +338,18 @@ LineOf setup now call past rest None (Some sent) over =
 LineOf setup now call past rest None None (Some near) = ClosedLine setup now call past near
 LineOf setup now call past rest None None None = Unit {0}
 
-abbrev pub Line : Setup → ℕ → Call → List Stamped → List Entry → Entry → Type 0
+abbrev pub Line : Setup → ℕ → Call → Past → List Entry → Entry → Type 0
 Line setup now call past rest entry =
     LineOf setup now call past rest (fact_in entry) (out_in entry) (closed_in entry)
 
 -- the entries of an event, in order
-abbrev pub EntriesLawful : Setup → ℕ → Call → List Stamped → List Entry → Type 0
+abbrev pub EntriesLawful : Setup → ℕ → Call → Past → List Entry → Type 0
 EntriesLawful setup now call past [] = Unit {0}
 EntriesLawful setup now call past (entry ∷ rest) = Line setup now call past rest entry ×
     EntriesLawful setup now call (stamped now entry ∷ past) rest
 
 -- the events of a log, the oldest first, after what was done before
-abbrev pub LawfulFrom : Setup → ℕ → List Stamped → List Event → Type 0
+abbrev pub LawfulFrom : Setup → ℕ → Past → List Event → Type 0
 LawfulFrom setup last past [] = Unit {0}
 LawfulFrom setup last past (e ∷ events) =
     EntriesLawful setup (moment_at last e) e.call (begun (moment_at last e) e ∷ past) e.entries ×

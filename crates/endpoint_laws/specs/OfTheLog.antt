@@ -19,7 +19,7 @@ use Rattle.session_core.specs.Session.{SessionState}
 use Rattle.endpoint_model.specs.declared.row.Row.{Row}
 use Rattle.endpoint_model.specs.declared.entry.Entry.TheVariants.{Fact as FactEntry}
 use Rattle.endpoint_model.specs.Event.{Setup, own_of, Event}
-use Rattle.endpoint_laws.specs.Past.{Stamped, stamped, facts_of, ids_in_use, is_in_use, IsClosing, WasDone, past_of, last_moment}
+use Rattle.endpoint_laws.specs.Past.{Past, stamped, facts_of, ids_in_use, is_in_use, IsClosing, WasDone, past_of, last_moment}
 use Rattle.endpoint_model.specs.State.{State, uses, is_used}
 use Rattle.endpoint_model.specs.Log.{StandsFor}
 use Rattle.endpoint_laws.specs.Laws.{IsSetup, AreCalls}
@@ -40,7 +40,7 @@ IsThing Responder FarLinger j thing = ⊥
 IsThing Responder Closed j thing = ⊥
 
 -- The attempt under this session ID is held with its peer, and was started at its moment.
-pub record AttemptIsHeld (past : List Stamped) (near : ℕ) (a : AttemptState) : Type 0 where
+pub record AttemptIsHeld (past : Past) (near : ℕ) (a : AttemptState) : Type 0 where
   pub is_held : held a.peer (facts_of past) ≡ Some (AttemptHeld a.n near a.ni)
   pub started : WasDone (stamped a.start (FactEntry (Started a.peer a.n near a.ni))) past
 
@@ -66,7 +66,7 @@ IsClosingStage FarLinger = Unit {0}
 IsClosingStage Closed = ⊥
 
 -- A session with this role and stage is held, or it is closing.
-abbrev pub SessionStands : List Stamped → ℕ → SessionState → Type 0
+abbrev pub SessionStands : Past → ℕ → SessionState → Type 0
 SessionStands past near session =
     ((thing : Held) × IsThing session.role session.stage session.joined thing ×
     (held session.joined.peer (facts_of past) ≡ Some thing)) ⊎
@@ -74,7 +74,7 @@ SessionStands past near session =
     WasThing session.role session.joined thing × IsClosing near thing at past))
 
 -- The session under this session ID is held with its peer, in its stage, or closing.
-pub record SessionIsOfTheLog (setup : Setup) (past : List Stamped) (near : ℕ)
+pub record SessionIsOfTheLog (setup : Setup) (past : Past) (near : ℕ)
     (session : SessionState) : Type 0 where
   pub stands : SessionStands past near session
   pub id : session.joined.near ≡ near
@@ -93,7 +93,7 @@ pub record ClosingIsThere (s : State) (near : ℕ) (thing : Held) : Type 0 where
   pub stage : IsClosingStage row.session.stage
   pub is : WasThing row.session.role row.session.joined thing
 
-pub record IsOfTheLog (setup : Setup) (s : State) (now : ℕ) (past : List Stamped) : Type 0 where
+pub record IsOfTheLog (setup : Setup) (s : State) (now : ℕ) (past : Past) : Type 0 where
   pub moment : s.moment ≡ now
   -- the session IDs in use, and how many there are
   pub ids : (near : ℕ) → is_used s near ≡ is_in_use near past

@@ -12,7 +12,7 @@ use Rattle.endpoint_model.specs.declared.row.Row.{Row}
 use Rattle.endpoint_model.specs.declared.place.Place.{Place}
 use Rattle.endpoint_model.specs.declared.place.Place.TheVariants.{Startup, Attempt, Session}
 use Rattle.endpoint_model.specs.Event.{Setup, Event, own_of}
-use Rattle.endpoint_laws.specs.Past.{Stamped, past_of}
+use Rattle.endpoint_laws.specs.Past.{Past, past_of}
 use Rattle.endpoint_laws.specs.Contexts.{ContextOf, OpensUnder}
 use Rattle.endpoint_model.specs.State.{State}
 use Rattle.endpoint_model.specs.Admission.{place_of, startup_keys}
@@ -55,7 +55,7 @@ opens_in s datagram = if nat_lt (length datagram) 36 then None
 
 -- At an end that did this the context is that of the datagram's session ID, and the
 -- datagram opens in it.
-pub record OpensAt (setup : Setup) (past : List Stamped) (datagram : List ℕ) (context : Context)
+pub record OpensAt (setup : Setup) (past : Past) (datagram : List ℕ) (context : Context)
     : Type 0 where
   pub named : ContextOf (own_of setup) past (sid_of datagram) context
   pub plain : List ℕ

@@ -21,6 +21,10 @@ pub record Stamped : Type 0 where
   pub moment : ℕ
   pub what : Happening
 
+-- the past itself, the newest first
+abbrev pub Past : Type 0
+Past = List Stamped
+
 abbrev pub begun : ℕ → Event → Stamped
 begun moment e = record { moment = moment; what = OfEvent e }
 
@@ -28,12 +32,12 @@ abbrev pub stamped : ℕ → Entry → Stamped
 stamped moment entry = record { moment = moment; what = OfEntry entry }
 
 -- entries of one event, in their order, on top of what was done before
-abbrev pub onto : ℕ → List Entry → List Stamped → List Stamped
+abbrev pub onto : ℕ → List Entry → Past → Past
 onto moment [] past = past
 onto moment (entry ∷ rest) past = onto moment rest (stamped moment entry ∷ past)
 
 -- an event and its entries, on top of what was done before
-abbrev pub with_event : ℕ → Event → List Stamped → List Stamped
+abbrev pub with_event : ℕ → Event → Past → Past
 with_event moment e past = onto moment e.entries (begun moment e ∷ past)
 
 abbrev pub fact_done : Happening → Option Fact
@@ -54,7 +58,7 @@ fact_and None facts = facts
 fact_and (Some fact) facts = fact ∷ facts
 
 -- the facts, the newest first
-abbrev pub facts_of : List Stamped → List Fact
+abbrev pub facts_of : Past → List Fact
 facts_of [] = []
 facts_of (s ∷ earlier) = fact_and (fact_done s.what) (facts_of earlier)
 
@@ -88,7 +92,7 @@ GoesOn near (Some id) = id ≢ near
 
 -- The session under this session ID is closing: this thing was closed at this moment, and its
 -- closing isn't over since.
-abbrev pub IsClosing : ℕ → Held → ℕ → List Stamped → Type 0
+abbrev pub IsClosing : ℕ → Held → ℕ → Past → Type 0
 IsClosing near thing at [] = ⊥
 IsClosing near thing at (s ∷ earlier) =
     (Closes near thing (facts_of earlier) (fact_done s.what) × (s.moment ≡ at)) ⊎
@@ -113,17 +117,17 @@ ids_left (Some near) ids = filter (λ id. not (id == near)) ids
 
 -- The session IDs that are in use: those of the things that are held or closing, from their Started
 -- or Born until their Ended or Closed.
-abbrev pub ids_in_use : List Stamped → List ℕ
+abbrev pub ids_in_use : Past → List ℕ
 ids_in_use [] = []
 ids_in_use (s ∷ earlier) =
     ids_left (closed_done s.what) (ids_after (fact_done s.what) (ids_in_use earlier))
 
 -- whether a session ID is in use
-abbrev pub is_in_use : ℕ → List Stamped → Bool
+abbrev pub is_in_use : ℕ → Past → Bool
 is_in_use near past = list_any (λ id. id == near) (ids_in_use past)
 
 -- This was done before.
-abbrev pub WasDone : Stamped → List Stamped → Type 0
+abbrev pub WasDone : Stamped → Past → Type 0
 WasDone done [] = ⊥
 WasDone done (s ∷ earlier) = (done ≡ s) ⊎ WasDone done earlier
 
@@ -132,7 +136,7 @@ abbrev pub last_moment : ℕ → List Event → ℕ
 last_moment last [] = last
 last_moment last (e ∷ events) = last_moment (moment_at last e) events
 
-abbrev pub past_of : ℕ → List Stamped → List Event → List Stamped
+abbrev pub past_of : ℕ → Past → List Event → Past
 past_of last past [] = past
 past_of last past (e ∷ events) =
     past_of (moment_at last e) (with_event (moment_at last e) e past) events

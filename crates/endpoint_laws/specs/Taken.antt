@@ -13,7 +13,7 @@ use Rattle.glare_core.specs.declared.facts.Held.TheVariants.{Opening, HalfOpen, 
 use Rattle.session_core.specs.Hearing.{count_of}
 use Rattle.endpoint_model.specs.Event.{Setup, own_of, ReceiveCall, receive_in, Answer, Began, Done, NotOpened, Refused, NotAdded, Stopped, OutOfMemory}
 use Rattle.endpoint_model.specs.Keying.{IsAmong, chunks_of}
-use Rattle.endpoint_laws.specs.Past.{Stamped, Happening, OfEvent, OfEntry, fact_done}
+use Rattle.endpoint_laws.specs.Past.{Past, Happening, OfEvent, OfEntry, fact_done}
 use Rattle.endpoint_laws.specs.Contexts.{inward, OpensUnder, ReadsUnder}
 
 -- ---- the datagrams since a session began
@@ -58,7 +58,7 @@ taken_and moment (Some datagram) earlier =
     record { moment = moment; datagram = datagram } ∷ earlier
 
 -- the datagrams that calls were given since that session began, the newest first
-abbrev pub taken_since : ℕ → List Stamped → List Taken
+abbrev pub taken_since : ℕ → Past → List Taken
 taken_since near [] = []
 taken_since near (s ∷ earlier) = if begins near (fact_done s.what) then []
     else taken_and s.moment (datagram_in s.what) (taken_since near earlier)
@@ -113,7 +113,7 @@ TookAt setup thing near moment taken =
 -- ---- the datagram of a call
 
 -- The session takes the datagram of this call, and among its chunks is this one.
-pub record TakesChunkOf (setup : Setup) (past : List Stamped) (thing : Held) (near : ℕ)
+pub record TakesChunkOf (setup : Setup) (past : Past) (thing : Held) (near : ℕ)
     (r : ReceiveCall) (chunk : Chunk) : Type 0 where
   pub moment : ℕ
   pub before : List Taken
@@ -123,6 +123,6 @@ pub record TakesChunkOf (setup : Setup) (past : List Stamped) (thing : Held) (ne
   pub among : IsAmong placed (chunks_of passes.packet)
   pub spells : Spells chunk placed.kind placed.payload
 
-abbrev pub TakesChunkIn : Setup → List Stamped → Held → ℕ → Option ReceiveCall → Chunk → Type 0
+abbrev pub TakesChunkIn : Setup → Past → Held → ℕ → Option ReceiveCall → Chunk → Type 0
 TakesChunkIn setup past thing near None chunk = ⊥
 TakesChunkIn setup past thing near (Some r) chunk = TakesChunkOf setup past thing near r chunk
