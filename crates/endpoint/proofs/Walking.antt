@@ -1,5 +1,5 @@
 -- The chunks of a datagram that was taken, and the test after them.
-use Rattle.std.proofs.Common.{ℕ, ◌≡◌, ◌+◌, ◌<◌, ◌⊎◌, inl, List, [], ◌∷◌, length, take, Bool, true, false, if◌then◌else◌, Result, Ok, Err, OnOk, IfErr, refl, sym, ap, ◌∙◌, subst, arith}
+use Rattle.std.proofs.Common.{ℕ, ◌≡◌, ◌+◌, inl, List, [], ◌∷◌, length, take, Bool, true, false, if◌then◌else◌, Result, Ok, Err, OnOk, IfErr, refl, sym, ap, ◌∙◌, subst, arith}
 use Rattle.rtmfp_forms.specs.Address.{AddressParts}
 use Rattle.rtmfp_packet.specs.Walk.{Placed}
 use Rattle.rtmfp_packet.specs.Whole.{Whole}
@@ -14,14 +14,10 @@ use Rattle.endpoint_model.specs.Admission.{confirming, counted_at, timed_at, tak
 use Rattle.endpoint_model.specs.Keying.{chunks_of}
 use Rattle.endpoint_model.specs.InSessions.{tested}
 use Rattle.endpoint_model.specs.FlowChunks.{acked, unowed}
-use Rattle.endpoint_model.specs.Effects.{chunks_did, outset, most_acks, received, part_received}
-use Rattle.endpoint_model.specs.Log.{StopsSo, WantsMore}
+use Rattle.endpoint_model.specs.Effects.{chunks_did, outset, most_acks, gone_through_and_acked, received, part_received}
+use Rattle.endpoint_model.specs.Log.{StopsSo}
 use Rattle.endpoint_model.proofs.Steps.{IsGone, done_nothing, joined, take_whole, then_then}
-use Rattle.endpoint.specs.Walks.{acked_and_tested, taken_upto, walked_and_tested, walked_and_acked, StopsIn}
-
--- four things in a row, by the first and what comes after it
-in_a_row : (d : Did) (f g h : State → Did) → then_do (then_do (then_do d f) g) h ≡ then_do d (λ t. then_do (f t) (λ u. then_do (g u) h))
-in_a_row d f g h = then_then (then_do d f) g h ∙ then_then d f (λ u. then_do (g u) h)
+use Rattle.endpoint.specs.Walks.{taken_upto, walked_and_tested, walked_and_acked, StopsAt, StopsIn}
 
 -- ---- a packet that was taken
 
@@ -29,35 +25,30 @@ module _ (s : State) (place : Place) (part : List ℕ) (from : AddressParts) (dr
   abbrev entered : State
   entered = timed_at (counted_at s place part) place packet.head
 
-  pub received_so : (t u : State) (before between after : Added) → Done (confirming entered place) t before between →
-      Done (walked_and_tested place from draws t (chunks_of packet)) u between after → Done (received from draws (taken_packet s place part packet)) u before after
-  received_so t u before between after enters goes =
-      let chunks : State → Did = λ x. chunks_did place from draws outset x (chunks_of packet) in
-      subst (λ (d : Did). Done d u before after) (sym (in_a_row (confirming entered place) chunks (λ x. acked most_acks x place) (λ x. tested x place from draws)))
-      (joined (confirming entered place) (λ x. walked_and_tested place from draws x (chunks_of packet)) t u before between after enters goes)
+  -- what confirms the session, then the chunks and acks, and then what comes last
+  entered_so : (cs : List Placed) (acks : ℕ) (last : State → Did) (t u : State) (before between after : Added) → Done (confirming entered place) t before between →
+      Done (then_do (walked_and_acked place from draws t cs acks) last) u between after → Done (then_do (gone_through_and_acked from draws entered place cs acks) last) u before after
+  entered_so cs acks last t u before between after enters goes =
+      let first : Did = confirming entered place in
+      let next : State → Did = λ x. walked_and_acked place from draws x cs acks in
+      let same = ap (λ (d : Did). then_do d last) (then_then first (λ x. chunks_did place from draws outset x cs) (λ x. acked acks x place)) ∙ then_then first next last in
+      subst (λ (d : Did). Done d u before after) (sym same) (joined first (λ x. then_do (next x) last) t u before between after enters goes)
 
   pub stops_so : (t u : State) (stop : Stopped) (before between after : Added) → Done (confirming entered place) t before between → StopsIn place from draws t (chunks_of packet) u between after stop →
       StopsSo (λ d. Done d u before after) s from draws (taken_packet s place part packet) stop
-  stops_so t u stop before between after enters stops =
-      let some : List Placed = take stop.chunks (chunks_of packet) in
-      let chunks : State → Did = λ x. chunks_did place from draws outset x some in
-      let acks : State → Did = λ x. acked stops.acks x place in
-      let none : State → Did = λ x. nothing (unowed x place) in
-      let left : Done (then_do (chunks t) (λ x. then_do (acks x) none)) u between after = subst (λ (d : Did). Done d u between after) (then_then (chunks t) acks none) stops.left in
-      record {
-        acks = stops.acks;
-        taken = λ _. subst (λ (x : State). ((stop.chunks < length (chunks_of packet)) × (stops.acks ≡ 0)) ⊎
-            ((stop.chunks ≡ length (chunks_of packet)) × WantsMore from place (walked_and_acked place from draws x (chunks_of packet) stops.acks).state)) enters.state stops.at;
-        not_taken = λ clash. let both : true ≡ false = sym stops.taken ∙ clash in absurd (cc);
-        left = subst (λ (b : Bool). Done (if b then part_received from draws (taken_packet s place part packet) stop.chunks stops.acks else nothing s) u before after) (sym stops.taken)
-            (subst (λ (d : Did). Done d u before after) (sym (in_a_row (confirming entered place) chunks acks none))
-            (joined (confirming entered place) (λ x. then_do (chunks x) (λ y. then_do (acks y) none)) t u before between after enters left));
-      }
+  stops_so t u stop before between after enters stops = record {
+    acks = stops.acks;
+    taken = λ _. subst (λ (x : State). StopsAt place from draws x (chunks_of packet) stop.chunks stops.acks) enters.state stops.at;
+    not_taken = λ clash. let both : true ≡ false = sym stops.taken ∙ clash in absurd (cc);
+    left = subst (λ (b : Bool). Done (if b then part_received from draws (taken_packet s place part packet) stop.chunks stops.acks else nothing s) u before after) (sym stops.taken)
+        (entered_so (take stop.chunks (chunks_of packet)) stops.acks (λ x. nothing (unowed x place)) t u before between after enters stops.left);
+  }
 
   pub received_ok : (r : Result (Unit {0}) Stopped) (cs : List Placed) (t u : State) (before between after : Added) → cs ≡ chunks_of packet → Done (confirming entered place) t before between →
       OnOk r (Done (walked_and_tested place from draws t cs) u between after) → OnOk r (Done (received from draws (taken_packet s place part packet)) u before after)
   received_ok (Ok done) cs t u before between after are enters goes =
-      received_so t u before between after enters (subst (λ (xs : List Placed). Done (walked_and_tested place from draws t xs) u between after) are goes)
+      entered_so (chunks_of packet) most_acks (λ x. tested x place from draws) t u before between after enters
+      (subst (λ (xs : List Placed). Done (walked_and_tested place from draws t xs) u between after) are goes)
   received_ok (Err stop) cs t u before between after are enters goes = tt
 
   pub stops_if : (r : Result (Unit {0}) Stopped) (cs : List Placed) (t u : State) (before between after : Added) → cs ≡ chunks_of packet → Done (confirming entered place) t before between →
@@ -82,13 +73,13 @@ module _ (place : Place) (from : AddressParts) (draws : Draws) (s : State) (cs :
   pub walked_so : (t u v : State) (before between middle after : Added) → Done (chunks_did place from draws outset s cs) t before between → Done (acked most_acks t place) u between middle →
       Done (tested u place from draws) v middle after → Done (walked_and_tested place from draws s cs) v before after
   walked_so t u v before between middle after chunks acks test =
-      joined (chunks_did place from draws outset s cs) (acked_and_tested place from draws) t v before between after chunks
-      (joined (acked most_acks t place) (λ x. tested x place from draws) u v between middle after acks test)
+      joined (walked_and_acked place from draws s cs most_acks) (λ x. tested x place from draws) u v before middle after
+      (joined (chunks_did place from draws outset s cs) (λ x. acked most_acks x place) t u before between middle chunks acks) test
 
   -- so many chunks and then so many packets of acks, and no memory for what comes then
   stops_behind : (gone acks : ℕ) (t u w v : State) (stop : Stopped) (before between middle after : Added) → stop ≡ taken_upto gone →
       Done (chunks_did place from draws outset s (take gone cs)) t before between → Done (acked acks t place) u between middle → Done (nothing u) w middle after → v ≡ unowed w place →
-      ((gone < length cs) × (acks ≡ 0)) ⊎ ((gone ≡ length cs) × WantsMore from place (walked_and_acked place from draws s cs acks).state) → StopsIn place from draws s cs v before after stop
+      StopsAt place from draws s cs gone acks → StopsIn place from draws s cs v before after stop
   stops_behind gone acks t u w v stop before between middle after stop_is chunks sent still none at =
       let ended : Done (nothing (unowed u place)) v middle after = record {
         state = none ∙ ap (λ (x : State). unowed x place) still.state;

@@ -24,13 +24,15 @@ packet_at s place (Err fault) = Err (BadPacket (fault_number fault))
 packet_at s place (Ok packet) =
     if has_mode packet.head (mode_at s place) then Ok packet else Err WrongPlace
 
-abbrev pub acked_and_tested : Place → AddressParts → Draws → State → Did
-acked_and_tested place from draws s =
-    then_do (acked most_acks s place) (λ t. tested t place from draws)
+-- the chunks, and so many packets of the acks that they owe
+abbrev pub walked_and_acked : Place → AddressParts → Draws → State → List Placed → ℕ → Did
+walked_and_acked place from draws s cs acks =
+    then_do (chunks_did place from draws outset s cs) (λ t. acked acks t place)
 
+-- all that they owe, and then the test
 abbrev pub walked_and_tested : Place → AddressParts → Draws → State → List Placed → Did
 walked_and_tested place from draws s cs =
-    then_do (chunks_did place from draws outset s cs) (acked_and_tested place from draws)
+    then_do (walked_and_acked place from draws s cs most_acks) (λ t. tested t place from draws)
 
 -- So many packets of acks were sent, and for the next one, which is owed, no memory was found.
 pub record StopsOwing (place : Place) (s new : State) (before after : Added) : Type 0 where
@@ -42,19 +44,17 @@ pub record StopsOwing (place : Place) (s new : State) (before after : Added) : T
 abbrev pub taken_upto : ℕ → Stop
 taken_upto chunks = record { taken = true; chunks = chunks }
 
--- the chunks, and so many packets of the acks that they owe
-abbrev pub walked_and_acked : Place → AddressParts → Draws → State → List Placed → ℕ → Did
-walked_and_acked place from draws s cs acks =
-    then_do (chunks_did place from draws outset s cs) (λ t. acked acks t place)
+-- No memory is found at a chunk, or after all of them and so many packets of acks.
+abbrev pub StopsAt : Place → AddressParts → Draws → State → List Placed → ℕ → ℕ → Type 0
+StopsAt place from draws s cs chunks acks = ((chunks < length cs) × (acks ≡ 0)) ⊎
+    ((chunks ≡ length cs) ×
+    WantsMore from place (walked_and_acked place from draws s cs acks).state)
 
--- No memory was found at a chunk, or after all of them and so many packets of acks. Those that are
--- owed yet aren't sent any more.
+-- A datagram stopped there. The acks that are owed yet aren't sent any more.
 pub record StopsIn (place : Place) (from : AddressParts) (draws : Draws) (s : State)
     (cs : List Placed) (new : State) (before after : Added) (stop : Stop) : Type 0 where
   pub acks : ℕ
   pub taken : stop.taken ≡ true
-  pub at : ((stop.chunks < length cs) × (acks ≡ 0)) ⊎
-      ((stop.chunks ≡ length cs) ×
-      WantsMore from place (walked_and_acked place from draws s cs acks).state)
+  pub at : StopsAt place from draws s cs stop.chunks acks
   pub left : Done (then_do (walked_and_acked place from draws s (take stop.chunks cs) acks)
       (λ t. nothing (unowed t place))) new before after
