@@ -4,11 +4,10 @@ use Rattle.std.specs.FinMap.{get, contains_key}
 use Rattle.std.specs.List.{fold, list_any}
 use Rattle.std.proofs.lemmas.Bool.Decides.{nat_tests}
 use Rattle.glare_core.specs.Calls.{first_that_stands, start_refusal}
-use Rattle.startup.specs.Attempts.{joined, lowest, distinct_candidates}
-use Rattle.startup.specs.Due.{due, due_of, due_sends, due_sends_of, is_due}
+use Rattle.startup.specs.Attempts.{joined, distinct_candidates}
 use Rattle.endpoint_model.specs.declared.answers.OpenRefusal.{OpenRefusal}
 use Rattle.rtmfp_forms.specs.Address.{AddressParts, is_same_place}
-use Rattle.startup.specs.State.{AttemptState, StartupState}
+use Rattle.startup.specs.State.{AttemptState}
 use Rattle.endpoint_model.specs.Added.{Added}
 use Rattle.endpoint_model.specs.Effects.{candidates_refusal, start_refused, full_refused, open_refusal, tick_once, ticks}
 use Rattle.endpoint_model.specs.State.{State, Did, Done, then_do, after_entries, uses, is_used, is_free, full, free_from}
@@ -87,13 +86,6 @@ ticks_more zero s = then_nothing (tick_once s)
 ticks_more (suc count) s =
     let first : Did = tick_once s in
     ap (after_entries first.entries) (ticks_more count first.state) ∙ sym (then_then first (ticks count) tick_once)
-
-none_found : (s : StartupState) (moment : ℕ) (found : Option (ℕ × AttemptState)) → due_sends_of moment found ≡ None → due_of s moment found ≡ None
-none_found s moment None e = refl
-none_found s moment (Some a) e = absurd (cc)
-
-pub none_due : (s : StartupState) (moment : ℕ) → due_sends s moment ≡ None → due s moment ≡ None
-none_due s moment e = none_found s moment (lowest (is_due moment) s.attempts) e
 
 -- some things of a tick
 abbrev pub SomeDone : State → State → Added → Added → Type 0

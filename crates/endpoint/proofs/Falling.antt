@@ -1,5 +1,5 @@
 -- Each thing that a tick does is due no more, so a tick ends, and what found no memory is still due.
-use Rattle.std.proofs.Common.{ℕ, ◌≡◌, ◌<◌, ◌≤◌, ◌+◌, ◌*◌, ◌-◌, ◌&&◌, cond, List, [], ◌∷◌, Option, Some, None, IsSome, is_some, refl, sym, ap, subst, ◌∙◌, if◌then◌else◌, Bool, true, false, nat_le, arith}
+use Rattle.std.proofs.Common.{ℕ, ◌≡◌, ◌<◌, ◌≤◌, ◌+◌, ◌*◌, ◌-◌, ◌&&◌, cond, List, [], ◌∷◌, Option, Some, None, is_some, refl, sym, ap, subst, ◌∙◌, if◌then◌else◌, Bool, true, false, nat_le, arith}
 use Rattle.std.specs.Prelude.{◌==◌, IfSome}
 use Rattle.std.specs.FinMap.{get, insert, remove}
 use Rattle.std.proofs.lemmas.Bool.Decides.{nat_tests}
@@ -8,8 +8,8 @@ use Rattle.rtmfp_forms.specs.Address.{AddressParts}
 use Rattle.startup.specs.State.{StartupState}
 use Rattle.startup.specs.declared.answer.Due.{Due}
 use Rattle.startup.specs.declared.answer.Due.TheVariants.{Ended as EndDue, Hello as HelloDue, Keying as KeyingDue}
-use Rattle.startup.specs.Due.{due, after_due, due_count}
-use Rattle.startup.proofs.Falling.{due_falls}
+use Rattle.startup.specs.Due.{after_due, due_count}
+use Rattle.startup.proofs.Falling.{falls_when}
 use Rattle.session_core.specs.declared.stage.SessionDue.{SessionDue}
 use Rattle.session_core.specs.declared.stage.SessionDue.TheVariants.{Unconfirmed, Idle, Over, RepeatClose}
 use Rattle.session_core.specs.Session.{SessionState}
@@ -35,9 +35,9 @@ use Rattle.endpoint_model.specs.InSessions.{sent_home, sent_home_by, session_due
 use Rattle.endpoint_model.specs.Effects.{due_done, tick_once}
 use Rattle.endpoint.specs.declared.ticking.DueItem.{DueItem}
 use Rattle.endpoint.specs.declared.ticking.DueItem.TheVariants.{Attempt, Session}
-use Rattle.endpoint.specs.DueItems.{ItemFalls, RowFalls, attempt_done, due_item, row_due_by}
+use Rattle.endpoint.specs.DueItems.{ItemFalls, RowFalls, due_item}
 use Rattle.rtmfp_base.proofs.Weights.{sum_where, sum_removed, sum_changed}
-use Rattle.endpoint.proofs.DueItems.{some_due, attempt_sends, attempt_is_next, session_is_next, next_done, done_of_it, end_is_due, abandon_is_due, data_are_due, keepalive_is_due}
+use Rattle.endpoint.proofs.DueItems.{IsNext, next_is, is_due_of}
 
 -- ---- attempts
 
@@ -65,14 +65,6 @@ done_same : (s : State) (due : Due) → IsSame s (due_done s due).state
 done_same s (EndDue fact) = record { startup = refl; moment = refl; sessions = refl }
 done_same s (HelloDue spread) = each_same spread.plain spread.to s
 done_same s (KeyingDue answer) = startup_same s answer.to answer.sid answer.plain
-
-of_some : (o : Option Due) (P : Type 0) → IsSome o → IfSome o (λ _. P) → P
-of_some None P some falls = absurd (cc)
-of_some (Some d) P some falls = falls
-
-attempt_same : (s : State) (o : Option Due) → IsSome o → IsSame (with_startup s (after_due s.startup s.moment)) (attempt_done s o).state
-attempt_same s None some = absurd (cc)
-attempt_same s (Some d) some = done_same (with_startup s (after_due s.startup s.moment)) d
 
 -- ---- sessions
 
@@ -241,40 +233,38 @@ end_falls s near row RepeatClose there e =
     row_lighter s (session_due_done s near row RepeatClose).state near row there (home_lighter s near s.moment (row_weight s.moment row) (record row { session = after_due_in (Some RepeatClose) s.moment row.session }) _ (repeated_lighter row s.moment e))
 
 row_falls : (s : State) (near : ℕ) (row : Row) (d : RowDue) → get s.sessions near ≡ Some row → row_due s.moment row ≡ Some d → RowFalls d s.moment (Some row) → things_due (row_due_done s near row d).state < things_due s
-row_falls s near row (is_row.Session d) there e falls = end_falls s near row d there (end_is_due s.moment row d e)
+row_falls s near row (is_row.Session d) there e falls = end_falls s near row d there (is_due_of s.moment row (is_row.Session d) e)
 row_falls s near row (Abandon flow seq) there e falls =
     row_lighter s (row_due_done s near row (Abandon flow seq)).state near row there (record {
       startup = refl;
       moment_is = refl;
       row = record row { flows = (overdue_done row.flows (Some (flow, seq))).flows };
       sessions = refl;
-      lighter = abandon_lighter row s.moment flow seq (abandon_is_due s.moment row flow seq e) falls;
+      lighter = abandon_lighter row s.moment flow seq (is_due_of s.moment row (Abandon flow seq) e) falls;
     })
 row_falls s near row Data there e falls =
-    row_lighter s (row_due_done s near row Data).state near row there (home_lighter s near s.moment (row_weight s.moment row) (record row { flows = with_sending row.flows (data_packed row s.moment).sending }) _ (data_lighter row s.moment (data_are_due s.moment row e) falls))
+    row_lighter s (row_due_done s near row Data).state near row there (home_lighter s near s.moment (row_weight s.moment row) (record row { flows = with_sending row.flows (data_packed row s.moment).sending }) _ (data_lighter row s.moment (is_due_of s.moment row Data e) falls))
 row_falls s near row Keepalive there e falls =
-    row_lighter s (row_due_done s near row Keepalive).state near row there (home_lighter s near s.moment (row_weight s.moment row) (record row { session = kept_alive s.moment row.session }) _ (kept_lighter row s.moment (keepalive_is_due s.moment row e)))
+    row_lighter s (row_due_done s near row Keepalive).state near row there (home_lighter s near s.moment (row_weight s.moment row) (record row { session = kept_alive s.moment row.session }) _ (kept_lighter row s.moment (is_due_of s.moment row Keepalive e)))
 
 less_more : (a b c : ℕ) → a < b → a + c < b + c
 less_more a b c e = omega arith
 
-attempt_falls : (s t : State) → IsSome (due s.startup s.moment) → IsSame (with_startup s (after_due s.startup s.moment)) t → things_due t < things_due s
-attempt_falls s t some same =
-    let falls = of_some (due s.startup s.moment) (due_count s.moment (after_due s.startup s.moment) < due_count s.moment s.startup) some (due_falls s.startup s.moment) in
+attempt_falls : (s t : State) → due_count s.moment (after_due s.startup s.moment) < due_count s.moment s.startup → IsSame (with_startup s (after_due s.startup s.moment)) t → things_due t < things_due s
+attempt_falls s t falls same =
     let counts : things_due t ≡ due_count s.moment (after_due s.startup s.moment) + sum_where (row_weight s.moment) s.sessions =
     ap (λ (m : ℕ). due_count m t.startup + sum_where (row_weight m) t.sessions) same.moment
     ∙ ap (λ (x : StartupState). due_count s.moment x + sum_where (row_weight s.moment) t.sessions) same.startup
     ∙ ap (λ (m : Sessions). due_count s.moment (after_due s.startup s.moment) + sum_where (row_weight s.moment) m) same.sessions in
     subst (λ (n : ℕ). n < things_due s) (sym counts) (less_more _ _ (sum_where (row_weight s.moment) s.sessions) falls)
 
-once_falls : (s : State) (item : DueItem) → due_item s ≡ Some item → ItemFalls item s → things_due (tick_once s).state < things_due s
-once_falls s (Attempt sends) e falls =
-    let some = some_due s.startup s.moment sends (attempt_sends s sends e) in
-    subst (λ (d : Did). things_due d.state < things_due s) (attempt_is_next s sends (attempt_sends s sends e)) (attempt_falls s _ some (attempt_same s (due s.startup s.moment) some))
-once_falls s (Session near d) e falls =
-    let next = session_is_next s near d e in
-    subst (λ (x : Did). things_due x.state < things_due s) (sym (ap (row_due_by s near d) next.there ∙ done_of_it s near next.row d) ∙ next_done s near d next)
+once_falls : (s : State) (item : DueItem) → IsNext s item → ItemFalls item s → things_due (tick_once s).state < things_due s
+once_falls s (Attempt sends) next falls =
+    subst (λ (d : Did). things_due d.state < things_due s) next.once
+    (attempt_falls s _ (falls_when s.startup s.moment next.due_is (sym next.is)) (done_same (with_startup s (after_due s.startup s.moment)) next.due_is))
+once_falls s (Session near d) next falls =
+    subst (λ (x : Did). things_due x.state < things_due s) next.once
     (row_falls s near next.row d next.there next.is (subst (λ (o : Option Row). RowFalls d s.moment o) next.there falls))
 
 pub tick_falls : (s new : State) (item : DueItem) → due_item s ≡ Some item → ItemFalls item s → new ≡ (tick_once s).state → things_due new < things_due s
-tick_falls s new item e falls is = subst (λ (t : State). things_due t < things_due s) (sym is) (once_falls s item e falls)
+tick_falls s new item e falls is = subst (λ (t : State). things_due t < things_due s) (sym is) (once_falls s item (next_is s item e) falls)

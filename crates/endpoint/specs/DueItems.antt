@@ -1,9 +1,11 @@
 -- The first thing that is due, as it is handed on, and what is done of it.
-use Rattle.std.specs.Prelude.{ℕ, Option, Some, None, IfSome}
+use Rattle.std.specs.Prelude.{ℕ, length, Option, Some, None, IfSome}
+use Rattle.std.specs.Option.{option_map}
 use Rattle.std.specs.FinMap.{get}
 use Rattle.glare_core.specs.declared.facts.Why.{Why}
 use Rattle.startup.specs.declared.answer.Due.{Due}
-use Rattle.startup.specs.Due.{due_sends, after_due}
+use Rattle.startup.specs.declared.answer.Due.TheVariants.{Ended as EndDue, Hello as HelloDue}
+use Rattle.startup.specs.declared.answer.Due.TheVariants.{Keying as KeyingDue}
 use Rattle.session_core.specs.declared.stage.SessionDue.{SessionDue}
 use Rattle.session_flows.specs.Timing.{overdue_done}
 use Rattle.session_table.specs.FlowTimes.{DataFalls, OverdueWaits}
@@ -11,11 +13,10 @@ use Rattle.endpoint_model.specs.declared.row.Row.{Row}
 use Rattle.endpoint_model.specs.declared.row_due.RowDue.{RowDue}
 use Rattle.endpoint_model.specs.declared.row_due.RowDue.TheVariants.{Abandon, Data, Keepalive}
 use Rattle.endpoint_model.specs.declared.row_due.RowDue.TheVariants as row
-use Rattle.endpoint_model.specs.State.{State, Did, nothing, with_startup}
+use Rattle.endpoint_model.specs.State.{State, Did, nothing}
 use Rattle.endpoint_model.specs.InSessions.{session_due_done, dropped, kept_alive_by}
 use Rattle.endpoint_model.specs.OnFlows.{flows_done}
-use Rattle.endpoint_model.specs.FlowTimes.{due_row, row_due}
-use Rattle.endpoint_model.specs.Effects.{due_done}
+use Rattle.endpoint_model.specs.Effects.{Item, OfAttempt, OfSession, first_due}
 use Rattle.end_state.specs.Steps.{data_sent_by}
 use Rattle.endpoint.specs.declared.ticking.DueItem.{DueItem}
 use Rattle.endpoint.specs.declared.ticking.DueItem.TheVariants.{Attempt, Session}
@@ -49,26 +50,20 @@ row_due_by s near (Abandon flow seq) o = abandoned_by s near flow seq o
 row_due_by s near Data o = data_sent_by s near o
 row_due_by s near Keepalive o = kept_alive_in s near o
 
--- what is done of an attempt
-abbrev pub attempt_done : State → Option Due → Did
-attempt_done s None = nothing s
-attempt_done s (Some due) = due_done (with_startup s (after_due s.startup s.moment)) due
+-- how many datagrams a thing of an attempt sends
+abbrev pub sends_of : Due → ℕ
+sends_of (EndDue fact) = 0
+sends_of (HelloDue spread) = length spread.to
+sends_of (KeyingDue answer) = 1
 
-abbrev pub item_under : ℕ → Option RowDue → Option DueItem
-item_under near None = None
-item_under near (Some due) = Some (Session near due)
-
-abbrev pub session_item : ℕ → Option (ℕ × Row) → Option DueItem
-session_item moment None = None
-session_item moment (Some e) = item_under e.0 (row_due moment e.1)
-
-abbrev pub attempt_or : Option ℕ → Option DueItem → Option DueItem
-attempt_or (Some sends) item = Some (Attempt sends)
-attempt_or None item = item
+-- what is handed on of a thing
+abbrev pub told_item : Item → DueItem
+told_item (OfAttempt due) = Attempt (sends_of due)
+told_item (OfSession near row due) = Session near due
 
 -- the first thing that is due
 abbrev pub due_item : State → Option DueItem
-due_item s = attempt_or (due_sends s.startup s.moment) (session_item s.moment (due_row s))
+due_item s = option_map told_item (first_due s)
 
 -- ---- that less is left to do of a session's flows, which their rows don't tell by themselves
 

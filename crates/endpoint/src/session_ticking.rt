@@ -2,15 +2,17 @@
 
 ghost use Rattle.std.specs.Prelude.{◌≡◌, IfSome, OnErr, OnOk, Some, is_some, true};
 ghost use Rattle.std.specs.FinMap.{get};
+ghost use Rattle.std.specs.Option.{option_map};
 ghost use Rattle.session_core.specs.declared.stage.SessionDue.TheVariants.{RepeatClose};
 ghost use Rattle.session_core.specs.Closing.{first_due};
 ghost use Rattle.session_flows.specs.Timing.{overdue_in};
 ghost use Rattle.session_table.specs.FlowTimes.{DataFalls, OverdueWaits};
+ghost use Rattle.endpoint_model.specs.Effects.{session_item};
 ghost use Rattle.endpoint_model.specs.FlowTimes.{due_row, row_due};
 ghost use Rattle.endpoint_model.specs.State.{Done, nothing};
 ghost use Rattle.end_state.specs.Steps.{data_sent_by};
 ghost use Rattle.endpoint.specs.DueItems.{RowFalls, abandoned_by, dropped_by, end_due_by};
-ghost use Rattle.endpoint.specs.DueItems.{kept_alive_in, row_due_by, session_item};
+ghost use Rattle.endpoint.specs.DueItems.{kept_alive_in, row_due_by, told_item};
 
 use crate::ticking::DueItem;
 use end_state::{EndState, Outbox, blank};
@@ -22,7 +24,8 @@ use std::alloc::AllocError;
 
 /// The first thing that is due of a session, by rising session IDs.
 pub(crate) fn due_session(end: &EndState) -> Option<DueItem>
-    ensures { result ≡ session_item end.now.moment (due_row end.now) }
+    ensures { result ≡ option_map told_item
+        (session_item end.now.moment (due_row end.now)) }
 {
     match end.sessions.first_due(end.moment) {
         Some((near, due)) => Some(DueItem::Session { near, due }),

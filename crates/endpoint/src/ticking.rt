@@ -2,11 +2,11 @@
 
 ghost use Rattle.std.specs.Prelude.{◌≡◌, ℕ, IsSome, None, OnErr, OnOk, Some};
 ghost use Rattle.startup.specs.Due.{due, due_sends};
-ghost use Rattle.endpoint_model.specs.Effects.{first_due, tick_once, ticks};
+ghost use Rattle.endpoint_model.specs.Effects.{attempt_item, first_due, item_done, tick_once, ticks};
 ghost use Rattle.endpoint_model.specs.FlowTimes.{all_late};
 ghost use Rattle.endpoint_model.specs.Log.{Extends, tick_event};
 ghost use Rattle.endpoint_model.specs.State.{Done, at_moment, nothing};
-ghost use Rattle.endpoint.specs.DueItems.{ItemFalls, attempt_done, due_item};
+ghost use Rattle.endpoint.specs.DueItems.{ItemFalls, due_item};
 
 use crate::endpoint::Endpoint;
 use crate::session_ticking::{due_session, session_due};
@@ -94,8 +94,8 @@ fn do_item(end: &mut EndState, item: DueItem, out: &mut Outbox) -> Result<(), Al
 /// Does the first thing that is due of attempts, which sends so many datagrams.
 fn attempt_due(end: &mut EndState, sends: usize, out: &mut Outbox) -> Result<(), AllocError>
     requires { due_sends end.old.startup end.old.moment ≡ Some sends }
-    ensures ok { OnOk result (Done (attempt_done end.old
-        (due end.old.startup end.old.moment)) end.new out.old out.new) }
+    ensures ok { OnOk result (Done (item_done end.old
+        (attempt_item (due end.old.startup end.old.moment))) end.new out.old out.new) }
     ensures err { OnErr result (Done (nothing end.old) end.new out.old out.new) }
 {
     let mut blanks = blanks(end.alloc, sends)?;

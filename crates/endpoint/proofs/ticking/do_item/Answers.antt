@@ -1,32 +1,35 @@
 use Rattle.std.proofs.Common.{◌≡◌, Some, Option, is_some, OnOk, sym, ap, ◌∙◌, subst}
+use Rattle.startup.specs.declared.answer.Due.{Due}
 use Rattle.endpoint_model.specs.declared.row.Row.{Row}
 use Rattle.endpoint_model.specs.State.{Did, Done}
+use Rattle.endpoint_model.specs.Effects.{attempt_item, item_done}
 use Rattle.endpoint.specs.declared.ticking.DueItem.{DueItem}
 use Rattle.endpoint.specs.declared.ticking.DueItem.TheVariants.{Attempt, Session}
 use Rattle.endpoint.specs.DueItems.{ItemFalls}
-use Rattle.endpoint.proofs.DueItems.{attempt_is_next, attempt_sends, session_is_next, next_done, due_of_it, always}
+use Rattle.endpoint.proofs.DueItems.{next_is, session_done, due_of_it, always}
 use Rattle.endpoint.proofs.ticking.do_item.Goals as goal
 
 pub attempt_due-requires : goal.attempt_due-requires
-attempt_due-requires c = attempt_sends c.args.end.now c.in-Attempt.sends (c.requires ∙ ap (λ (i : DueItem). Some i) c.in-Attempt.is)
+attempt_due-requires c = (next_is c.args.end.now (Attempt c.in-Attempt.sends) (c.requires ∙ ap (λ (i : DueItem). Some i) c.in-Attempt.is)).sends
 
 pub session_due-requires-clause-there : goal.session_due-requires-clause-there
 session_due-requires-clause-there c =
-    ap (λ (o : Option Row). is_some o) (session_is_next c.args.end.now c.in-Session.near c.in-Session.due (c.requires ∙ ap (λ (i : DueItem). Some i) c.in-Session.is)).there
+    ap (λ (o : Option Row). is_some o) (next_is c.args.end.now (Session c.in-Session.near c.in-Session.due) (c.requires ∙ ap (λ (i : DueItem). Some i) c.in-Session.is)).there
 
 pub session_due-requires-clause-due : goal.session_due-requires-clause-due
 session_due-requires-clause-due c =
-    due_of_it c.args.end.now c.in-Session.near c.in-Session.due (session_is_next c.args.end.now c.in-Session.near c.in-Session.due (c.requires ∙ ap (λ (i : DueItem). Some i) c.in-Session.is))
+    due_of_it c.args.end.now c.in-Session.near c.in-Session.due (next_is c.args.end.now (Session c.in-Session.near c.in-Session.due) (c.requires ∙ ap (λ (i : DueItem). Some i) c.in-Session.is))
 
 pub returns-in-Attempt-clause-ok : goal.returns-in-Attempt-clause-ok
 returns-in-Attempt-clause-ok c =
+    let next = next_is c.args.end.now (Attempt c.in-Attempt.sends) (c.requires ∙ ap (λ (i : DueItem). Some i) c.in-Attempt.is) in
     subst (λ (d : Did). OnOk c.attempt_due.result (Done d c.attempt_due.new.end c.args.out.now c.attempt_due.new.out))
-    (attempt_is_next c.args.end.now c.in-Attempt.sends (attempt_sends c.args.end.now c.in-Attempt.sends (c.requires ∙ ap (λ (i : DueItem). Some i) c.in-Attempt.is))) c.attempt_due.ensures.ok
+    (ap (λ (o : Option Due). item_done c.args.end.now (attempt_item o)) next.is ∙ next.once) c.attempt_due.ensures.ok
 
 pub returns-in-Session-clause-ok : goal.returns-in-Session-clause-ok
 returns-in-Session-clause-ok c =
     subst (λ (d : Did). OnOk c.session_due.result (Done d c.session_due.new.end c.args.out.now c.session_due.new.out))
-    (next_done c.args.end.now c.in-Session.near c.in-Session.due (session_is_next c.args.end.now c.in-Session.near c.in-Session.due (c.requires ∙ ap (λ (i : DueItem). Some i) c.in-Session.is))) c.session_due.ensures.ok
+    (session_done c.args.end.now c.in-Session.near c.in-Session.due (next_is c.args.end.now (Session c.in-Session.near c.in-Session.due) (c.requires ∙ ap (λ (i : DueItem). Some i) c.in-Session.is))) c.session_due.ensures.ok
 
 pub returns-in-Session-clause-falls : goal.returns-in-Session-clause-falls
 returns-in-Session-clause-falls c =
