@@ -24,7 +24,8 @@
 //! A sender has so many messages of a byte:
 //!
 //! - `late`: all are lost by time at once, and sent again.
-//! - `renewed`: the same, after as many that were sent and abandoned one after another.
+//! - `renewed`: the same, after as many that were sent and abandoned one after another. A notice of
+//!   those goes first, and again after the resend time.
 //! - `beyond`: the same, behind as many that were told, while number 1 stays missing.
 //! - `wide`: they are told in acks of 250 stretches, of which each newly tells a number.
 //! - `abandons`: they are in flight, and are abandoned from the middle on.
@@ -38,7 +39,7 @@
 //! - `stale`: all are lost by time, each 64th is abandoned, which may not be sent again, and it is
 //!   asked as often whether one is overdue.
 //! - `cut`: so many acks of 250 single numbers of a message of 1,049 fragments are heard, whose first
-//!   half was told.
+//!   half was told. The number before it is lost by the third ack, and sent again.
 #![tactic(auto)]
 
 ghost use Rattle.std.specs.Prelude.{◌≡◌, ◌+◌, ◌<◌, ◌≤◌, false, true};
