@@ -2,7 +2,8 @@
 use Rattle.std.proofs.Common.{◌≡◌, ℕ, ◌^◌, ◌<◌, ◌≤◌, Bool, List, [], ◌∷◌, ◌++◌, Option, Some, None, refl, sym, ap, ◌∙◌, subst, arith, inl, inr, codes}
 use Rattle.std.specs.Prelude.{nat_le, decimal}
 use Rattle.std.specs.Str.{bytes_eq}
-use Rattle.std.proofs.lemmas.Bool.{le-leb}
+use Rattle.std.proofs.lemmas.Bool.{leb-true, le-leb}
+use Rattle.std.proofs.lemmas.Slice.Eq.{bytes_eq-Decides}
 use Rattle.rtmfp_script.specs.Fields.{number_of, ◌>>=◌, either, only_if}
 use Rattle.rtmfp_script.proofs.Numbers.{number_of-some, number_of-decimal}
 use Rattle.rtmfp_script.proofs.Splits.{some_some, bind_some, only_if-some}
@@ -10,7 +11,7 @@ use Rattle.rtmfp_words.specs.Words.{OptionSpells}
 use Rattle.rtmfp_words.specs.Reading.{head_of, behind_of, seed_of, steps_of, setting_of, joined_of, apart_of, option_of}
 use Rattle.rtmfp_words.specs.declared.option.Setting.{Setting}
 use Rattle.rtmfp_words.specs.declared.option.Setting.TheVariants.{Seed, Steps}
-use Rattle.rtmfp_words.proofs.Texts.{if-some, either-some, head-some}
+use Rattle.rtmfp_words.proofs.Texts.{if-some, either-some, head-some, behind-some}
 
 abbrev pub name_of : Setting → List ℕ
 name_of (Seed seed) = codes "--generate"
