@@ -20,5 +20,6 @@ pub use keys::{Context, Keys, sign_key, stream_key};
 pub use mac::hmac;
 pub use sealing::{
     CIPHERED_AT, SealFault, TAG_LEN, decipher_in_place, open_in_place, open_refusal, seal_in_place,
+    seal_into,
 };
 pub use window::{ReplayWindow, Seen};

@@ -5,7 +5,7 @@
 //! `HMAC(enc, number ‖ i)` with i as 8 bytes. The tag is the first 16 bytes of
 //! `HMAC(mac, session ID ‖ number ‖ ciphertext)` with the session ID as 4 bytes.
 
-ghost use Rattle.std.specs.Prelude.{◌≡◌, ◌≤◌, ◌++◌, length, take, drop, IfOk, IsOk, IfSome, IfNone, OnErr};
+ghost use Rattle.std.specs.Prelude.{◌+◌, ◌≡◌, ◌≤◌, ◌++◌, length, take, drop, IfOk, IsOk, IfSome, IfNone, OnErr};
 ghost use Rattle.crypto_profile.specs.Opening.{open_refusal, plain_of};
 ghost use Rattle.crypto_profile.specs.Sealing.{ciphered, sealed, tag_of, number_of, xored};
 
@@ -41,6 +41,18 @@ pub fn seal_in_place(keys: &Keys, sid: u32, number: [u8; 16], buf: &mut [u8])
     buf[TAG_LEN..CIPHERED_AT].copy_from_slice(&number);
     let tag = tag(keys, sid, &buf[TAG_LEN..]);
     buf[..TAG_LEN].copy_from_slice(&tag);
+}
+
+/// Seals a plain packet into a buffer that is as long as its sealed part, which is 32 bytes more
+/// than the packet has: `part` is then its sealed part under the keys, the session ID and the
+/// number.
+pub fn seal_into(keys: &Keys, sid: u32, number: [u8; 16], plain: &[u8], part: &mut [u8])
+    requires { length part.old ≡ 32 + length plain.now }
+    ensures { part.new ≡ sealed keys.now sid number plain.now }
+{
+    let (_, packet) = part.split_at_mut(CIPHERED_AT);
+    packet.copy_from_slice(plain);
+    seal_in_place(keys, sid, number, part);
 }
 
 /// Why a sealed part would not open under the keys and the session ID; `None` exactly where it
