@@ -1,5 +1,5 @@
 -- What each call on a ledger answers.
-use Rattle.std.specs.Prelude.{ℕ, List, [], ◌∷◌, ◌+◌, ◌-◌, ◌^◌, ◌==◌, Bool, not, ◌&&◌, nat_le, Option, Some, None, is_some, is_none, if◌then◌else◌, ◌≡◌, IsSome}
+use Rattle.std.specs.Prelude.{ℕ, List, [], ◌∷◌, ◌+◌, ◌-◌, ◌^◌, ◌==◌, Bool, not, ◌&&◌, nat_le, Option, Some, None, Result, Ok, Err, is_some, is_none, if◌then◌else◌, ◌≡◌, IsSome}
 use Rattle.std.specs.Str.{bytes_eq}
 use Rattle.identity.specs.Order.{is_above}
 use Rattle.glare_core.specs.declared.facts.Why.{Why}
@@ -68,6 +68,14 @@ again_of (Some (HalfOpen j)) keying = where_true (is_born_of j keying) j.near
 again_of (Some (KeptAsResponder j)) keying = where_true (is_born_of j keying) j.near
 again_of (Some (KeptAsInitiator j)) keying = None
 
+-- that session itself
+abbrev pub session_again : Option Held → Keying → Option Joined
+session_again None keying = None
+session_again (Some (Opening n near ni)) keying = None
+session_again (Some (HalfOpen j)) keying = where_true (is_born_of j keying) j
+session_again (Some (KeptAsResponder j)) keying = where_true (is_born_of j keying) j
+session_again (Some (KeptAsInitiator j)) keying = None
+
 -- Glare, with the number of the held attempt, where the own fingerprint prevails over the peer's
 abbrev pub glare_of : List ℕ → List ℕ → Option Held → Option HearRefusal
 glare_of own peer None = None
@@ -90,6 +98,15 @@ birth_refusal l keying free =
 abbrev pub hear_refusal : Ledger → Keying → Bool → Option HearRefusal
 hear_refusal l keying free = if is_some (again_of (held_with l keying.peer) keying) then None
     else birth_refusal l keying free
+
+-- the held session that was born of it, where a Keying isn't refused
+abbrev pub unless_refused : Option Joined → Option HearRefusal → Result (Option Joined) HearRefusal
+unless_refused session None = Ok session
+unless_refused session (Some refusal) = Err refusal
+
+abbrev pub judged : Ledger → Keying → Bool → Result (Option Joined) HearRefusal
+judged l keying free = unless_refused (session_again (held_with l keying.peer) keying)
+    (hear_refusal l keying free)
 
 -- the fact that makes way for a session, where something is held
 abbrev pub way_made : List ℕ → Option Held → Option Fact

@@ -3,7 +3,7 @@
 ghost use Rattle.std.specs.Prelude.{◌≡◌, IfSome, Some, None};
 ghost use Rattle.glare_core.specs.Standing.{peer_of, after, seen_in};
 ghost use Rattle.glare_core.specs.Things.{near_of};
-ghost use Rattle.glare_core.specs.Calls.{is_born_of, again_of, glare_of, way_made, opened_fact, confirmed_fact, ended_fact, IsOf};
+ghost use Rattle.glare_core.specs.Calls.{is_born_of, session_again, again_of, glare_of, way_made, opened_fact, confirmed_fact, ended_fact, IsOf};
 
 use crate::answers::{HearRefusal, Keying};
 use crate::facts::{Fact, Held, Joined, Why};
@@ -61,19 +61,29 @@ pub(crate) fn is_born_of(joined: &Joined, keying: &Keying) -> bool
     joined.n == keying.n && joined.ni == keying.ni && joined.far == keying.far
 }
 
-/// The near id of the held session, where it was born of this very keying.
-pub(crate) fn again(held: &Option<Held>, keying: &Keying) -> Option<u32>
-    ensures { result ≡ again_of held.now keying.now }
+/// The held session, where it was born of this very keying.
+pub(crate) fn session_again(held: &Option<Held>, keying: &Keying) -> Option<Joined>
+    ensures { result ≡ session_again held.now keying.now }
 {
     match held {
         Some(Held::HalfOpen(joined)) | Some(Held::KeptAsResponder(joined)) => {
             if is_born_of(joined, keying) {
-                Some(joined.near)
+                Some(*joined)
             } else {
                 None
             }
         }
         _ => None,
+    }
+}
+
+/// The near id of the held session, where it was born of this very keying.
+pub(crate) fn again(held: &Option<Held>, keying: &Keying) -> Option<u32>
+    ensures { result ≡ again_of held.now keying.now }
+{
+    match session_again(held, keying) {
+        Some(joined) => Some(joined.near),
+        None => None,
     }
 }
 

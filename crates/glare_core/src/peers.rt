@@ -7,12 +7,14 @@ ghost use Rattle.std.specs.Str.{bytes_eq};
 ghost use Rattle.glare_core.specs.declared.facts.Fact.{Fact};
 ghost use Rattle.glare_core.specs.Standing.{held, seen, count, peers_in};
 ghost use Rattle.glare_core.specs.Ledger.{held_with, floor_of, knows, row_count, new_ledger, noted, noted_if};
-ghost use Rattle.glare_core.specs.Calls.{where_true, start_refusal, started_fact, birth_refusal, hear_refusal, heard, heard_facts, heard_noted, opened_fact, confirmed_fact, ended_fact, MayEnd};
+ghost use Rattle.glare_core.specs.Calls.{where_true, start_refusal, started_fact, birth_refusal, hear_refusal, judged, heard, heard_facts, heard_noted, opened_fact, confirmed_fact, ended_fact, MayEnd};
 ghost use Rattle.glare_core.specs.Account.{StandsFor, Gave};
 
 use crate::answers::{HearRefusal, Heard, Keying, StartRefusal};
 use crate::facts::{Fact, Held, Joined, Why};
-use crate::given::{again, confirmed_fact, ended_fact, glare, near_of, opened_fact, way_made};
+use crate::given::{
+    again, confirmed_fact, ended_fact, glare, near_of, opened_fact, session_again, way_made,
+};
 use crate::rows::{Rows, Seat};
 use std::alloc::Global;
 use std::marker::Model;
@@ -181,6 +183,22 @@ impl Peers {
             return None;
         }
         self.birth_refusal(keying, &seat, free)
+    }
+
+    /// The held session that was born of this very keying, or None where one would be born; else why
+    /// `hear` would refuse it, but for want of memory. The row of the peer is looked up once. It
+    /// changes nothing and takes no memory.
+    pub fn judge(&self, keying: &Keying, free: bool) -> Result<Option<Joined>, HearRefusal>
+        ensures { result ≡ judged self.now keying.now free }
+    {
+        let seat = self.rows.seat(&keying.peer);
+        if let Some(session) = session_again(&seat.held, keying) {
+            return Ok(Some(session));
+        }
+        match self.birth_refusal(keying, &seat, free) {
+            Some(refusal) => Err(refusal),
+            None => Ok(None),
+        }
     }
 
     /// Hears a keying of a peer that isn't this end, whose near id and responder nonce for a
