@@ -5,6 +5,7 @@ use Rattle.glare_core.specs.Calls.{first_that_stands, where_true}
 use Rattle.startup.specs.declared.cause.Cause.{Cause}
 use Rattle.startup.specs.State.{AttemptState, Attempts}
 use Rattle.startup.specs.Attempts.{has_cookie, if_cookie, changed, wide, none_to_change, change_cause_among}
+use Rattle.startup.specs.declared.rows.FoundAttempt.{FoundAttempt}
 use Rattle.startup.specs.Sought.{IsChosen, IsChosenAt}
 use Rattle.startup.specs.declared.leaving.Found.{Found}
 use Rattle.startup.specs.State.{StartupState}
@@ -34,10 +35,10 @@ pub change_stands : (attempts : Attempts) (sid : ℕ) (old new : List ℕ) (near
 change_stands attempts sid old new near narrow_old narrow_new chosen =
     none_stands (wide old) (wide new) (none_to_change (changed attempts sid old)) narrow_old narrow_new (ap none_to_change chosen.chosen_is)
 
--- something is chosen exactly where a near id is found
-pub chosen_or_none : (chosen : Option (ℕ × AttemptState)) (attempts : Attempts) (near : Option ℕ) → IsChosen chosen attempts near → is_some near ≡ is_some chosen
+-- something is chosen exactly where an attempt is found
+pub chosen_or_none : (chosen : Option (ℕ × AttemptState)) (attempts : Attempts) (found : Option FoundAttempt) → IsChosen chosen attempts found → is_some found ≡ is_some chosen
 chosen_or_none chosen attempts None is = sym (ap is_some is)
-chosen_or_none chosen attempts (Some near) is = sym (ap is_some is.chosen_is)
+chosen_or_none chosen attempts (Some found) is = sym (ap is_some is.chosen_is)
 
 -- what was found is what is chosen
 module _ (s : StartupState) (found : Found) (chosen : Option (ℕ × AttemptState)) (is : IsFound s found chosen) where

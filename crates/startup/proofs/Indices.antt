@@ -11,9 +11,10 @@ use Rattle.startup.specs.State.{AttemptState, Attempts}
 use Rattle.startup.specs.Attempts.{lowest, has_number, has_tag}
 use Rattle.startup.specs.declared.attempt.Change.{Change}
 use Rattle.startup.specs.declared.attempt.Change.TheVariants.{Answered, Recookied, Extended, Repeated}
-use Rattle.startup.specs.Sought.{IsChosenAt, change_of}
+use Rattle.startup.specs.Sought.{IsChosenWith, change_of}
 use Rattle.startup.specs.Table.{with_changed, in_attempt}
-use Rattle.startup.specs.Indexed.{Words, IsIndexed, IsFoundBy, number_word, tag_word, word_of}
+use Rattle.startup.specs.Indexed.{Words, IsIndexed, IsFoundBy, number_word, tag_word}
+use Rattle.startup.specs.Words.{word_of}
 
 module _ (word : AttemptState → ℕ) (old new : Words) (attempts : Attempts) (is : IsIndexed word old attempts) where
   -- an attempt comes
@@ -84,9 +85,8 @@ module _ (test : AttemptState → Bool) (words : Words) (word : ℕ) (attempts :
     only : (j : ℕ) (w : AttemptState) → get attempts j ≡ Some w → test w ≡ true → j ≡ near
     only j w there t = same_Some j near (sym (is whole j w there t) ∙ at)
 
-    pub one_by_word : (a : AttemptState) → get attempts near ≡ Some a → test a ≡ true → IsChosenAt (lowest test attempts) attempts near
+    pub one_by_word : (a : AttemptState) → get attempts near ≡ Some a → test a ≡ true → IsChosenWith (lowest test attempts) attempts near a
     one_by_word a there t = record {
-      attempt = a;
       chosen_is = lowest_is_first test attempts near a there t (λ j w lt other. ⊎_elim (λ u. absurd (let e = only j w other u in omega (arith, lt, e))) (λ f. f) (cases_Bool (test w)));
       there = there;
     }

@@ -11,9 +11,10 @@ use Rattle.glare_core.proofs.Tails.{same_end}
 use Rattle.startup.specs.declared.attempt.Stage.{Stage}
 use Rattle.startup.specs.declared.attempt.Stage.TheVariants.{Hello, Keying}
 use Rattle.startup.specs.Attempts.{lowest, has_cookie, is_cookie_of}
-use Rattle.startup.specs.Sought.{IsChosenAt}
+use Rattle.startup.specs.Sought.{IsChosenWith}
 use Rattle.startup.specs.Table.{with_changed, in_attempt}
-use Rattle.startup.specs.Marks.{Marked, is_whole_then, IsUpTo, IsAscending, IsPlace, Stands, mark_at, mark_in, mark_of, cookie_word, IsMarked, IsMarkedBut, passes_in, AreFrom}
+use Rattle.startup.specs.Words.{cookie_word}
+use Rattle.startup.specs.Marks.{Marked, is_whole_then, IsUpTo, IsAscending, IsPlace, Stands, mark_at, mark_in, mark_of, IsMarked, IsMarkedBut, passes_in, AreFrom}
 
 -- ---- another mark comes
 
@@ -136,20 +137,15 @@ module _ (test : AttemptState → Bool) (marks : List Mark) (word : ℕ) (attemp
           (λ f. f) (cases_Bool (test w)))
 
       -- the attempt of this mark is sought
-      pub first_is_lowest : (mark_at marks at).word ≡ word → passes_in test (get attempts (mark_at marks at).near) ≡ true → IsChosenAt (lowest test attempts) attempts (mark_at marks at).near
-      first_is_lowest word_is passes = go (get attempts (mark_at marks at).near) refl passes
-        where
-          go : (o : Option AttemptState) → get attempts (mark_at marks at).near ≡ o → passes_in test o ≡ true → IsChosenAt (lowest test attempts) attempts (mark_at marks at).near
-          go None e t = absurd (let clash : false ≡ true = t in cc)
-          go (Some a) e t = record {
-            attempt = a;
-            chosen_is = lowest_is_first test attempts (mark_at marks at).near a e t (λ j w lt there. ⊎_elim
-                (λ u. absurd (
-                let was = from j w there u in
-                let is = was.here in
-                let up = (order at was.at was.least was.inside).nears (word_is ∙ sym (ap (λ (m : Mark). m.word) is)) in
-                let near : (mark_at marks was.at).near ≡ j = ap (λ (m : Mark). m.near) is in
-                omega (arith, up, near, lt)))
-                (λ f. f) (cases_Bool (test w)));
-            there = e;
-          }
+      pub first_is_lowest : (a : AttemptState) → (mark_at marks at).word ≡ word → get attempts (mark_at marks at).near ≡ Some a → test a ≡ true → IsChosenWith (lowest test attempts) attempts (mark_at marks at).near a
+      first_is_lowest a word_is e t = record {
+        chosen_is = lowest_is_first test attempts (mark_at marks at).near a e t (λ j w lt there. ⊎_elim
+            (λ u. absurd (
+            let was = from j w there u in
+            let is = was.here in
+            let up = (order at was.at was.least was.inside).nears (word_is ∙ sym (ap (λ (m : Mark). m.word) is)) in
+            let near : (mark_at marks was.at).near ≡ j = ap (λ (m : Mark). m.near) is in
+            omega (arith, up, near, lt)))
+            (λ f. f) (cases_Bool (test w)));
+        there = e;
+      }

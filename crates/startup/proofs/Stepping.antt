@@ -25,7 +25,7 @@ use Rattle.glare_core.specs.Calls.{where_true, is_born_of, again_of, heard, hear
 use Rattle.glare_core.proofs.Tails.{same_end}
 use Rattle.glare_core.proofs.Maps.{row_inserted}
 use Rattle.startup.specs.State.{AttemptState, Attempts, StartupState, IsSound, peer_of_attempt}
-use Rattle.startup.specs.Keyings.{again_or_birth, session_answer, born_session, ResponderKeying, repeated_session, opening_id, without, after_again_or_birth, opened_with, after_opening}
+use Rattle.startup.specs.Keyings.{again_or_birth, session_answer, born_session, ResponderKeying, repeated_session, attempt_gone, opening_id, without, after_again_or_birth, opened_with, after_opening}
 
 -- ---- the ledger
 
@@ -252,3 +252,20 @@ opened_is_kept_sound s near peer keying fact ledger attempts sound there told no
 -- where there are no attempts none is found
 pub none_without_attempts : (s : StartupState) (near : ℕ) → s.attempts ≡ empty → get s.attempts near ≡ None
 none_without_attempts s near none = ap (λ (attempts : Attempts). get attempts near) none ∙ get-empty nat_cmp near
+
+-- the attempt that makes way is the one that was held
+way_of : (peer : List ℕ) (thing : Option Held) → attempt_gone (way_made peer thing) ≡ opening_id thing
+way_of peer None = refl
+way_of peer (Some (Opening n near ni)) = refl
+way_of peer (Some (HalfOpen j)) = refl
+way_of peer (Some (KeptAsResponder j)) = refl
+way_of peer (Some (KeptAsInitiator j)) = refl
+
+pub gone_is_opening : (s : StartupState) (keying : Keying) (near : ℕ) (nr : List ℕ) (ended : Option Fact) (born : Fact) (answer : Heard)
+    → repeated_session (held_with s.ledger keying.peer) keying ≡ None → answer ≡ heard s.ledger keying near nr → answer ≡ Birth ended born
+    → attempt_gone ended ≡ opening_id (held_with s.ledger keying.peer)
+gone_is_opening s keying near nr ended born answer fresh is birth =
+    let same : Birth ended born ≡ Birth (way_made keying.peer (held_with s.ledger keying.peer)) (born_fact s.ledger keying near nr) =
+    sym birth ∙ is ∙ birth_heard s.ledger keying near nr (not_repeated (held_with s.ledger keying.peer) keying fresh) in
+    let ends : ended ≡ way_made keying.peer (held_with s.ledger keying.peer) = cc in
+    ap attempt_gone ends ∙ way_of keying.peer (held_with s.ledger keying.peer)

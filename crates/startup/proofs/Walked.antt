@@ -15,8 +15,8 @@ use Rattle.keyed_slab.proofs.Walked.{bettered, first_or_none, looked_by_deadline
 use Rattle.startup.specs.declared.attempt.Row.{Row}
 use Rattle.startup.specs.State.{AttemptState}
 use Rattle.startup.specs.Attempts.{lowest}
-use Rattle.startup.specs.Due.{gap_of, is_due}
-use Rattle.startup.specs.Sought.{IsChosenAt}
+use Rattle.startup.specs.Due.{gap_of, lifetime, is_due}
+use Rattle.startup.specs.Sought.{IsChosenWith}
 use Rattle.startup.specs.Table.{near_of, due_from, row_due_from, row_passes, attempts_in, is_in, no_flags, IsKept, NonePasses, IsFirst, better_of}
 use Rattle.startup.proofs.Seats.{of_key, in_slot, no_flag, seat_of}
 
@@ -81,12 +81,11 @@ module _ (test : AttemptState → Bool) (rows : Seats Row) (keys : KeyTable) (na
   pub none_chosen : NonePasses test rows → lowest test (attempts_in rows) ≡ None
   none_chosen none = none_is_first test (attempts_in rows) (λ q w is. let there = stands_by q w is in ap test (sym there.4) ∙ none there.0 there.1 there.2)
 
-  pub first_chosen : (slot : ℕ) (row : Row) → thing_at rows slot ≡ Some row → IsFirst test rows slot → IsChosenAt (lowest test (attempts_in rows)) (attempts_in rows) row.near
+  first_chosen : (slot : ℕ) (row : Row) → thing_at rows slot ≡ Some row → IsFirst test rows slot → IsChosenWith (lowest test (attempts_in rows)) (attempts_in rows) row.near row.attempt
   first_chosen slot row at first =
       let own = same_Some first.thing row (sym first.stands ∙ at) in
       let here = in_slot rows keys names slot row at in
       record {
-        attempt = row.attempt;
         chosen_is = lowest_is_first test (attempts_in rows) row.near row.attempt here (ap (row_passes test) (sym own) ∙ first.passes) (λ q w less is.
             let there = stands_by q w is in
             ⊎_elim
@@ -100,9 +99,15 @@ module _ (test : AttemptState → Bool) (rows : Seats Row) (keys : KeyTable) (na
         there = here;
       }
 
+  -- the attempt of its row
+  pub found_chosen : (slot : ℕ) (row : Row) → thing_at rows slot ≡ Some row → IsFirst test rows slot → (near : ℕ) (a : AttemptState) → near ≡ row.near → a ≡ row.attempt → IsChosenWith (lowest test (attempts_in rows)) (attempts_in rows) near a
+  found_chosen slot row at first near a near_is is =
+      subst (λ (n : ℕ). IsChosenWith (lowest test (attempts_in rows)) (attempts_in rows) n a) (sym near_is)
+      (subst (λ (b : AttemptState). IsChosenWith (lowest test (attempts_in rows)) (attempts_in rows) row.near b) (sym is) (first_chosen slot row at first))
+
 -- ---- what is due
 
-due_is : (start last gap moment : ℕ) → (nat_le (start + 95000) moment || nat_le (last + gap) moment) ≡ nat_le (min (start + 95000) (last + gap)) moment
+due_is : (start last gap moment : ℕ) → (nat_le (start + lifetime) moment || nat_le (last + gap) moment) ≡ nat_le (min (start + lifetime) (last + gap)) moment
 due_is start last gap moment = grind (arith, nat_tests)
 
 -- something is due of an attempt from its deadline on

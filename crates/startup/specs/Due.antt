@@ -21,9 +21,12 @@ gap_of gap =
     else if gap == 3 then 3375
     else 5062
 
--- An attempt lasts 95,000 ms.
+-- how many milliseconds an attempt lasts
+abbrev pub lifetime : ℕ
+lifetime = 95000
+
 abbrev pub is_over : ℕ → AttemptState → Bool
-is_over moment a = nat_le (a.start + 95000) moment
+is_over moment a = nat_le (a.start + lifetime) moment
 
 abbrev pub is_repeat_due : ℕ → AttemptState → Bool
 is_repeat_due moment a = nat_le (a.last + gap_of a.gap) moment

@@ -1,12 +1,12 @@
 -- The near ids of attempts by a word of each.
-use Rattle.std.specs.Prelude.{ℕ, ◌≡◌, ◌≤◌, Bool, true, List, take, length, Some, refl}
-use Rattle.std.specs.Int.{w64, from_be_bytes}
+use Rattle.std.specs.Prelude.{ℕ, ◌≡◌, ◌≤◌, Bool, true, length, Some, refl}
 use Rattle.std.specs.Coded.{Coded, code_by, coded×, coded_ℕ, coded_bool}
 use Rattle.std.specs.Ordering.{nat_cmp}
 use Rattle.std.specs.FinMap.{FinMap, get, code}
 use Rattle.startup.specs.declared.attempt.Stage.{Stage}
 use Rattle.startup.specs.declared.attempt.Stage.TheVariants.{Hello, Keying}
 use Rattle.startup.specs.State.{AttemptState, Attempts}
+use Rattle.startup.specs.Words.{word_of}
 
 -- the near ids by words, whether no two attempts have had one word, and how many more words there is
 -- room for
@@ -20,10 +20,6 @@ words_code =
     code_by (FinMap nat_cmp ℕ × (Bool × ℕ)) (coded× (code coded_ℕ coded_ℕ) (coded× coded_bool coded_ℕ))
     (λ w. (w.nears, (w.whole, w.spare))) (λ p. record { nears = p.0; whole = p.1.0; spare = p.1.1 })
     (λ _. refl)
-
--- the front of a tag
-abbrev pub word_of : List ℕ → ℕ
-word_of bytes = from_be_bytes w64 (take 8 bytes)
 
 abbrev pub number_word : AttemptState → ℕ
 number_word a = a.n

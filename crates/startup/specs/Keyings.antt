@@ -2,7 +2,7 @@
 -- make.
 use Rattle.std.specs.Prelude.{ℕ, List, [], ◌∷◌, ◌+◌, ◌-◌, ◌==◌, ◌||◌, Bool, true, false, not, length, drop, Option, Some, None, is_some, is_none, Result, Ok, Err, if◌then◌else◌}
 use Rattle.std.specs.Str.{bytes_eq}
-use Rattle.std.specs.FinMap.{get, remove}
+use Rattle.std.specs.FinMap.{contains_key, get, remove}
 use Rattle.sha2.specs.Sha256.{sha256}
 use Rattle.rtmfp_vlu.specs.declared.reading.VluFault.{VluFault}
 use Rattle.rtmfp_vlu.specs.Reading.{number_at}
@@ -19,7 +19,9 @@ use Rattle.identity.specs.declared.discriminator.Epd.{Epd}
 use Rattle.identity.specs.Certificates.{certificate_fault}
 use Rattle.identity.specs.Discriminators.{discriminator_of}
 use Rattle.glare_core.specs.declared.facts.Fact.{Fact}
-use Rattle.glare_core.specs.declared.facts.Fact.TheVariants.{Opened}
+use Rattle.glare_core.specs.declared.facts.Fact.TheVariants.{Opened, Ended}
+use Rattle.glare_core.specs.declared.facts.Why.{Why}
+use Rattle.glare_core.specs.declared.facts.Why.TheVariants.{Glare as ForGlare}
 use Rattle.glare_core.specs.declared.facts.Joined.{Joined}
 use Rattle.glare_core.specs.declared.facts.Held.{Held}
 use Rattle.glare_core.specs.declared.facts.Held.TheVariants.{Opening, HalfOpen, KeptAsResponder, KeptAsInitiator}
@@ -291,6 +293,16 @@ opening_id (Some (HalfOpen j)) = None
 opening_id (Some (KeptAsResponder j)) = None
 opening_id (Some (KeptAsInitiator j)) = None
 
+-- the same by the fact that makes way for a session: what ends for Glare is an attempt
+abbrev pub gone_for : ℕ → Why → Option ℕ
+gone_for near ForGlare = Some near
+gone_for near why = None
+
+abbrev pub attempt_gone : Option Fact → Option ℕ
+attempt_gone (Some (Ended peer near why)) = gone_for near why
+attempt_gone (Some fact) = None
+attempt_gone None = None
+
 -- the attempts without that with this near id, where there is one
 abbrev pub without : Attempts → Option ℕ → Attempts
 without attempts None = attempts
@@ -369,6 +381,11 @@ responder_cause s near payload keying =
     where_true (not (is_signed s.secret payload keying.sign)) BadSignature
     ∷ attempt_cause keying (get s.attempts near)
     ∷ [])
+
+-- the same where the attempt is looked up first: no signature is tested where none is there
+abbrev pub opening_cause : StartupState → ℕ → List ℕ → ResponderKeying → Option Cause
+opening_cause s near payload keying = if contains_key s.attempts near then
+    responder_cause s near payload keying else Some NoAttempt
 
 -- why a responder's keying is discarded that came under this near id
 abbrev pub rikeying_cause : StartupState → ℕ → List ℕ → Option Cause

@@ -1,15 +1,14 @@
 -- The marks of attempts, each the word of a cookie and a near id, and their order.
-use Rattle.std.specs.Prelude.{ℕ, ◌≡◌, ◌<◌, ◌≤◌, ◌&&◌, Bool, true, false, nat_lt, List, take, length, slice_index_or, Option, Some, None, refl}
-use Rattle.std.specs.Int.{w64, from_be_bytes}
+use Rattle.std.specs.Prelude.{ℕ, ◌≡◌, ◌<◌, ◌≤◌, ◌&&◌, Bool, true, false, nat_lt, List, length, slice_index_or, Option, Some, None, refl}
 use Rattle.std.specs.Coded.{Coded, code_by, coded×, coded_list, coded_bool, coded_ℕ}
 use Rattle.std.specs.FinMap.{get}
-use Rattle.sha2.specs.Sha256.{sha256}
 use Rattle.startup.specs.declared.marks.Mark.{Mark}
 use Rattle.startup.specs.declared.attempt.Stage.{Stage}
 use Rattle.startup.specs.declared.attempt.Stage.TheVariants.{Hello, Keying}
 use Rattle.startup.specs.declared.attempt.Change.{Change}
 use Rattle.startup.specs.State.{AttemptState, Attempts}
 use Rattle.startup.specs.Sought.{change_of}
+use Rattle.startup.specs.Words.{cookie_word}
 
 -- the marks, whether there was room for each, and for how many there is room
 pub record Marked : Type 0 where
@@ -74,11 +73,6 @@ abbrev pub Stands : List Mark → Mark → Type 0
 Stands marks mark = StandsFrom marks 0 mark
 
 -- ---- the marks of attempts
-
--- the word of a cookie: the first 8 bytes of its SHA-256. Cookies with one word may be two, where
--- somebody looked long enough for them
-unfoldable pub cookie_word : List ℕ → ℕ
-cookie_word cookie = from_be_bytes w64 (take 8 (sha256 cookie))
 
 -- An attempt has a mark in the keying stage alone.
 abbrev pub mark_in : Stage → ℕ → Option Mark

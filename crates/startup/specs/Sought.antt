@@ -6,6 +6,7 @@ use Rattle.startup.specs.declared.attempt.Change.{Change}
 use Rattle.startup.specs.declared.attempt.Change.TheVariants.{Answered, Recookied, Extended, Repeated}
 use Rattle.startup.specs.declared.rows.Sought.{Sought}
 use Rattle.startup.specs.declared.rows.Sought.TheVariants as sought
+use Rattle.startup.specs.declared.rows.FoundAttempt.{FoundAttempt}
 use Rattle.startup.specs.State.{AttemptState, Attempts}
 use Rattle.startup.specs.Attempts.{lowest, has_number, has_tag, has_cookie, answered, recookied}
 use Rattle.startup.specs.Due.{repeated}
@@ -24,10 +25,22 @@ pub record IsChosenAt (chosen : Option (ℕ × AttemptState)) (attempts : Attemp
   pub chosen_is : chosen ≡ Some (near, attempt)
   pub there : get attempts near ≡ Some attempt
 
--- the near id of the attempt that is chosen, where one is
-abbrev pub IsChosen : Option (ℕ × AttemptState) → Attempts → Option ℕ → Type 0
+-- This attempt was chosen, and has this near id.
+pub record IsChosenWith (chosen : Option (ℕ × AttemptState)) (attempts : Attempts) (near : ℕ)
+    (attempt : AttemptState) : Type 0 where
+  pub chosen_is : chosen ≡ Some (near, attempt)
+  pub there : get attempts near ≡ Some attempt
+
+-- the attempt that is chosen with its near id, where one is
+abbrev pub IsChosen : Option (ℕ × AttemptState) → Attempts → Option FoundAttempt → Type 0
 IsChosen chosen attempts None = chosen ≡ None
-IsChosen chosen attempts (Some near) = IsChosenAt chosen attempts near
+IsChosen chosen attempts (Some found) =
+    IsChosenWith chosen attempts found.near found.attempt.now
+
+-- its near id alone
+abbrev pub IsChosenNear : Option (ℕ × AttemptState) → Attempts → Option ℕ → Type 0
+IsChosenNear chosen attempts None = chosen ≡ None
+IsChosenNear chosen attempts (Some near) = IsChosenAt chosen attempts near
 
 -- What a redirect with this tag and these addresses adds to its attempt, which is in the table.
 pub record IsExtension (attempts : Attempts) (tag : List ℕ) (told : List AddressParts) (near : ℕ)

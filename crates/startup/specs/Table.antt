@@ -12,7 +12,7 @@ use Rattle.keyed_slab.specs.Seating as seating
 use Rattle.keyed_slab.specs.Walks as walks
 use Rattle.startup.specs.declared.attempt.Row.{Row}
 use Rattle.startup.specs.State.{AttemptState, Attempts}
-use Rattle.startup.specs.Due.{gap_of}
+use Rattle.startup.specs.Due.{gap_of, lifetime}
 
 -- what contracts see: the attempts by their near ids, and whether there is room for one more
 pub record Table : Type 0 where
@@ -40,7 +40,7 @@ attempt_of row = row.attempt
 
 -- the moment from which on something is due of an attempt: its repeat, or its end
 abbrev pub due_from : AttemptState → ℕ
-due_from a = min (a.start + 95000) (a.last + gap_of a.gap)
+due_from a = min (a.start + lifetime) (a.last + gap_of a.gap)
 
 abbrev pub row_due_from : Row → ℕ
 row_due_from row = due_from row.attempt

@@ -18,7 +18,6 @@ use crate::leaving::Found;
 use crate::sending::{keying_again, keying_answer};
 use crate::startup::Startup;
 use rtmfp_forms::Address;
-use sha2::{Digest, Sha256};
 
 impl Startup {
     /// The attempt that a responder's hello with this tag, cookie and certificate answers, or why
@@ -39,8 +38,7 @@ impl Startup {
         ensures refused { IfErr result (λ cause. rhello_cause self.now tag.now cookie.now cert.now
             ≡ Some cause) }
     {
-        let print = Sha256::digest(cert);
-        match answered_near(&self.attempts, tag, cookie, &print) {
+        match answered_near(&self.attempts, tag, cookie, cert) {
             Ok(near) => Ok(Found { near }),
             Err(cause) => Err(cause),
         }

@@ -1,5 +1,6 @@
 //! What is kept of an attempt, in fixed arrays.
 
+use crate::words::cookie_word;
 use rtmfp_forms::Address;
 use std::marker::Model;
 
@@ -17,20 +18,24 @@ const LAST_GAP: u8 = 4;
 pub(crate) struct KeptCookie {
     pub(crate) kept: [u8; COOKIE_LIMIT],
     pub(crate) len: usize,
+    /// The word that it is found by, for which it is hashed once.
+    word: u64,
 }
 
 impl Model for KeptCookie {
-    ghost use Rattle.std.specs.Prelude.{ℕ, List, take, ◌≤◌};
+    ghost use Rattle.std.specs.Prelude.{ℕ, List, take, ◌≡◌, ◌≤◌};
+    ghost use Rattle.startup.specs.Words.{cookie_word};
 
     ghost Value = { List ℕ };
 
     ghost view = { λ c. take c.len c.kept };
 
-    ghost invariant = { λ c. c.len ≤ 128 };
+    ghost invariant = { λ c. (c.len ≤ 128) × (c.word ≡ cookie_word (take c.len c.kept)) };
 }
 
 impl KeptCookie {
     ghost use Rattle.std.specs.Prelude.{◌≡◌, ◌≤◌, length};
+    ghost use Rattle.startup.specs.Words.{cookie_word};
 
     /// The cookie that these bytes are.
     pub(crate) fn of(bytes: &[u8]) -> KeptCookie
@@ -42,7 +47,15 @@ impl KeptCookie {
         KeptCookie {
             kept,
             len: bytes.len(),
+            word: cookie_word(bytes),
         }
+    }
+
+    /// The word that it is found by.
+    pub(crate) fn word(&self) -> u64
+        ensures { result ≡ cookie_word self.now }
+    {
+        self.word
     }
 
     pub(crate) fn bytes(&self) -> &[u8]

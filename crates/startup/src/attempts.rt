@@ -102,7 +102,10 @@ impl Startup {
         ensures after { self.new ≡ after_cancel self.old n }
     {
         match self.attempts.find(&Sought::Number(n)) {
-            Some(near) => Some(end_at(&mut self.peers, &mut self.attempts, near, Why::Cancelled)),
+            Some(found) => {
+                let near = found.near;
+                Some(end_at(&mut self.peers, &mut self.attempts, near, Why::Cancelled))
+            }
             None => None,
         }
     }

@@ -2,13 +2,15 @@
 
 ghost use Rattle.std.specs.Prelude.{◌≡◌, ◌≤◌, length, IfOk, IfErr, Some, None};
 ghost use Rattle.std.specs.FinMap.{get};
+ghost use Rattle.sha2.specs.Sha256.{sha256};
 ghost use Rattle.startup.specs.Attempts.{wide, lowest, has_tag, hello_cause, hello_cause_among, changed, if_cookie, change_cause_among};
-ghost use Rattle.startup.specs.Sought.{IsChosen, IsChosenAt};
+ghost use Rattle.startup.specs.Sought.{IsChosenNear, IsChosenAt};
 
 use crate::attempt::{Attempt, Stage};
 use crate::cause::Cause;
 use crate::indexed::IndexedAttempts;
 use crate::rows::{Sought, has_cookie};
+use sha2::{Digest, Sha256};
 
 /// The most bytes of a tag or a cookie that is taken from a peer (own).
 const WIDTH: usize = 128;
@@ -24,13 +26,14 @@ pub fn wide(bytes: &[u8]) -> Option<Cause>
     }
 }
 
-/// Why an attempt isn't answered by the hello of an end with this fingerprint.
-fn hello_cause(attempt: &Attempt, print: &[u8; 32]) -> Option<Cause>
-    ensures { result ≡ hello_cause attempt.now.stage attempt.now.peer print.now }
+/// Why an attempt isn't answered by the hello of an end with this certificate, which is hashed where
+/// the attempt sends hellos alone.
+fn hello_cause(attempt: &Attempt, cert: &[u8]) -> Option<Cause>
+    ensures { result ≡ hello_cause attempt.now.stage attempt.now.peer (sha256 cert.now) }
 {
     match &attempt.stage {
         Stage::Hello => {
-            if attempt.peer == *print {
+            if attempt.peer == Sha256::digest(cert) {
                 None
             } else {
                 Some(Cause::WrongPeer)
@@ -40,21 +43,21 @@ fn hello_cause(attempt: &Attempt, print: &[u8; 32]) -> Option<Cause>
     }
 }
 
-/// The near id of the attempt that a responder's hello with this tag, cookie and fingerprint
+/// The near id of the attempt that a responder's hello with this tag, cookie and certificate
 /// answers, or why it is discarded.
 pub(crate) fn answered_near(
     attempts: &IndexedAttempts,
     tag: &[u8],
     cookie: &[u8],
-    print: &[u8; 32],
+    cert: &[u8],
 ) -> Result<u32, Cause>
     ensures ok { IfOk result (IsChosenAt (lowest (has_tag tag.now) attempts.now.attempts)
         attempts.now.attempts) }
     ensures cookie { IfOk result (λ _. length cookie.now ≤ 128) }
     ensures cause { IfOk result (λ _. hello_cause_among attempts.now.attempts tag.now cookie.now
-        print.now ≡ None) }
+        (sha256 cert.now) ≡ None) }
     ensures refused { IfErr result (λ e. hello_cause_among attempts.now.attempts tag.now cookie.now
-        print.now ≡ Some e) }
+        (sha256 cert.now) ≡ Some e) }
 {
     match wide(tag) {
         Some(cause) => return Err(cause),
@@ -64,21 +67,18 @@ pub(crate) fn answered_near(
         Some(cause) => return Err(cause),
         None => {}
     }
-    let Some(near) = attempts.find(&Sought::Tag(tag)) else {
+    let Some(found) = attempts.find(&Sought::Tag(tag)) else {
         return Err(Cause::NoAttempt);
     };
-    let Some(attempt) = attempts.get(near) else {
-        return Err(Cause::NoAttempt);
-    };
-    match hello_cause(attempt, print) {
+    match hello_cause(found.attempt, cert) {
         Some(cause) => Err(cause),
-        None => Ok(near),
+        None => Ok(found.near),
     }
 }
 
 /// This near id, where its attempt has this cookie.
 fn with_cookie(attempts: &IndexedAttempts, near: u32, cookie: &[u8]) -> Option<u32>
-    ensures { IsChosen (if_cookie cookie.now near (get attempts.now.attempts near))
+    ensures { IsChosenNear (if_cookie cookie.now near (get attempts.now.attempts near))
         attempts.now.attempts result }
 {
     match attempts.get(near) {
@@ -95,10 +95,14 @@ fn with_cookie(attempts: &IndexedAttempts, near: u32, cookie: &[u8]) -> Option<u
 
 /// The near id of the attempt whose cookie a change under this session ID replaces.
 fn chosen_near(attempts: &IndexedAttempts, sid: u32, old: &[u8]) -> Option<u32>
-    ensures { IsChosen (changed attempts.now.attempts sid old.now) attempts.now.attempts result }
+    ensures { IsChosenNear (changed attempts.now.attempts sid old.now) attempts.now.attempts
+        result }
 {
     if sid == 0 {
-        attempts.find(&Sought::Cookie(old))
+        match attempts.find(&Sought::Cookie(old)) {
+            Some(found) => Some(found.near),
+            None => None,
+        }
     } else {
         with_cookie(attempts, sid, old)
     }

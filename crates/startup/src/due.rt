@@ -21,13 +21,11 @@ impl Startup {
         ensures after { self.new ≡ after_due self.old moment }
         ensures falls { IfSome result (λ _. due_count moment self.new < due_count moment self.old) }
     {
-        let Some(near) = self.attempts.due(moment) else {
+        let Some(found) = self.attempts.due(moment) else {
             return None;
         };
-        let Some(attempt) = self.attempts.get(near) else {
-            return None;
-        };
-        if is_over(attempt, moment) {
+        let near = found.near;
+        if is_over(found.attempt, moment) {
             return Some(Due::Ended(end_at(
                 &mut self.peers,
                 &mut self.attempts,
@@ -35,7 +33,7 @@ impl Startup {
                 Why::Expired,
             )));
         }
-        let repeat = repeat_of(near, attempt, &self.sign, &self.cert);
+        let repeat = repeat_of(near, found.attempt, &self.sign, &self.cert);
         self.attempts.change(near, &Change::Repeated, moment);
         Some(repeat)
     }

@@ -1,6 +1,7 @@
 //! The attempts of an end, found by their numbers, tags and cookies as well.
 
-ghost use Rattle.std.specs.Prelude.{◌≡◌, ◌<◌, ◌^◌, ◌≤◌, true, None, Some, OnOk, length};
+ghost use Rattle.std.specs.Prelude.{◌≡◌, ◌<◌, ◌^◌, ◌≤◌, true, false, None, Some, OnOk, IfSome};
+ghost use Rattle.std.specs.Prelude.{IfNone, length};
 ghost use Rattle.std.specs.Option.{option_copied};
 ghost use Rattle.std.specs.FinMap.{empty, get, insert, len, remove};
 ghost use Rattle.startup.specs.State.{AttemptState};
@@ -8,22 +9,19 @@ ghost use Rattle.startup.specs.Attempts.{lowest};
 ghost use Rattle.startup.specs.Due.{is_due};
 ghost use Rattle.startup.specs.Sought.{fits, IsChosen, change_of, Allows};
 ghost use Rattle.startup.specs.Table.{in_attempt};
-ghost use Rattle.startup.specs.Indexed.{word_of, cookie_length, IsFoundBy, IsSized};
+ghost use Rattle.startup.specs.Indexed.{cookie_length, IsFoundBy, IsSized};
 ghost use Rattle.startup.specs.declared.marks.Mark.{Mark};
-ghost use Rattle.startup.specs.Marks.{cookie_word, mark_of, passes_in, AreFrom, AreOf, AreOfOthers, IsAscending, IsMarked, IsMarkedBut, KeepsMarks};
+ghost use Rattle.startup.specs.Marks.{mark_of, passes_in, AreFrom, AreOf, AreOfOthers, IsAscending, IsMarked, IsMarkedBut, KeepsMarks};
 
 use crate::attempt::{Attempt, COOKIE_LIMIT, Change, Stage};
 use crate::index::Index;
 use crate::marks::{Mark, Marks, place};
-use crate::rows::{Sought, fits};
+use crate::rows::{FoundAttempt, Sought, fits};
 use crate::table::AttemptTable;
+use crate::words::{cookie_word, word_of};
 use rtmfp_base::Memory;
-use sha2::{Digest, Sha256};
 use std::alloc::Global;
 use std::marker::Model;
-
-/// How many bytes of a tag are its word.
-const WORD: usize = 8;
 
 /// How many bytes a tag has.
 const TAG: usize = 16;
@@ -61,16 +59,6 @@ impl Model for IndexedAttempts {
         × AreSized t.table.attempts × AreOf t.cookies.marks t.table.attempts };
 }
 
-/// The word of a tag: its first 8 bytes.
-fn word_of(tag: &[u8]) -> u64
-    requires { 8 ≤ length tag.now }
-    ensures { result ≡ word_of tag.now }
-{
-    let mut first = [0u8; WORD];
-    first.copy_from_slice(&tag[..WORD]);
-    u64::from_be_bytes(first)
-}
-
 /// A tag has 16 bytes. This and the next two do nothing: they tell what the types say.
 fn is_tag(tag: &[u8; 16])
     ensures { length tag.now ≡ 16 }
@@ -96,8 +84,13 @@ fn is_sized(attempt: &Attempt)
     is_narrow(&attempt.stage);
 }
 
-/// The near id of the attempt that is sought, which has this word.
-fn find_in(table: &AttemptTable, index: &Index, word: u64, sought: &Sought<'_>) -> Option<u32>
+/// The attempt that is sought, which has this word.
+fn find_in<'a>(
+    table: &'a AttemptTable,
+    index: &Index,
+    word: u64,
+    sought: &Sought<'_>,
+) -> Option<FoundAttempt<'a>>
     requires { IsFoundBy (fits sought.now) index.now word table.now.attempts }
     ensures { IsChosen (lowest (fits sought.now) table.now.attempts) table.now.attempts result }
 {
@@ -111,28 +104,19 @@ fn find_in(table: &AttemptTable, index: &Index, word: u64, sought: &Sought<'_>) 
         return None;
     };
     if fits(attempt, sought) {
-        return Some(near);
+        return Some(FoundAttempt { near, attempt });
     }
     None
 }
 
-/// The word of a cookie.
-fn cookie_word(cookie: &[u8]) -> u64
-    requires { length cookie.now ≤ 128 }
-    ensures { result ≡ cookie_word cookie.now }
-{
-    let print = Sha256::digest(cookie);
-    word_of(&print)
-}
-
-/// The mark of an attempt under a near id.
+/// The mark of an attempt under a near id. No cookie is hashed for it.
 fn mark_of(attempt: &Attempt, near: u32) -> Option<Mark>
     ensures { result ≡ mark_of attempt.now near }
 {
     match &attempt.stage {
         Stage::Hello => None,
         Stage::Keying { cookie, .. } => Some(Mark {
-            word: cookie_word(cookie.bytes()),
+            word: cookie.word(),
             near,
         }),
     }
@@ -184,19 +168,30 @@ fn keeps_mark(change: &Change<'_>) -> bool
     }
 }
 
-/// Whether the attempt under this near id is one that is sought.
-fn is_sought(table: &AttemptTable, near: u32, sought: &Sought<'_>) -> bool
-    ensures { result ≡ passes_in (fits sought.now) (get table.now.attempts near) }
+/// The attempt under this near id, where it is one that is sought.
+fn sought_at<'a>(table: &'a AttemptTable, near: u32, sought: &Sought<'_>) -> Option<&'a Attempt>
+    ensures there { IfSome result (λ a. get table.now.attempts near ≡ Some a.now) }
+    ensures fits { IfSome result (λ a. fits sought.now a.now ≡ true) }
+    ensures none { IfNone result (passes_in (fits sought.now) (get table.now.attempts near)
+        ≡ false) }
 {
-    match table.get(near) {
-        None => false,
-        Some(attempt) => fits(attempt, sought),
+    let Some(attempt) = table.get(near) else {
+        return None;
+    };
+    if fits(attempt, sought) {
+        return Some(attempt);
     }
+    None
 }
 
-/// The near id of the attempt that is sought, whose mark has this word. It looks at those alone
-/// whose marks have it.
-fn find_marked(table: &AttemptTable, marks: &[Mark], word: u64, sought: &Sought<'_>) -> Option<u32>
+/// The attempt that is sought, whose mark has this word. It looks at those alone whose marks have
+/// it.
+fn find_marked<'a>(
+    table: &'a AttemptTable,
+    marks: &[Mark],
+    word: u64,
+    sought: &Sought<'_>,
+) -> Option<FoundAttempt<'a>>
     requires order { IsAscending marks.now }
     requires marked { AreFrom (fits sought.now) marks.now 0 word table.now.attempts }
     ensures { IsChosen (lowest (fits sought.now) table.now.attempts) table.now.attempts result }
@@ -207,9 +202,13 @@ fn find_marked(table: &AttemptTable, marks: &[Mark], word: u64, sought: &Sought<
         if mark.word != word {
             return None;
         }
-        if is_sought(table, mark.near, sought) {
-            return Some(mark.near);
-        }
+        let Some(attempt) = sought_at(table, mark.near, sought) else {
+            continue;
+        };
+        return Some(FoundAttempt {
+            near: mark.near,
+            attempt,
+        });
     }
     None
 }
@@ -305,8 +304,8 @@ impl IndexedAttempts {
         self.table.forget(near);
     }
 
-    /// The near id of the attempt that is sought; of several that with the lowest one.
-    pub(crate) fn find(&self, sought: &Sought<'_>) -> Option<u32>
+    /// The attempt that is sought; of several that with the lowest near id.
+    pub(crate) fn find(&self, sought: &Sought<'_>) -> Option<FoundAttempt<'_>>
         ensures { IsChosen (lowest (fits sought.now) self.now.attempts) self.now.attempts result }
     {
         match sought {
@@ -334,9 +333,8 @@ impl IndexedAttempts {
         }
     }
 
-    /// The near id of the attempt that is due first, by rising near ids. It looks at those alone
-    /// that are due.
-    pub(crate) fn due(&self, moment: u64) -> Option<u32>
+    /// The attempt that is due first, by rising near ids. It looks at those alone that are due.
+    pub(crate) fn due(&self, moment: u64) -> Option<FoundAttempt<'_>>
         ensures { IsChosen (lowest (is_due moment) self.now.attempts) self.now.attempts result }
     {
         self.table.due(moment)

@@ -1,18 +1,16 @@
 //! What a keying is found to be before anything changes, and what it then does. Each is read, and
 //! its signature and cookie are tested, once.
 
-ghost use Rattle.std.specs.Prelude.{ℕ, [], ◌∷◌, Option, ◌≡◌, IfOk, IfErr, OnErr, IsTrue};
+ghost use Rattle.std.specs.Prelude.{ℕ, [], ◌∷◌, Option, ◌≡◌, ◌≢◌, IfOk, IfErr, OnErr, IsTrue};
 ghost use Rattle.std.specs.Prelude.{Ok, Some, None};
 ghost use Rattle.std.specs.FinMap.{get};
-ghost use Rattle.std.specs.Option.{option_copied};
 ghost use Rattle.sha2.specs.Sha256.{sha256};
 ghost use Rattle.cookies.specs.declared.CookieTest.TheVariants.{Current};
 ghost use Rattle.glare_core.specs.Account.{Gave};
-ghost use Rattle.glare_core.specs.Calls.{where_true, is_born_of};
 ghost use Rattle.startup.specs.Keyings.{initiator_keying_in, responder_keying_in, keying_of};
 ghost use Rattle.startup.specs.Keyings.{is_own, heard_cause, named_cause, keyed, after_keying};
-ghost use Rattle.startup.specs.Keyings.{needs_row, keyed_facts, repeated_session, iikeying_cause};
-ghost use Rattle.startup.specs.Keyings.{is_in_hello, attempt_cause, responder_cause};
+ghost use Rattle.startup.specs.Keyings.{needs_row, keyed_facts, iikeying_cause};
+ghost use Rattle.startup.specs.Keyings.{is_in_hello, attempt_cause, responder_cause, opening_cause};
 ghost use Rattle.startup.specs.Keyings.{rikeying_cause, opened, after_opening};
 ghost use Rattle.startup.specs.Packets.{is_signed};
 ghost use Rattle.startup.specs.Judging.{unless_cause, again_or_new, hearing, judged_initiator};
@@ -30,7 +28,7 @@ use crate::reading::{
 };
 use crate::startup::Startup;
 use cookies::CookieTest;
-use glare_core::{Fact, HearRefusal, Held, Joined, Keying};
+use glare_core::{Fact, HearRefusal, Joined, Keying};
 use identity::Certificate;
 use rtmfp_forms::Address;
 
@@ -57,48 +55,17 @@ fn keying_of(fields: &InitiatorFields<'_>) -> Keying
     }
 }
 
-/// The cause that goes with a refusal of the ledger.
-fn heard_cause(full: Option<u32>, refusal: Option<HearRefusal>) -> Option<Cause>
-    ensures { result ≡ heard_cause full refusal }
+/// The cause that goes with a refusal of the ledger, which isn't want of memory.
+fn heard_cause(full: Option<u32>, refusal: HearRefusal) -> Cause
+    requires { refusal ≢ HearRefusal.Memory }
+    ensures { heard_cause full (Some refusal) ≡ Some result }
 {
     match refusal {
-        None => None,
-        Some(HearRefusal::Stale(floor)) => Some(Cause::Stale(floor)),
-        Some(HearRefusal::Glare(n)) => Some(Cause::Glare(n)),
-        Some(HearRefusal::PeersFull(count)) => Some(Cause::PeersFull(count)),
-        Some(HearRefusal::SessionsFull) => Some(Cause::SessionsFull(u64::from(full.unwrap_or(0)))),
-        Some(HearRefusal::Memory) => None,
-    }
-}
-
-/// Whether the session was born of this very keying of its peer.
-fn is_born_of(joined: &Joined, keying: &Keying) -> bool
-    ensures { result ≡ is_born_of joined.now keying.now }
-{
-    joined.n == keying.n && joined.ni == keying.ni && joined.far == keying.far
-}
-
-/// The held session, where it was born of this very keying.
-fn repeated_session(held: Option<&Held>, keying: &Keying) -> Option<Joined>
-    ensures { result ≡ repeated_session (option_copied held.entry) keying.now }
-{
-    match held {
-        Some(Held::HalfOpen(joined)) => born_again(joined, keying),
-        Some(Held::KeptAsResponder(joined)) => born_again(joined, keying),
-        Some(Held::KeptAsInitiator(_)) => None,
-        Some(Held::Opening { .. }) => None,
-        None => None,
-    }
-}
-
-/// The session, where it was born of this very keying.
-fn born_again(joined: &Joined, keying: &Keying) -> Option<Joined>
-    ensures { result ≡ where_true (is_born_of joined.now keying.now) joined.now }
-{
-    if is_born_of(joined, keying) {
-        Some(*joined)
-    } else {
-        None
+        HearRefusal::Stale(floor) => Cause::Stale(floor),
+        HearRefusal::Glare(n) => Cause::Glare(n),
+        HearRefusal::PeersFull(count) => Cause::PeersFull(count),
+        HearRefusal::SessionsFull => Cause::SessionsFull(u64::from(full.unwrap_or(0))),
+        HearRefusal::Memory => unreachable!(),
     }
 }
 
@@ -188,11 +155,9 @@ impl Startup {
         if self.is_own(&fields.cert, &keying.peer) {
             return Err(Cause::OwnCertificate);
         }
-        let refusal = self.peers.hear_refusal(&keying, full.is_none());
-        let repeated = repeated_session(self.peers.held(&keying.peer), &keying);
-        match heard_cause(full, refusal) {
-            Some(cause) => Err(cause),
-            None => Ok(again_or_new(keying, repeated)),
+        match self.peers.judge(&keying, full.is_none()) {
+            Ok(repeated) => Ok(again_or_new(keying, repeated)),
+            Err(refusal) => Err(heard_cause(full, refusal)),
         }
     }
 
@@ -295,6 +260,31 @@ impl Startup {
             return Err(Cause::BadSignature);
         }
         opened_peer(&self.attempts, near, fields)
+    }
+
+    /// The peer whose attempt with this near id a responder's keying opens, or why the keying is
+    /// discarded, where the attempt is looked up before the signature is tested.
+    ///
+    /// No such attempt is the first cause then, and behind it come those of `responder_keying`, in
+    /// their order. It changes nothing and takes no memory.
+    pub fn judge_opening(&self, near: u32, fields: &ResponderFields<'_>) -> Result<[u8; 32], Cause>
+        ensures peer { IfOk result (λ peer. peer_of_attempt (get self.now.attempts near)
+            ≡ Some peer) }
+        ensures none { IfOk result (λ _. opening_cause self.now near fields.now.payload.now
+            (responder_of fields.now) ≡ None) }
+        ensures refused { IfErr result (λ cause. opening_cause self.now near
+            fields.now.payload.now (responder_of fields.now) ≡ Some cause) }
+    {
+        let Some(attempt) = self.attempts.get(near) else {
+            return Err(Cause::NoAttempt);
+        };
+        if !self.has_signed(fields.payload, fields.sign) {
+            return Err(Cause::BadSignature);
+        }
+        match unopened_cause(attempt, fields) {
+            Some(cause) => Err(cause),
+            None => Ok(attempt.peer),
+        }
     }
 
     /// Opens the session of the attempt with this near id, which is one with this peer; the attempt

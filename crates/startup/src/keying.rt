@@ -3,7 +3,6 @@
 
 ghost use Rattle.std.specs.Prelude.{[], ◌∷◌, ◌≡◌, ◌≢◌, ◌≤◌, length, true, false, IfOk, IfErr};
 ghost use Rattle.std.specs.Prelude.{IfSome, IfNone, IsOkAnd, IsTrue, OnErr, Ok, Err, Some, None};
-ghost use Rattle.std.specs.Option.{option_copied};
 ghost use Rattle.sha2.specs.Sha256.{sha256};
 ghost use Rattle.glare_core.specs.Ledger.{held_with, knows};
 ghost use Rattle.glare_core.specs.Account.{Gave};
@@ -11,7 +10,7 @@ ghost use Rattle.glare_core.specs.Calls.{hear_refusal};
 ghost use Rattle.startup.specs.Keyings.{selects, initiator_hello_cause, initiator_hello_answer};
 ghost use Rattle.startup.specs.Keyings.{iikeying_cause, change_answer, session_answer};
 ghost use Rattle.startup.specs.Keyings.{repeated_session, again_or_birth, after_again_or_birth};
-ghost use Rattle.startup.specs.Keyings.{keyed, after_keying, needs_row, keyed_facts, opening_id};
+ghost use Rattle.startup.specs.Keyings.{keyed, after_keying, needs_row, keyed_facts, attempt_gone, gone_for};
 ghost use Rattle.startup.specs.Keyings.{rikeying_cause, opened, after_opening};
 ghost use Rattle.startup.specs.Read.{initiator_of};
 
@@ -22,20 +21,27 @@ use crate::packets::{cookiechange_packet, rhello_packet, rikeying_packet};
 use crate::reading::{InitiatorFields, read_initiator_keying, read_responder_keying};
 use crate::rows::forget;
 use crate::startup::Startup;
-use glare_core::{Fact, Heard, Held, Joined, Keying};
+use glare_core::{Fact, Heard, Joined, Keying, Why};
 use identity::Epd;
 use rtmfp_forms::Address;
 
-/// The near id of a held attempt.
-fn opening_id(held: Option<&Held>) -> Option<u32>
-    ensures { result ≡ opening_id (option_copied held.entry) }
+/// The near id of what ends for such a cause, where it is an attempt that makes way for a session.
+fn gone_for(near: u32, why: Why) -> Option<u32>
+    ensures { result ≡ gone_for near why }
 {
-    match held {
-        Some(Held::Opening { near, .. }) => Some(*near),
-        Some(Held::HalfOpen(_)) => None,
-        Some(Held::KeptAsResponder(_)) => None,
-        Some(Held::KeptAsInitiator(_)) => None,
-        None => None,
+    match why {
+        Why::Glare => Some(near),
+        _ => None,
+    }
+}
+
+/// The near id of the attempt that made way for a session, where one did.
+fn attempt_gone(ended: &Option<Fact>) -> Option<u32>
+    ensures { result ≡ attempt_gone ended.now }
+{
+    match ended {
+        Some(Fact::Ended { near, why, .. }) => gone_for(*near, *why),
+        _ => None,
     }
 }
 
@@ -158,9 +164,9 @@ impl Startup {
             k: self.peers.started(),
         };
         let answer = self.session_answer(&session, from);
-        let attempt = opening_id(self.peers.held(&keying.peer));
         match self.peers.hear(keying, near, nr, true) {
             Ok(Heard::Birth { ended, born }) => {
+                let attempt = attempt_gone(&ended);
                 forget(&mut self.attempts, attempt);
                 Ok(Keyed::Birth {
                     ended,

@@ -28,6 +28,7 @@ mod rows;
 mod sending;
 mod startup;
 mod table;
+mod words;
 
 pub use answer::{Answer, Due, KeyRefusal, Keyed, Spread};
 pub use cause::Cause;

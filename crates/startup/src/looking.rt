@@ -37,11 +37,8 @@ impl Startup {
     pub fn due_sends(&self, moment: u64) -> Option<usize>
         ensures { result ≡ due_sends self.now moment }
     {
-        let Some(near) = self.attempts.due(moment) else {
-            return None;
-        };
-        match self.attempts.get(near) {
-            Some(attempt) => Some(sends(attempt, moment)),
+        match self.attempts.due(moment) {
+            Some(found) => Some(sends(found.attempt, moment)),
             None => None,
         }
     }

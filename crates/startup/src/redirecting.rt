@@ -19,7 +19,7 @@ use crate::indexed::IndexedAttempts;
 use crate::judging::is_in_hello;
 use crate::leaving::Found;
 use crate::packets::redirect_packet;
-use crate::rows::Sought;
+use crate::rows::{FoundAttempt, Sought};
 use crate::sending::hello_to;
 use crate::startup::Startup;
 use rtmfp_forms::Address;
@@ -82,10 +82,7 @@ fn extension_by(
         Some(cause) => return Err(cause),
         None => {}
     }
-    let Some(near) = attempts.find(&Sought::Tag(tag)) else {
-        return Err(Cause::NoAttempt);
-    };
-    let Some(attempt) = attempts.get(near) else {
+    let Some(FoundAttempt { near, attempt }) = attempts.find(&Sought::Tag(tag)) else {
         return Err(Cause::NoAttempt);
     };
     if !is_in_hello(&attempt.stage) {

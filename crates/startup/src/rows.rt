@@ -29,6 +29,13 @@ pub(crate) enum Sought<'a> {
     Cookie(&'a [u8]),
 }
 
+/// An attempt that was found, and its near id.
+#[derive(Clone, Copy)]
+pub(crate) struct FoundAttempt<'a> {
+    pub(crate) near: u32,
+    pub(crate) attempt: &'a Attempt,
+}
+
 /// Whether the attempt has this cookie, which it has in the keying stage alone.
 pub(crate) fn has_cookie(attempt: &Attempt, cookie: &[u8]) -> bool
     ensures { result ≡ has_cookie cookie.now attempt.now }

@@ -11,7 +11,7 @@ ghost use Rattle.startup.specs.Sought.{fits, IsChosen, change_of, Allows};
 ghost use Rattle.startup.specs.Table.{due_from, changed_row, in_attempt, better_of, IsFirst, NonePasses};
 
 use crate::attempt::{Attempt, Change, Row};
-use crate::rows::{Sought, due_from, fits};
+use crate::rows::{FoundAttempt, Sought, due_from, fits};
 use deadlines::Deadlines;
 use keyed_slab::{KeyedSlab, Keys};
 use rtmfp_base::Memory;
@@ -56,6 +56,17 @@ fn change_row(row: &mut Row, change: &Change<'_>, moment: u64) -> u128
 {
     row.attempt.change(change, moment);
     due_from(&row.attempt)
+}
+
+/// The attempt of a row, which was found.
+fn found_in(row: &Row) -> FoundAttempt<'_>
+    ensures near { result.near ≡ row.now.near }
+    ensures attempt { result.attempt.now ≡ row.now.attempt }
+{
+    FoundAttempt {
+        near: row.near,
+        attempt: &row.attempt,
+    }
 }
 
 /// The slot with the lowest near id of the attempts that are sought, once one more slot was looked
@@ -180,23 +191,22 @@ impl AttemptTable {
         self.deadlines.clear(key.slot);
     }
 
-    /// The near id of the attempt that is sought; of several that with the lowest one.
-    pub(crate) fn find(&self, sought: &Sought<'_>) -> Option<u32>
+    /// The attempt that is sought; of several that with the lowest near id.
+    pub(crate) fn find(&self, sought: &Sought<'_>) -> Option<FoundAttempt<'_>>
         ensures { IsChosen (lowest (fits sought.now) self.now.attempts) self.now.attempts result }
     {
         match lowest_in(&self.rows, sought) {
-            Some(slot) => Some(self.rows[slot].near),
+            Some(slot) => Some(found_in(&self.rows[slot])),
             None => None,
         }
     }
 
-    /// The near id of the attempt that is due first, by rising near ids. It looks at those alone
-    /// that are due.
-    pub(crate) fn due(&self, moment: u64) -> Option<u32>
+    /// The attempt that is due first, by rising near ids. It looks at those alone that are due.
+    pub(crate) fn due(&self, moment: u64) -> Option<FoundAttempt<'_>>
         ensures { IsChosen (lowest (is_due moment) self.now.attempts) self.now.attempts result }
     {
         match self.deadlines.due(moment) {
-            Some(slot) => Some(self.rows[slot].near),
+            Some(slot) => Some(found_in(&self.rows[slot])),
             None => None,
         }
     }

@@ -1,4 +1,4 @@
-use Rattle.std.proofs.Common.{◌<◌, ◌∙◌, sym, arith, length}
+use Rattle.std.proofs.Common.{◌<◌, arith, length}
 use Rattle.startup.specs.Sought.{fits}
 use Rattle.startup.proofs.Marking.{from_place, from_next, none_left, none_further, first_is_lowest}
 use Rattle.startup.proofs.indexed.find_marked.Goals as goal
@@ -9,7 +9,7 @@ loop-at-init c = (omega arith, from_place (fits c.args.sought.now) c.args.marks.
 pub loop-at-preserved : goal.loop-at-preserved
 loop-at-preserved c =
     let here = c.loop-at.invariant.0 in
-    (omega (arith, here), from_next (fits c.args.sought.now) c.args.marks.now c.args.word c.args.table.now.attempts c.loop-at.at c.loop-at.invariant.1 (sym c.is_sought.ensures ∙ c.if-is_sought.false))
+    (omega (arith, here), from_next (fits c.args.sought.now) c.args.marks.now c.args.word c.args.table.now.attempts c.loop-at.at c.loop-at.invariant.1 c.in_default.ensures.none)
 
 pub returns-then-mark-word : goal.returns-then-mark-word
 returns-then-mark-word c =
@@ -17,11 +17,11 @@ returns-then-mark-word c =
     none_further (fits c.args.sought.now) c.args.marks.now c.args.word c.args.table.now.attempts c.loop-at.at c.loop-at.invariant.1 c.requires.order inside
     (c.place-start.ensures.behind c.loop-at.at c.loop-at.invariant.0 inside) (λ e. omega (arith, e))
 
-pub returns-then-is_sought : goal.returns-then-is_sought
-returns-then-is_sought c =
+pub returns-in-loop-at : goal.returns-in-loop-at
+returns-in-loop-at c =
     let inside : c.loop-at.at < length c.args.marks.now = omega arith in
     first_is_lowest (fits c.args.sought.now) c.args.marks.now c.args.word c.args.table.now.attempts c.loop-at.at c.loop-at.invariant.1 c.requires.order inside
-    (omega arith) (sym c.is_sought.ensures ∙ c.if-is_sought.true)
+    c.in-Some.attempt.now (omega arith) c.in-Some.ensures.there c.in-Some.ensures.fits
 
 pub returns : goal.returns
 returns c = none_left (fits c.args.sought.now) c.args.marks.now c.args.word c.args.table.now.attempts c.loop-at.at c.loop-at.invariant.1 (omega arith)

@@ -7,7 +7,7 @@ use Rattle.glare_core.specs.Calls.{heard, heard_noted}
 use Rattle.startup.specs.State.{StartupState}
 use Rattle.startup.specs.Rows.{state_of}
 use Rattle.startup.specs.Keyings.{repeated_session, opening_id, without, session_answer, born_session}
-use Rattle.startup.proofs.Stepping.{born_is_kept_sound, born_is_birth}
+use Rattle.startup.proofs.Stepping.{born_is_kept_sound, born_is_birth, gone_is_opening}
 use Rattle.startup.proofs.startup.Startup.bear.Goals as goal
 
 pub invariant_of-self : goal.invariant_of-self
@@ -16,7 +16,8 @@ invariant_of-self c =
     let keying : Keying = c.args.keying.now in
     let fresh : repeated_session (held_with s.ledger keying.peer) keying ≡ None =
     ap (λ (t : StartupState). repeated_session (held_with t.ledger keying.peer) keying) c.self.view_is ∙ c.requires.fresh in
-    let gone : c.opening_id-attempt.result ≡ opening_id (held_with s.ledger keying.peer) = c.opening_id-attempt.ensures ∙ ap opening_id c.held.ensures.held in
+    let gone : c.attempt_gone-attempt.result ≡ opening_id (held_with s.ledger keying.peer) =
+    c.attempt_gone-attempt.ensures ∙ gone_is_opening s keying c.args.near c.args.nr c.in-Ok-Birth.ended c.in-Ok-Birth.born c.in-Ok-Birth.field-0 fresh c.in-Ok-Birth.ensures.ok.0 c.in-Ok-Birth.field-0-is in
     record {
       print_is = c.self.invariant.print_is;
       sign_is = c.self.invariant.sign_is;
@@ -33,8 +34,9 @@ returns-in-Ok-Birth-clause-ok c =
     sym c.in-Ok-Birth.field-0-is ∙ c.in-Ok-Birth.ensures.ok.0 ∙ ap (λ (l : Ledger). heard l keying c.args.near c.args.nr) ledger_is in
     let noted_is : c.hear.new.self ≡ heard_noted c.args.self.now.ledger (heard c.args.self.now.ledger keying c.args.near c.args.nr) =
     c.in-Ok-Birth.ensures.ok.1 ∙ (λ i. heard_noted (ledger_is i) ((c.in-Ok-Birth.field-0-is ∙ heard_is) i)) in
-    let gone : c.opening_id-attempt.result ≡ opening_id (held_with c.args.self.now.ledger keying.peer) =
-    c.opening_id-attempt.ensures ∙ ap opening_id (c.held.ensures.held ∙ ap (λ (l : Ledger). held_with l keying.peer) ledger_is) in
+    let gone : c.attempt_gone-attempt.result ≡ opening_id (held_with c.args.self.now.ledger keying.peer) =
+    c.attempt_gone-attempt.ensures
+    ∙ gone_is_opening c.args.self.now keying c.args.near c.args.nr c.in-Ok-Birth.ended c.in-Ok-Birth.born c.in-Ok-Birth.field-0 c.requires.fresh (c.in-Ok-Birth.field-0-is ∙ heard_is) c.in-Ok-Birth.field-0-is in
     let left_is : c.forget.new.attempts.attempts ≡ without c.args.self.now.attempts (opening_id (held_with c.args.self.now.ledger keying.peer)) =
     c.forget.ensures ∙ (λ i. without (attempts_are i) (gone i)) in
     let count : c.started.result ≡ c.args.self.now.ledger.started = c.started.ensures.started ∙ ap (λ (l : Ledger). l.started) ledger_is in

@@ -1,5 +1,4 @@
 use Rattle.std.proofs.Common.{◌<◌, ◌∙◌, refl, sym, ap, subst, is_some, Some, if◌then◌else◌}
-use Rattle.std.specs.FinMap.{get}
 use Rattle.glare_core.specs.declared.facts.Fact.{Fact}
 use Rattle.glare_core.specs.declared.facts.Why.TheVariants.{Expired}
 use Rattle.startup.specs.declared.answer.Due.{Due}
@@ -7,17 +6,10 @@ use Rattle.startup.specs.declared.answer.Due.TheVariants.{Ended as EndDue}
 use Rattle.startup.specs.State.{StartupState}
 use Rattle.startup.specs.Rows.{state_of}
 use Rattle.startup.specs.Attempts.{with_attempt, without_attempt, ended_attempt}
-use Rattle.startup.specs.Due.{is_over, repeated, repeat_signed, repeat_of, due, due_of, after_due, after_due_of, due_count}
-use Rattle.startup.proofs.Choices.{got_is, never_none}
+use Rattle.startup.specs.Due.{repeated, repeat_signed, repeat_of, due, due_of, after_due, after_due_of, due_count}
 use Rattle.startup.proofs.Falling.{falls_when}
 use Rattle.startup.proofs.Startups.{held_at, ended_is_kept, ended_state, changed_is_kept, changed_state}
 use Rattle.startup.proofs.startup.Startup.due.Goals as goal
-
-pub returns-in_default-get-clause-due : goal.returns-in_default-get-clause-due
-returns-in_default-get-clause-due c =
-    let i = c.self.inside in
-    let chosen = c.in-Some.ensures in
-    absurd (never_none chosen.attempt (get i.attempts.attempts c.in-Some.near) c.in_default-get.ensures chosen.there)
 
 pub end_at-requires-clause-there : goal.end_at-requires-clause-there
 end_at-requires-clause-there c = ap is_some c.in-Some.ensures.there
@@ -26,19 +18,19 @@ pub end_at-requires-clause-held : goal.end_at-requires-clause-held
 end_at-requires-clause-held c b at =
     let i = c.self.inside in
     let chosen = c.in-Some.ensures in
-    held_at i.cert i.print i.secret i.sign i.cookies i.peers i.attempts.attempts c.self.invariant c.in-Some.near chosen.attempt chosen.there b at
+    held_at i.cert i.print i.secret i.sign i.cookies i.peers i.attempts.attempts c.self.invariant c.in-Some.found.near c.in-Some.found.attempt.now chosen.there b at
 
 pub invariant_of-self : goal.invariant_of-self
 invariant_of-self c =
     let i = c.self.inside in
     let chosen = c.in-Some.ensures in
-    ended_is_kept i.cert i.print i.secret i.sign i.cookies i.peers i.attempts.attempts c.self.invariant c.in-Some.near chosen.attempt chosen.there Expired c.end_at.result c.end_at.ensures.fact c.end_at.new.peers c.end_at.new.attempts.attempts c.end_at.ensures.ledger c.end_at.ensures.gone
+    ended_is_kept i.cert i.print i.secret i.sign i.cookies i.peers i.attempts.attempts c.self.invariant c.in-Some.found.near c.in-Some.found.attempt.now chosen.there Expired c.end_at.result c.end_at.ensures.fact c.end_at.new.peers c.end_at.new.attempts.attempts c.end_at.ensures.ledger c.end_at.ensures.gone
 
 pub invariant_of-self-2 : goal.invariant_of-self-2
 invariant_of-self-2 c =
     let i = c.self.inside in
     let chosen = c.in-Some.ensures in
-    changed_is_kept i.cert i.print i.secret i.sign i.cookies i.peers i.attempts.attempts c.self.invariant c.in-Some.near chosen.attempt chosen.there (λ a. repeated a c.args.moment) c.change.new.self.attempts c.change.ensures
+    changed_is_kept i.cert i.print i.secret i.sign i.cookies i.peers i.attempts.attempts c.self.invariant c.in-Some.found.near c.in-Some.found.attempt.now chosen.there (λ a. repeated a c.args.moment) c.change.new.self.attempts c.change.ensures
     (record { peer = λ a. refl; n = λ a. refl; ni = λ a. refl })
 
 -- ---- it ends
@@ -48,10 +40,9 @@ returns-then-is_over-clause-due c =
     let i = c.self.inside in
     let chosen = c.in-Some.ensures in
     let s : StartupState = state_of i.cert i.secret i.cookies i.peers i.attempts.attempts in
-    let e = got_is i.attempts.attempts c.in-Some.near c.in-Some-get.attempt.now chosen.attempt (sym c.in-Some-get.ensures) chosen.there in
-    let over = ap (is_over c.args.moment) (sym e) ∙ sym c.is_over.ensures ∙ c.if-is_over.true in
-    ap (λ (f : Fact). Some (EndDue f)) (c.end_at.ensures.fact chosen.attempt chosen.there)
-    ∙ sym (ap (due_of s c.args.moment) chosen.chosen_is ∙ ap (λ b. Some (if b then EndDue (ended_attempt (c.in-Some.near, chosen.attempt) Expired) else repeat_of s c.in-Some.near chosen.attempt)) over)
+    let over = sym c.is_over.ensures ∙ c.if-is_over.true in
+    ap (λ (f : Fact). Some (EndDue f)) (c.end_at.ensures.fact c.in-Some.found.attempt.now chosen.there)
+    ∙ sym (ap (due_of s c.args.moment) chosen.chosen_is ∙ ap (λ b. Some (if b then EndDue (ended_attempt (c.in-Some.found.near, c.in-Some.found.attempt.now) Expired) else repeat_of s c.in-Some.found.near c.in-Some.found.attempt.now)) over)
     ∙ ap (λ (t : StartupState). due t c.args.moment) c.self.view_is
 
 pub returns-then-is_over-clause-after : goal.returns-then-is_over-clause-after
@@ -59,11 +50,10 @@ returns-then-is_over-clause-after c =
     let i = c.self.inside in
     let chosen = c.in-Some.ensures in
     let s : StartupState = state_of i.cert i.secret i.cookies i.peers i.attempts.attempts in
-    let e = got_is i.attempts.attempts c.in-Some.near c.in-Some-get.attempt.now chosen.attempt (sym c.in-Some-get.ensures) chosen.there in
-    let over = ap (is_over c.args.moment) (sym e) ∙ sym c.is_over.ensures ∙ c.if-is_over.true in
-    ended_state i.cert i.print i.secret i.sign i.cookies i.peers i.attempts.attempts c.self.invariant c.in-Some.near chosen.attempt chosen.there Expired c.end_at.result c.end_at.ensures.fact c.end_at.new.peers c.end_at.new.attempts.attempts c.end_at.ensures.ledger c.end_at.ensures.gone
+    let over = sym c.is_over.ensures ∙ c.if-is_over.true in
+    ended_state i.cert i.print i.secret i.sign i.cookies i.peers i.attempts.attempts c.self.invariant c.in-Some.found.near c.in-Some.found.attempt.now chosen.there Expired c.end_at.result c.end_at.ensures.fact c.end_at.new.peers c.end_at.new.attempts.attempts c.end_at.ensures.ledger c.end_at.ensures.gone
     ∙ sym (ap (after_due_of s c.args.moment) chosen.chosen_is
-    ∙ ap (λ b. if b then without_attempt s c.in-Some.near (ended_attempt (c.in-Some.near, chosen.attempt) Expired) else with_attempt s c.in-Some.near (repeated chosen.attempt c.args.moment)) over)
+    ∙ ap (λ b. if b then without_attempt s c.in-Some.found.near (ended_attempt (c.in-Some.found.near, c.in-Some.found.attempt.now) Expired) else with_attempt s c.in-Some.found.near (repeated c.in-Some.found.attempt.now c.args.moment)) over)
     ∙ ap (λ (t : StartupState). after_due t c.args.moment) c.self.view_is
 
 pub returns-then-is_over-clause-falls : goal.returns-then-is_over-clause-falls
@@ -78,10 +68,9 @@ returns-clause-due c =
     let i = c.self.inside in
     let chosen = c.in-Some.ensures in
     let s : StartupState = state_of i.cert i.secret i.cookies i.peers i.attempts.attempts in
-    let e = got_is i.attempts.attempts c.in-Some.near c.in-Some-get.attempt.now chosen.attempt (sym c.in-Some-get.ensures) chosen.there in
-    let over = ap (is_over c.args.moment) (sym e) ∙ sym c.is_over.ensures ∙ c.if-is_over.false in
-    ap (λ (d : Due). Some d) (c.repeat_of-repeat.ensures ∙ (λ j. repeat_signed (c.self.invariant.sign_is j) i.cert c.in-Some.near (e j) (e j).stage))
-    ∙ sym (ap (due_of s c.args.moment) chosen.chosen_is ∙ ap (λ b. Some (if b then EndDue (ended_attempt (c.in-Some.near, chosen.attempt) Expired) else repeat_of s c.in-Some.near chosen.attempt)) over)
+    let over = sym c.is_over.ensures ∙ c.if-is_over.false in
+    ap (λ (d : Due). Some d) (c.repeat_of-repeat.ensures ∙ (λ j. repeat_signed (c.self.invariant.sign_is j) i.cert c.in-Some.found.near c.in-Some.found.attempt.now c.in-Some.found.attempt.now.stage))
+    ∙ sym (ap (due_of s c.args.moment) chosen.chosen_is ∙ ap (λ b. Some (if b then EndDue (ended_attempt (c.in-Some.found.near, c.in-Some.found.attempt.now) Expired) else repeat_of s c.in-Some.found.near c.in-Some.found.attempt.now)) over)
     ∙ ap (λ (t : StartupState). due t c.args.moment) c.self.view_is
 
 pub returns-clause-after : goal.returns-clause-after
@@ -89,11 +78,10 @@ returns-clause-after c =
     let i = c.self.inside in
     let chosen = c.in-Some.ensures in
     let s : StartupState = state_of i.cert i.secret i.cookies i.peers i.attempts.attempts in
-    let e = got_is i.attempts.attempts c.in-Some.near c.in-Some-get.attempt.now chosen.attempt (sym c.in-Some-get.ensures) chosen.there in
-    let over = ap (is_over c.args.moment) (sym e) ∙ sym c.is_over.ensures ∙ c.if-is_over.false in
-    changed_state i.cert i.print i.secret i.sign i.cookies i.peers i.attempts.attempts c.self.invariant c.in-Some.near chosen.attempt chosen.there (λ a. repeated a c.args.moment) c.change.new.self.attempts c.change.ensures
+    let over = sym c.is_over.ensures ∙ c.if-is_over.false in
+    changed_state i.cert i.print i.secret i.sign i.cookies i.peers i.attempts.attempts c.self.invariant c.in-Some.found.near c.in-Some.found.attempt.now chosen.there (λ a. repeated a c.args.moment) c.change.new.self.attempts c.change.ensures
     ∙ sym (ap (after_due_of s c.args.moment) chosen.chosen_is
-    ∙ ap (λ b. if b then without_attempt s c.in-Some.near (ended_attempt (c.in-Some.near, chosen.attempt) Expired) else with_attempt s c.in-Some.near (repeated chosen.attempt c.args.moment)) over)
+    ∙ ap (λ b. if b then without_attempt s c.in-Some.found.near (ended_attempt (c.in-Some.found.near, c.in-Some.found.attempt.now) Expired) else with_attempt s c.in-Some.found.near (repeated c.in-Some.found.attempt.now c.args.moment)) over)
     ∙ ap (λ (t : StartupState). after_due t c.args.moment) c.self.view_is
 
 pub returns-clause-falls : goal.returns-clause-falls
