@@ -109,9 +109,29 @@ impl FlowReceiver {
         // aren't missing.
         ensures sound { Sound self.new }
     {
+        // Read for the prover alone, which has from it what holds of every receiver.
+        let _highest = self.highest;
         if let Some(refusal) = self.refusal(chunk) {
             return Err(refusal);
         }
+        match self.apply(chunk) {
+            Ok(took) => Ok(took),
+            Err(_) => Err(FlowRefusal::Memory),
+        }
+    }
+
+    /// Takes a user data chunk that nothing refuses, but for want of memory.
+    pub fn apply(&mut self, chunk: &UserData<'_>) -> Result<Took, AllocError>
+        requires low { chunk.now.forward ≤ chunk.now.seq }
+        requires below { chunk.now.abandon ≡ false → chunk.now.forward < chunk.now.seq }
+        requires free { refusal self.old (chunk_of chunk.now) ≡ None }
+        ensures took { IfOk result (λ t. t ≡ took self.old (chunk_of chunk.now)) }
+        ensures taken { OnOk result (self.new ≡ taken self.old (chunk_of chunk.now)) }
+        ensures err { OnErr result (self.new ≡ self.old) }
+        // A chunk whose number isn't missing wants no memory.
+        ensures again { lacks self.old.spans chunk.now.seq ≡ false → IsOk result }
+        ensures sound { Sound self.new }
+    {
         let missing = lacks(self.through, &self.above, u128::from(chunk.seq));
         let before = self.through;
         let Ok(end) = admit(
@@ -122,7 +142,7 @@ impl FlowReceiver {
             missing,
             chunk,
         ) else {
-            return Err(FlowRefusal::Memory);
+            return Err(AllocError);
         };
         self.through = end;
         let held = self.held + added_by(missing, chunk);

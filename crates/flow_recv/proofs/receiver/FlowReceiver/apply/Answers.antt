@@ -14,7 +14,7 @@ use Rattle.flow_recv.proofs.Sounds.{held_runs, runs_are, taken_is, sound_taken}
 use Rattle.flow_recv.proofs.Laying.{order_held, order_taken, known_taken, held_with}
 use Rattle.flow_recv.proofs.Telling.{top_taken}
 use Rattle.flow_recv.proofs.Reaching.{reached_taken}
-use Rattle.flow_recv.proofs.receiver.FlowReceiver.take.Goals as goal
+use Rattle.flow_recv.proofs.receiver.FlowReceiver.apply.Goals as goal
 
 abbrev At : goal.After-took_by → Receiver
 At c = let i = c.self.inside in receiver i.arriving i.through i.above i.runs i.last i.highest
