@@ -2,7 +2,7 @@
 //! contract of each states what the definitions that the other contracts cite are there. All
 //! numbers are own but the units of a timestamp (RFC 7016 section 2.2.4).
 
-ghost use Rattle.std.specs.Prelude.{◌≡◌, ◌∷◌, ◌++◌, ◌-◌, ◌^◌, ℕ, List, [], true, false, Option, Some, None, replicate};
+ghost use Rattle.std.specs.Prelude.{◌≡◌, ◌∷◌, ◌++◌, ◌-◌, ◌^◌, ℕ, ◌+◌, List, [], true, false, Option, Some, None, length, replicate};
 ghost use Rattle.rtmfp_forms.specs.Address.{AddressParts};
 ghost use Rattle.rtmfp_packet.specs.declared.head.Mode.TheVariants.{Initiator as FromInitiator, Responder as FromResponder};
 ghost use Rattle.crypto_profile.specs.declared.keys.Context.TheVariants.{Session as SessionContext};
@@ -18,7 +18,7 @@ ghost use Rattle.session_core.specs.Closing.{closed_near, asked_to_close, close_
 ghost use Rattle.session_core.specs.Congestion.{first_congestion, grown, shrunk};
 ghost use Rattle.session_core.specs.Stamps.{tick_of, echo_of, stamp_after};
 ghost use Rattle.session_core.specs.Trips.{sample_of, trip_with, trip_after, resend_time};
-ghost use Rattle.session_core.specs.Sealed.{number_bytes, seal_answer, after_seal};
+ghost use Rattle.session_core.specs.Sealed.{number_bytes, seal_answer, sealed_part, after_seal};
 ghost use Rattle.session_core.specs.Hearing.{is_session_number};
 ghost use Rattle.session_core.specs.Edges.{stamp, trip, congestion, opening, closing, lingering, open_since, at_stage, sealed_before, HasBegun, IsHeadOf};
 
@@ -189,6 +189,8 @@ pub fn a_number_begins_with_8_zero_bytes()
         seal_answer (sealed_before (2 ^ 64 - 2) s) [] ≡ Some 36 }
     ensures none { (s : SessionState) (plain : List ℕ) →
         seal_answer (sealed_before (2 ^ 64 - 1) s) plain ≡ None }
+    ensures longer { (s : SessionState) (plain : List ℕ) →
+        length (sealed_part s plain) ≡ 32 + length plain }
     ensures counted { (s : SessionState) → after_seal (sealed_before (2 ^ 64 - 2) s)
         ≡ sealed_before (2 ^ 64 - 1) s }
 {}

@@ -1,6 +1,6 @@
 //! One end of a session.
 
-ghost use Rattle.std.specs.Prelude.{◌≡◌, ◌↔◌, ◌<◌, ◌^◌, IsTrue, List, ℕ, false, true, is_none, ◌≤◌, length, IfSome};
+ghost use Rattle.std.specs.Prelude.{◌≡◌, ◌↔◌, ◌+◌, ◌<◌, ◌^◌, IsTrue, List, ℕ, false, true, is_none, ◌≤◌, length, IfSome};
 ghost use Rattle.crypto_profile.specs.Keys.{keys_of};
 ghost use Rattle.crypto_profile.specs.Sealing.{Opens};
 ghost use Rattle.glare_core.specs.Calls.{where_true};
@@ -9,18 +9,19 @@ ghost use Rattle.session_core.specs.Closing.{is_held, is_near_close, closed_near
 ghost use Rattle.session_core.specs.Deadline.{deadline};
 ghost use Rattle.session_core.specs.Congestion.{IsCongestion};
 ghost use Rattle.session_core.specs.Trips.{resend_time};
-ghost use Rattle.session_core.specs.Sealed.{is_spent, seal_answer, after_seal, sealed_into};
+ghost use Rattle.session_core.specs.Sealed.{is_spent, seal_answer, after_seal, sealed_into, sealed_part};
+ghost use Rattle.session_core.specs.Sealed.{with_part};
 ghost use Rattle.session_core.specs.Hearing.{counted, opens_in, unheard, heard_answer, after_heard, opened};
 
 use crate::congestion::{Congestion, first_congestion, grown, shrunk};
 use crate::hearing::{Unheard, count_of, has_session_number, opens_under};
-use crate::sealing::{number_of_count, seal_into};
+use crate::sealing::number_of_count;
 use crate::stage::{
     NEVER, Role, SessionDue, Stage, after, after_last, is_held, is_past, is_past_last,
 };
 use crate::stamps::{Stamp, echo_of, stamp_after, tick_of};
 use crate::trips::{RoundTrip, resend_time, trip_after};
-use crypto_profile::{CIPHERED_AT, Context, HmacKey, Keys, ReplayWindow, open_in_place};
+use crypto_profile::{CIPHERED_AT, Context, HmacKey, Keys, ReplayWindow, open_in_place, seal_into};
 use glare_core::Joined;
 use rtmfp_forms::{Address, Outgoing};
 use rtmfp_packet::{Mode, PacketHead};
@@ -39,6 +40,9 @@ const LINGERING: u64 = 19_000;
 const CLOSE_AGAIN: u64 = 5000;
 
 const KEEPALIVE: u64 = 10_000;
+
+/// The bytes of the session ID, before the sealed part.
+const ID_LEN: usize = 4;
 
 /// One end of a session: its values, its stage, what it has sealed and taken.
 ///
@@ -337,9 +341,35 @@ impl Session {
         if self.is_spent() {
             return None;
         }
+        Some(self.seal_behind_id(packet, out))
+    }
+
+    /// The same where a count is left.
+    fn seal_behind_id(&mut self, packet: &Outgoing, out: &mut [u8; 1200]) -> usize
+        requires { is_spent self.old ≡ false }
+        ensures length { result ≡ 36 + length packet.now }
+        ensures limit { result ≤ 1200 }
+        ensures session { self.new ≡ after_seal self.old }
+        ensures written { out.new ≡ with_part out.old (sealed_part self.old packet.now) }
+    {
+        let len = CIPHERED_AT + packet.bytes().len();
+        let (_, rest) = out.split_at_mut(ID_LEN);
+        let (part, _) = rest.split_at_mut(len);
+        self.seal_part(packet, part);
+        ID_LEN + len
+    }
+
+    /// Seals a packet as the session's next where it will stand: `part` is as long as its sealed
+    /// part, which has 32 bytes more than the packet. A count has to be left, as `is_spent` tells.
+    pub fn seal_part(&mut self, packet: &Outgoing, part: &mut [u8])
+        requires unspent { is_spent self.old ≡ false }
+        requires room { length part.old ≡ 32 + length packet.now }
+        ensures session { self.new ≡ after_seal self.old }
+        ensures sealed { part.new ≡ sealed_part self.old packet.now }
+    {
         self.sealed += 1;
         let number = number_of_count(self.sealed);
-        Some(seal_into(&self.outward, self.joined.far, number, packet.bytes(), out))
+        seal_into(&self.outward, self.joined.far, number, packet.bytes(), part);
     }
 
     /// Whether all counts are used, so that `seal` would give None.
