@@ -1,5 +1,5 @@
 -- What acks and exceptions leave of a sending flow.
-use Rattle.std.proofs.Common.{◌≡◌, ℕ, ◌<◌, ◌++◌, Bool, true, false, cond, map, not, List, [], ◌∷◌, Option, Some, None, Result, Ok, Err, MatchOption, length, refl, sym, ap, ◌∙◌, ◌+◌, ◌&&◌}
+use Rattle.std.proofs.Common.{◌≡◌, ℕ, ◌<◌, ◌++◌, Bool, true, false, cond, map, not, List, [], ◌∷◌, Option, Some, None, Result, Ok, Err, MatchOption, length, refl, sym, ap, ◌∙◌, ◌&&◌}
 use Rattle.std.specs.Prelude.{slice_set, nat_le, IsOk}
 use Rattle.std.proofs.lemmas.Bool.{leb-false}
 use Rattle.rtmfp_data_chunks.specs.Chunk.{UserParts}
@@ -13,7 +13,6 @@ use Rattle.flow_send.specs.Flow.{Flow, with_sender, is_finished}
 use Rattle.glare_core.specs.Calls.{where_true, first_that_stands}
 use Rattle.session_core.specs.Session.{SessionState}
 use Rattle.session_core.specs.Closing.{is_held}
-use Rattle.session_flows.specs.declared.cause.FlowCause.{FlowCause}
 use Rattle.session_flows.specs.declared.cause.FlowCause.TheVariants.{WrongState, UnknownFlow, FlowsFull}
 use Rattle.session_flows.specs.Keeping.{FlowsState, sending_at, with_flow, with_sending, Abandoned}
 use Rattle.session_flows.specs.Causes.{early_cause, is_there, is_unknown, is_one_too_many, flow_cause}
@@ -93,15 +92,6 @@ room_by true n e h = absurd cc
 -- a chunk that makes a flow finds room for it
 pub room_for : (session : SessionState) (s : FlowsState) (user : UserParts) → early_cause session s user ≡ None → is_there s user ≡ false → length s.taking < 256
 room_for session s user h gone = room_by (is_there s user) (length s.taking) gone (early_by (not (is_held session.stage)) (is_unknown s user) (is_one_too_many s user) h)
-
-second : (r : Option FlowCause) → first_that_stands (r ∷ []) ≡ r
-second None = refl
-second (Some x) = refl
-
--- with no earlier cause those of the receiver are left
-pub later_cause : (e r : Option FlowCause) → e ≡ None → first_that_stands (e ∷ (r ∷ [])) ≡ r
-later_cause None r h = second r
-later_cause (Some x) r h = absurd cc
 
 -- ---- a flow that isn't there
 

@@ -1,20 +1,15 @@
 -- What a chunk leaves of the flows.
 use Prim.Native.Nat.{zero, suc}
-use Rattle.std.proofs.Common.{◌≡◌, ℕ, ◌<◌, ◌==◌, Bool, true, false, cond, not, List, [], ◌∷◌, Option, Some, None, Result, Ok, Err, MatchOption, length, refl, sym, ap, ◌∙◌, subst, arith}
-use Rattle.std.specs.Prelude.{slice_get, slice_set, IfErr}
+use Rattle.std.proofs.Common.{◌≡◌, ℕ, ◌<◌, ◌==◌, Bool, true, false, cond, not, List, [], ◌∷◌, Option, Some, None, MatchOption, length, refl, sym, ap, ◌∙◌, subst, arith}
+use Rattle.std.specs.Prelude.{slice_get, slice_set}
 use Rattle.std.specs.Option.{unwrap_or}
 use Rattle.std.specs.List.{insert}
 use Rattle.std.specs.Option.{option_map}
 use Rattle.rtmfp_data_chunks.specs.Chunk.{UserParts}
-use Rattle.flow_recv.specs.declared.outcome.FlowRefusal.{FlowRefusal}
-use Rattle.flow_recv.specs.declared.outcome.FlowRefusal.TheVariants as receiver
-use Rattle.flow_recv.specs.declared.outcome.Took.{Took}
-use Rattle.flow_recv.specs.Receiver.{Receiver, fresh, taken}
-use Rattle.flow_recv.specs.Outcome.{refusal}
+use Rattle.flow_recv.specs.Receiver.{Receiver, fresh, taken, after_final, beyond_buffer}
+use Rattle.flow_recv.specs.Outcome.{refusal, after_or, beyond as beyond_by}
 use Rattle.session_flows.specs.declared.taking.TakingFlow.{TakingFlow}
 use Rattle.session_flows.specs.declared.cause.FlowCause.{FlowCause}
-use Rattle.session_flows.specs.declared.cause.Untaken.{Untaken}
-use Rattle.session_flows.specs.declared.cause.Untaken.TheVariants as untaken
 use Rattle.rtmfp_data_chunks.specs.Fragments.{Message}
 use Rattle.rtmfp_data_chunks.specs.Runs.{Run, message_of}
 use Rattle.flow_recv.specs.Receiver.{first_of, without_first, may_hand, next_run, handed_next}
@@ -31,7 +26,7 @@ use Rattle.session_flows.proofs.Calls.{did}
 use Rattle.session_flows.specs.Keeping.{sending_at, Handed}
 use Rattle.session_flows.specs.Keeping.{FlowsState, in_taking, taking_at, with_taking, with_changed, new_taking}
 use Rattle.session_flows.specs.Told.{first_byte}
-use Rattle.session_flows.specs.Causes.{piece_of, metadata_of, order_of, receiver_by, receiver_for, receiver_cause, cause_of, untaken_of}
+use Rattle.session_flows.specs.Causes.{piece_of, metadata_of, order_of, receiver_by, receiver_for, receiver_cause, cause_of}
 use Rattle.session_flows.specs.Chunks.{made_by, taken_of, data_taken}
 use Rattle.session_flows.specs.Places.{IsAt, place_of}
 use Rattle.session_flows.specs.Laws.{IsSound}
@@ -78,39 +73,15 @@ sound_added s t none few h =
 
 -- ---- causes
 
-same_refusal : {x y : FlowRefusal} → ◌≡◌ {A = Result Took FlowRefusal} (Err x) (Err y) → x ≡ y
-same_refusal e = cc
+cause_none : (a b : Option ℕ) → cause_of (after_or a (beyond_by b)) ≡ None → after_or a (beyond_by b) ≡ None
+cause_none None None h = refl
+cause_none None (Some n) h = absurd cc
+cause_none (Some n) b h = absurd cc
 
-abbrev Answer : Type 0
-Answer = Result (Unit {0}) Untaken
-
-apart : {e : FlowRefusal} {t : Took} → ◌≡◌ {A = Result Took FlowRefusal} (Ok t) (Err e) → ⊥
-apart e = absurd cc
-
-refuses_by : (r : Result Took FlowRefusal) (o : Option FlowRefusal) → MatchOption o (IfErr r (λ e. e ≡ receiver.Memory)) (λ e. r ≡ Err e) → (e : FlowRefusal) → r ≡ Err e →
-    MatchOption (cause_of o) (untaken_of e ≡ untaken.Memory) (λ c. ◌≡◌ {A = Answer} (Err (untaken_of e)) (Err (untaken.Cause c)))
-refuses_by r None h e is = ap (λ (x : FlowRefusal). untaken_of x) (subst (λ (x : Result Took FlowRefusal). IfErr x (λ e. e ≡ receiver.Memory)) is h)
-refuses_by r (Some (receiver.AfterFinal n)) h e is = ap (λ (x : FlowRefusal). Err (untaken_of x)) (same_refusal (sym is ∙ h))
-refuses_by r (Some (receiver.BeyondBuffer n)) h e is = ap (λ (x : FlowRefusal). Err (untaken_of x)) (same_refusal (sym is ∙ h))
-refuses_by r (Some receiver.Memory) h e is = ap (λ (x : FlowRefusal). untaken_of x) (same_refusal (sym is ∙ h))
-
--- a chunk that its receiver refuses has this cause
-pub receiver_refuses : (s : FlowsState) (user : UserParts) (q : Receiver) (r : Result Took FlowRefusal) (e : FlowRefusal) (x : Untaken) → receiver_for s user ≡ q →
-    MatchOption (refusal q (piece_of user)) (IfErr r (λ e. e ≡ receiver.Memory)) (λ e. r ≡ Err e) → r ≡ Err e → x ≡ untaken_of e →
-    MatchOption (receiver_cause s user) (x ≡ untaken.Memory) (λ c. ◌≡◌ {A = Answer} (Err x) (Err (untaken.Cause c)))
-receiver_refuses s user q r e x same h is told =
-    subst (λ (y : Untaken). MatchOption (receiver_cause s user) (y ≡ untaken.Memory) (λ c. ◌≡◌ {A = Answer} (Err y) (Err (untaken.Cause c)))) (sym told)
-    (subst (λ (y : Receiver). MatchOption (cause_of (refusal y (piece_of user))) (untaken_of e ≡ untaken.Memory) (λ c. ◌≡◌ {A = Answer} (Err (untaken_of e)) (Err (untaken.Cause c)))) (sym same)
-    (refuses_by r (refusal q (piece_of user)) h e is))
-
-takes_by : (r : Result Took FlowRefusal) (o : Option FlowRefusal) (t : Took) → MatchOption o (IfErr r (λ e. e ≡ receiver.Memory)) (λ e. r ≡ Err e) → r ≡ Ok t → cause_of o ≡ None
-takes_by r None t h is = refl
-takes_by r (Some e) t h is = absurd (apart (sym is ∙ h))
-
--- one that it takes has none
-pub receiver_takes : (s : FlowsState) (user : UserParts) (q : Receiver) (r : Result Took FlowRefusal) (t : Took) → receiver_for s user ≡ q →
-    MatchOption (refusal q (piece_of user)) (IfErr r (λ e. e ≡ receiver.Memory)) (λ e. r ≡ Err e) → r ≡ Ok t → receiver_cause s user ≡ None
-receiver_takes s user q r t same h is = ap (λ (y : Receiver). cause_of (refusal y (piece_of user))) same ∙ takes_by r (refusal q (piece_of user)) t h is
+-- a chunk without a cause isn't refused by its receiver
+pub not_refused : (s : FlowsState) (user : UserParts) (q : Receiver) → receiver_for s user ≡ q → receiver_cause s user ≡ None → refusal q (piece_of user) ≡ None
+not_refused s user q same none =
+    cause_none (after_final q (piece_of user)) (beyond_buffer q (piece_of user)) (sym (ap (λ (r : Receiver). cause_of (refusal r (piece_of user))) same) ∙ none)
 
 -- what stands where there is no cause
 pub no_cause : (o : Option FlowCause) (P : Type 0) (Q : FlowCause → Type 0) → o ≡ None → P → MatchOption o P Q

@@ -21,9 +21,6 @@ use Rattle.session_flows.specs.declared.cause.FlowCause.{FlowCause}
 use Rattle.session_flows.specs.declared.cause.FlowCause.TheVariants.{WrongState, UnknownFlow}
 use Rattle.session_flows.specs.declared.cause.FlowCause.TheVariants.{FlowsFull, AfterFinal}
 use Rattle.session_flows.specs.declared.cause.FlowCause.TheVariants.{BeyondBuffer, AckBeyond}
-use Rattle.session_flows.specs.declared.cause.Untaken.{Untaken}
-use Rattle.session_flows.specs.declared.cause.Untaken.TheVariants.{Cause as Discarded}
-use Rattle.session_flows.specs.declared.cause.Untaken.TheVariants.{Memory as NoMemory}
 use Rattle.session_flows.specs.Keeping.{FlowsState, sending_at, taking_at}
 use Rattle.rtmfp_data_chunks.specs.FlowOptions.{metadata_in, all_known}
 use Rattle.session_flows.specs.Told.{options_of, begins_with_a}
@@ -88,12 +85,6 @@ early_cause session s user =
     ∷ where_true (is_unknown s user) UnknownFlow
     ∷ where_true (is_one_too_many s user) (FlowsFull 256)
     ∷ [])
-
--- a receiver's refusal, as what it was called for tells it
-abbrev pub untaken_of : FlowRefusal → Untaken
-untaken_of (receiver.AfterFinal n) = Discarded (AfterFinal n)
-untaken_of (receiver.BeyondBuffer held) = Discarded (BeyondBuffer held)
-untaken_of receiver.Memory = NoMemory
 
 abbrev pub data_cause : SessionState → FlowsState → UserParts → Option FlowCause
 data_cause session s user =

@@ -5,6 +5,7 @@ pub mod Told
 pub mod Causes
 pub mod Handing
 pub mod Chunks
+pub mod Judged
 pub mod Owing
 pub mod Timing
 pub mod Packing

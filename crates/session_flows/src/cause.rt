@@ -26,12 +26,3 @@ pub enum FlowCause {
     #[error("the ack speaks of {0}, which was never sent")]
     AckBeyond(u64),
 }
-
-/// Why a chunk is not taken. All is as before.
-#[derive(Clone, Copy, Debug, PartialEq, Eq, Error)]
-pub enum Untaken {
-    #[error("discarded: {0}")]
-    Cause(FlowCause),
-    #[error("out of memory")]
-    Memory,
-}

@@ -1,28 +1,30 @@
 //! What a session does with a chunk of its flows.
 
-ghost use Rattle.std.specs.Prelude.{◌≡◌, ◌+◌, ◌<◌, ◌≤◌, false, length, Some, None, Ok, Err, IfErr};
+ghost use Rattle.std.specs.Prelude.{◌≡◌, ◌+◌, ◌<◌, ◌≤◌, false, length, Some, None, Err};
 ghost use Rattle.std.specs.Prelude.{OnOk, OnErr, IfOk, IsOk, MatchOption, map, ◌++◌, vec_len};
 ghost use Rattle.std.specs.Prelude.{vec_capacity, IfSome};
 ghost use Rattle.rtmfp_data_chunks.specs.Chunk.{user_parts};
 ghost use Rattle.flow_send.specs.Acks.{told};
 ghost use Rattle.flow_send.specs.Flow.{with_sender};
-ghost use Rattle.session_core.specs.Closing.{is_held, with_acknowledged};
-ghost use Rattle.session_flows.specs.Causes.{data_cause, ack_cause, probe_cause, exception_cause};
-ghost use Rattle.session_flows.specs.Causes.{early_cause, receiver_cause, untaken_of, is_there};
+ghost use Rattle.session_core.specs.Closing.{with_acknowledged};
+ghost use Rattle.session_flows.specs.Causes.{ack_cause, probe_cause, receiver_cause};
 ghost use Rattle.session_flows.specs.Keeping.{Abandoned};
 ghost use Rattle.session_flows.specs.Chunks.{data_taken, heard, session_heard, probed, rejecting};
 ghost use Rattle.session_flows.specs.Chunks.{waiting_at, finished_at, without_messages, numbers_of};
 ghost use Rattle.session_flows.specs.Chunks.{lost_if};
+ghost use Rattle.session_flows.specs.Judged.{IsJudged};
 ghost use Rattle.session_flows.specs.Places.{index_from, place_of};
 
-use crate::cause::{FlowCause, Untaken};
-use crate::flows::{Flows, MOST_FLOWS};
+use crate::cause::FlowCause;
+use crate::flows::Flows;
+use crate::judged::JudgedData;
 use crate::taking::TakingFlow;
-use crate::told::{tells_known, told_metadata};
-use flow_recv::{FlowReceiver, FlowRefusal};
+use crate::told::told_metadata;
+use flow_recv::FlowReceiver;
 use flow_send::{AckFault, Acked, FlowSender};
 use rtmfp_data_chunks::{AckedSpans, UserData};
-use session_core::{Session, Stage};
+use session_core::Session;
+use std::alloc::AllocError;
 
 impl Flows {
     /// The index of a receiving flow.
@@ -38,87 +40,51 @@ impl Flows {
         None
     }
 
-    /// Takes a user data chunk, which makes its flow where it is the first of it, and owes an ack
-    /// for it. What is ready then is handed over by `hand_next`. A chunk that is discarded asks for
-    /// no memory.
-    pub fn take_data(&mut self, session: &Session, chunk: &UserData<'_>) -> Result<(), Untaken>
+    /// Takes a user data chunk that was judged and that nothing refuses. It makes its flow where it
+    /// is the first of it, and owes an ack for it. What is ready then is handed over by
+    /// `hand_next`.
+    pub fn apply_data(&mut self, judged: JudgedData, chunk: &UserData<'_>) -> Result<(), AllocError>
         requires low { chunk.now.forward ≤ chunk.now.seq }
         requires below { chunk.now.abandon ≡ false → chunk.now.forward < chunk.now.seq }
+        requires judged { IsJudged judged self.old (user_parts chunk.now) }
         ensures taken { OnOk result (self.new ≡ data_taken self.old (user_parts chunk.now)) }
-        ensures cause { MatchOption (data_cause session.now self.old (user_parts chunk.now))
-            (IfErr result (λ e. e ≡ Untaken.Memory)) (λ c. result ≡ Err (Untaken.Cause c)) }
         ensures err { OnErr result (self.new ≡ self.old) }
     {
-        let at = self.taking_index(chunk.flow);
-        if let Some(cause) = self.early_cause(session, chunk, at.is_some()) {
-            return Err(Untaken::Cause(cause));
-        }
-        match at {
+        match judged.at {
             Some(at) => self.take_at(at, chunk),
             None => self.make(chunk),
         }
     }
 
-    /// The causes that come before those of the receiver.
-    pub(crate) fn early_cause(
-        &self,
-        session: &Session,
-        chunk: &UserData<'_>,
-        there: bool,
-    ) -> Option<FlowCause>
-        requires { there ≡ is_there self.now (user_parts chunk.now) }
-        ensures { result ≡ early_cause session.now self.now (user_parts chunk.now) }
-    {
-        if !is_held(session.stage()) {
-            return Some(FlowCause::WrongState);
-        }
-        if !there && told_metadata(&chunk.options).is_none() {
-            return Some(FlowCause::UnknownFlow);
-        }
-        if !tells_known(self.sending.len() as u64, &chunk.options) {
-            return Some(FlowCause::UnknownFlow);
-        }
-        if !there && self.taking.len() >= MOST_FLOWS {
-            return Some(FlowCause::FlowsFull(MOST_FLOWS as u64));
-        }
-        None
-    }
-
     /// Takes a chunk of the flow at an index.
-    fn take_at(&mut self, at: usize, chunk: &UserData<'_>) -> Result<(), Untaken>
+    fn take_at(&mut self, at: usize, chunk: &UserData<'_>) -> Result<(), AllocError>
         requires low { chunk.now.forward ≤ chunk.now.seq }
         requires below { chunk.now.abandon ≡ false → chunk.now.forward < chunk.now.seq }
         requires at { index_from 0 chunk.now.flow self.old.taking ≡ Some at }
         requires within { at < length self.old.taking }
+        requires takes { receiver_cause self.old (user_parts chunk.now) ≡ None }
         ensures taken { OnOk result (self.new ≡ data_taken self.old (user_parts chunk.now)) }
-        ensures cause { MatchOption (receiver_cause self.old (user_parts chunk.now))
-            (IfErr result (λ e. e ≡ Untaken.Memory)) (λ c. result ≡ Err (Untaken.Cause c)) }
         ensures err { OnErr result (self.new ≡ self.old) }
     {
         let row = &mut self.taking[at];
-        if let Err(refusal) = row.receiver.take(chunk) {
-            return Err(untaken_of(refusal));
-        }
+        row.receiver.apply(chunk)?;
         row.owed = true;
         Ok(())
     }
 
     /// Takes the first chunk of a flow that isn't there.
-    fn make(&mut self, chunk: &UserData<'_>) -> Result<(), Untaken>
+    fn make(&mut self, chunk: &UserData<'_>) -> Result<(), AllocError>
         requires low { chunk.now.forward ≤ chunk.now.seq }
         requires below { chunk.now.abandon ≡ false → chunk.now.forward < chunk.now.seq }
         requires new { index_from 0 chunk.now.flow self.old.taking ≡ None }
         requires room { length self.old.taking < 256 }
+        requires takes { receiver_cause self.old (user_parts chunk.now) ≡ None }
         ensures taken { OnOk result (self.new ≡ data_taken self.old (user_parts chunk.now)) }
-        ensures cause { MatchOption (receiver_cause self.old (user_parts chunk.now))
-            (IfErr result (λ e. e ≡ Untaken.Memory)) (λ c. result ≡ Err (Untaken.Cause c)) }
         ensures err { OnErr result (self.new ≡ self.old) }
     {
         let first = told_metadata(&chunk.options).unwrap_or(0);
         let mut receiver = FlowReceiver::new(self.alloc, first);
-        if let Err(refusal) = receiver.take(chunk) {
-            return Err(untaken_of(refusal));
-        }
+        receiver.apply(chunk)?;
         let at = self.place_for(chunk.flow);
         let row = TakingFlow {
             id: chunk.flow,
@@ -126,7 +92,7 @@ impl Flows {
             owed: true,
         };
         if self.taking.insert(at, row).is_err() {
-            return Err(Untaken::Memory);
+            return Err(AllocError);
         }
         Ok(())
     }
@@ -163,7 +129,7 @@ impl Flows {
             ≡ session_heard session.old self.old flow (told blocks upto spans.entry)) }
         ensures err { OnErr result ((self.new ≡ self.old) × (session.new ≡ session.old)) }
     {
-        if !is_held(session.stage()) {
+        if !session.is_held() {
             return Err(FlowCause::WrongState);
         }
         let Some(at) = self.sending_index(flow) else {
@@ -185,7 +151,7 @@ impl Flows {
         ensures flows { OnOk result (self.new ≡ probed self.old flow) }
         ensures err { OnErr result (self.new ≡ self.old) }
     {
-        if !is_held(session.stage()) {
+        if !session.is_held() {
             return Err(FlowCause::WrongState);
         }
         let Some(at) = self.taking_index(flow) else {
@@ -196,18 +162,16 @@ impl Flows {
         Ok(())
     }
 
-    /// Takes an exception, by which the other end rejects a flow: all its messages that wait are
-    /// abandoned, and it is finished. The numbers of the messages are put at the end of a list, for
-    /// which memory is found first. The answer is the last number of the flow, where it wasn't
-    /// finished before.
-    pub fn take_exception(
+    /// Takes an exception that nothing refuses, by which the other end rejects a flow: all its
+    /// messages that wait are abandoned, and it is finished. The numbers of the messages are put at
+    /// the end of a list, for which memory is found first. The answer is the last number of the
+    /// flow, where it wasn't finished before.
+    pub fn apply_exception(
         &mut self,
-        session: &Session,
         flow: u64,
         abandoned: &mut Vec<u64>,
-    ) -> Result<Option<u64>, Untaken>
-        ensures cause { MatchOption (exception_cause session.now self.old flow)
-            (IfErr result (λ e. e ≡ Untaken.Memory)) (λ c. result ≡ Err (Untaken.Cause c)) }
+    ) -> Result<Option<u64>, AllocError>
+        requires { flow < length self.old.sending }
         ensures flows { OnOk result (self.new ≡ (rejecting self.old flow).flows) }
         ensures numbers { OnOk result (abandoned.new.items
             ≡ abandoned.old.items ++ waiting_at self.old flow) }
@@ -216,15 +180,9 @@ impl Flows {
         ensures err { OnErr result ((self.new ≡ self.old)
             × (abandoned.new.items ≡ abandoned.old.items)) }
     {
-        if !is_held(session.stage()) {
-            return Err(Untaken::Cause(FlowCause::WrongState));
-        }
-        let Some(at) = self.sending_index(flow) else {
-            return Err(Untaken::Cause(FlowCause::UnknownFlow));
-        };
-        let sender = &mut self.sending[at];
+        let sender = &mut self.sending[flow as usize];
         if abandoned.reserve(sender.waiting() as usize).is_err() {
-            return Err(Untaken::Memory);
+            return Err(AllocError);
         }
         abandon_all(sender, abandoned);
         Ok(sender.finish())
@@ -260,22 +218,4 @@ fn abandon_all(sender: &mut FlowSender, abandoned: &mut Vec<u64>)
     while let Some(number) = sender.abandon_first() {
         let _ = abandoned.push(number);
     }
-}
-
-/// A receiver's refusal, as the call tells it.
-fn untaken_of(refusal: FlowRefusal) -> Untaken
-    ensures { result ≡ untaken_of refusal }
-{
-    match refusal {
-        FlowRefusal::AfterFinal(number) => Untaken::Cause(FlowCause::AfterFinal(number)),
-        FlowRefusal::BeyondBuffer(held) => Untaken::Cause(FlowCause::BeyondBuffer(held)),
-        FlowRefusal::Memory => Untaken::Memory,
-    }
-}
-
-/// Whether a session of this stage hasn't ended.
-pub(crate) fn is_held(stage: Stage) -> bool
-    ensures { result ≡ is_held stage }
-{
-    stage == Stage::Opening || stage == Stage::Open
 }

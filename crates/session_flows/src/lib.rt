@@ -8,12 +8,13 @@
 #![tactic(auto)]
 
 mod acks;
-mod asking;
 mod cause;
 mod chunks;
 pub mod edges;
 mod flows;
 mod handing;
+mod judged;
+mod judging;
 pub mod laws;
 mod pace;
 mod packing;
@@ -22,7 +23,8 @@ mod taking;
 mod timing;
 mod told;
 
-pub use cause::{FlowCause, Untaken};
+pub use cause::FlowCause;
 pub use flows::Flows;
+pub use judged::JudgedData;
 pub use pace::Pace;
 pub use refusal::CallRefusal;

@@ -7,7 +7,6 @@ ghost use Rattle.session_flows.specs.Timing.{has_late, losing, has_overdue};
 ghost use Rattle.session_flows.specs.Laws.{AreNumbered};
 ghost use Rattle.session_flows.specs.Calling.{abandon_refused};
 
-use crate::chunks::is_held;
 use crate::flows::Flows;
 use flow_send::FlowSender;
 use session_core::Session;
@@ -19,7 +18,7 @@ impl Flows {
         ensures flows { self.new ≡ after_late session.old self.old moment }
         ensures session { session.new ≡ session_late session.old self.old moment }
     {
-        if !is_held(session.stage()) {
+        if !session.is_held() {
             return;
         }
         if lose(&mut self.sending, moment, session.resend_after()) {
@@ -32,7 +31,7 @@ impl Flows {
     pub fn first_overdue(&self, session: &Session, moment: u64) -> Option<(u64, u64)>
         ensures { result ≡ overdue_in session.now self.now moment }
     {
-        if !is_held(session.stage()) {
+        if !session.is_held() {
             return None;
         }
         let at = overdue_at(&self.sending, moment)?;
@@ -50,7 +49,7 @@ impl Flows {
         ensures waits { IfSome result
             (λ found. abandon_refused self.old found.0 found.1 ≡ None) }
     {
-        if !is_held(session.stage()) {
+        if !session.is_held() {
             return None;
         }
         let at = overdue_at(&self.sending, moment)?;

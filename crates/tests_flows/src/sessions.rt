@@ -1,8 +1,10 @@
 //! What one session does with its flows, from the one end to the other.
 
+ghost use Rattle.std.specs.Prelude.{◌≡◌, ◌<◌, ◌≤◌, false};
+
 use flow_send::{MessageOptions, QueueRefusal};
 use glare_core::Joined;
-use rtmfp_data_chunks::{DataCursor, DataView};
+use rtmfp_data_chunks::{DataCursor, DataView, UserData};
 use rtmfp_forms::{Address, Outgoing};
 use rtmfp_packet::{Packet, read_packet};
 use session_core::{Role, Session};
@@ -30,12 +32,23 @@ fn session() -> Session {
     Session::new(&joined, &[1; 32], Role::Initiator, address, &[0; 32], 0)
 }
 
+/// Takes a data or next chunk, and tells whether it was taken.
+fn takes_data(user: &UserData<'_>, session: &Session, flows: &mut Flows) -> bool
+    requires low { user.now.forward ≤ user.now.seq }
+    requires below { user.now.abandon ≡ false → user.now.forward < user.now.seq }
+{
+    match flows.judge_data(session, user) {
+        Ok(judged) => flows.apply_data(judged, user).is_ok(),
+        Err(_) => false,
+    }
+}
+
 /// Takes a chunk, and tells whether it was taken.
 fn takes(view: &DataView<'_>, session: &mut Session, flows: &mut Flows) -> bool {
     match view {
         DataView::Data(user) | DataView::Next(user) => {
             (user.forward < user.seq || (user.abandon && user.forward == user.seq))
-                && flows.take_data(session, user).is_ok()
+                && takes_data(user, session, flows)
         }
         DataView::AckRanges {
             flow,
@@ -182,7 +195,11 @@ fn what_is_lost_goes_again(rt: HostRuntime) -> Result<(), CallRefusal> {
 /// Whether an exception abandons all messages that wait, and finishes the flow.
 fn rejects(from: &mut Flows, abandoned: &mut Vec<u64>) -> bool {
     let here = session();
-    from.take_exception(&here, 0, abandoned) == Ok(Some(6))
+    let Ok(count) = from.judge_exception(&here, 0) else {
+        return false;
+    };
+    count == 5
+        && from.apply_exception(0, abandoned) == Ok(Some(6))
         && abandoned.as_slice() == [1, 2, 3, 5].as_slice()
         && from.queue_refusal(0, 0) == Some(CallRefusal::Queue(QueueRefusal::Finished))
 }
