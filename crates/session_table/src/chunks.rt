@@ -1,14 +1,16 @@
-//! Chunks of flows that are taken in one of the sessions. Where no session has the session ID, no
-//! chunk is taken.
+//! Chunks of flows that are judged and taken in one of the sessions. Where no session has the
+//! session ID, no chunk is taken.
 
-ghost use Rattle.std.specs.Prelude.{◌≡◌, ◌<◌, ◌≤◌, ◌++◌, Err, IfErr, IfOk, IsOk, MatchOption};
-ghost use Rattle.std.specs.Prelude.{OnErr, OnOk, false, map};
+ghost use Rattle.std.specs.Prelude.{◌≡◌, ◌<◌, ◌≤◌, ◌+◌, ◌-◌, ◌^◌, ◌++◌, IfErr, IfOk, IfSome, IsOk};
+ghost use Rattle.std.specs.Prelude.{MatchOption, Err, None, OnErr, OnOk, Some, false, length, map};
+ghost use Rattle.std.specs.Prelude.{min};
 ghost use Rattle.std.specs.FinMap.{get};
 ghost use Rattle.rtmfp_data_chunks.specs.Chunk.{user_parts};
 ghost use Rattle.flow_send.specs.Acks.{told};
 ghost use Rattle.session_flows.specs.Causes.{ack_cause, data_cause, exception_cause, probe_cause};
 ghost use Rattle.session_flows.specs.Chunks.{data_taken, finished_at, probed, rejecting};
 ghost use Rattle.session_flows.specs.Handing.{handed_stated, hands_once};
+ghost use Rattle.session_flows.specs.Judged.{IsJudged};
 ghost use Rattle.session_flows.specs.Keeping.{Abandoned};
 ghost use Rattle.session_table.specs.Chunks.{cause_in, handed_in, heard_in, of_flows, rejected_in};
 ghost use Rattle.session_table.specs.Chunks.{waiting_in};
@@ -18,26 +20,47 @@ use crate::slot::slot_near;
 use crate::table::SessionTable;
 use rtmfp_base::Message;
 use rtmfp_data_chunks::{AckedSpans, UserData};
-use session_flows::{FlowCause, Untaken};
+use session_flows::{FlowCause, JudgedData};
+use std::alloc::AllocError;
 
 impl SessionTable {
-    /// Takes a user data chunk in the session, and owes an ack for it. What is ready then is handed
-    /// over by `hand_next`.
-    pub fn take_data(&mut self, near: u32, chunk: &UserData<'_>) -> Result<(), Untaken>
+    /// Why a user data chunk is discarded in the session; or of which flow it is, and how many
+    /// messages it hands over at most. It takes no memory.
+    pub fn judge_data(&self, near: u32, chunk: &UserData<'_>) -> Result<JudgedData, FlowCause>
+        ensures none { OnOk result (cause_in (λ s f. data_cause s f (user_parts chunk.now))
+            (get self.now.rows near) ≡ None) }
+        ensures judged { IfOk result (λ judged. IfSome (get self.now.rows near)
+            (λ row. IsJudged judged row.flows (user_parts chunk.now))) }
+        ensures refused { IfErr result (λ x. cause_in
+            (λ s f. data_cause s f (user_parts chunk.now)) (get self.now.rows near) ≡ Some x) }
+        ensures small { IfOk result (λ judged. judged.most ≤ 2 ^ 63 + 1) }
+    {
+        match self.row(near) {
+            Some(row) => row.flows.judge_data(&row.session, chunk),
+            None => Err(FlowCause::WrongState),
+        }
+    }
+
+    /// Takes a user data chunk in the session that was judged and that nothing refuses, and owes an
+    /// ack for it. What is ready then is handed over by `hand_next`.
+    pub fn apply_data(
+        &mut self,
+        near: u32,
+        judged: JudgedData,
+        chunk: &UserData<'_>,
+    ) -> Result<(), AllocError>
         requires low { chunk.now.forward ≤ chunk.now.seq }
         requires below { chunk.now.abandon ≡ false → chunk.now.forward < chunk.now.seq }
+        requires judged { IfSome (get self.old.rows near)
+            (λ row. IsJudged judged row.flows (user_parts chunk.now)) }
         ensures rows { OnOk result (self.new.rows
             ≡ in_row (of_flows (λ f. data_taken f (user_parts chunk.now))) self.old.rows near) }
-        ensures cause { MatchOption (cause_in (λ s f. data_cause s f (user_parts chunk.now))
-            (get self.old.rows near)) (IfErr result (λ e. e ≡ Untaken.Memory))
-            (λ x. result ≡ Err (Untaken.Cause x)) }
         ensures err { OnErr result (self.new.rows ≡ self.old.rows) }
     {
         let Some(slot) = slot_near(&self.kept, near, self.likely) else {
-            return Err(Untaken::Cause(FlowCause::WrongState));
+            return Ok(());
         };
-        let row = &mut self.kept.rows[slot];
-        let taken = row.flows.take_data(&row.session, chunk);
+        let taken = self.kept.rows[slot].flows.apply_data(judged, chunk);
         self.kept.settle(slot);
         taken
     }
@@ -104,20 +127,39 @@ impl SessionTable {
         taken
     }
 
-    /// Takes an exception, by which the other end rejects a flow of the session: the numbers of the
-    /// messages that it abandons are put at the end of a list, for which memory is found first. The
-    /// answer is the last number of the flow, where it wasn't finished before.
-    pub fn take_exception(
+    /// Why an exception for a flow is discarded in the session; or how much it states, or
+    /// 2 ^ 64 - 1 where it is more. It takes no memory.
+    pub fn judge_exception(&self, near: u32, flow: u64) -> Result<usize, FlowCause>
+        ensures none { OnOk result (cause_in (λ s f. exception_cause s f flow)
+            (get self.now.rows near) ≡ None) }
+        ensures there { OnOk result (IfSome (get self.now.rows near)
+            (λ row. flow < length row.flows.sending)) }
+        ensures count { IfOk result (λ count.
+            count ≡ min (length (rejected_in flow (get self.now.rows near))) (2 ^ 64 - 1)) }
+        ensures refused { IfErr result (λ x. cause_in (λ s f. exception_cause s f flow)
+            (get self.now.rows near) ≡ Some x) }
+        ensures exact { IfOk result (λ count. count < 2 ^ 63 →
+            length (rejected_in flow (get self.now.rows near)) ≡ count) }
+    {
+        match self.row(near) {
+            Some(row) => row.flows.judge_exception(&row.session, flow),
+            None => Err(FlowCause::WrongState),
+        }
+    }
+
+    /// Takes an exception that nothing refuses, by which the other end rejects a flow of the
+    /// session: the numbers of the messages that it abandons are put at the end of a list, for
+    /// which memory is found first. The answer is the last number of the flow, where it wasn't
+    /// finished before.
+    pub fn apply_exception(
         &mut self,
         near: u32,
         flow: u64,
         abandoned: &mut Vec<u64>,
-    ) -> Result<Option<u64>, Untaken>
+    ) -> Result<Option<u64>, AllocError>
+        requires { IfSome (get self.old.rows near) (λ row. flow < length row.flows.sending) }
         ensures rows { OnOk result (self.new.rows
             ≡ in_row (of_flows (λ f. (rejecting f flow).flows)) self.old.rows near) }
-        ensures cause { MatchOption (cause_in (λ s f. exception_cause s f flow)
-            (get self.old.rows near)) (IfErr result (λ e. e ≡ Untaken.Memory))
-            (λ x. result ≡ Err (Untaken.Cause x)) }
         ensures numbers { OnOk result (abandoned.new.items
             ≡ abandoned.old.items ++ waiting_in flow (get self.old.rows near)) }
         ensures stated { IfOk result (λ last. rejected_in flow (get self.old.rows near)
@@ -127,11 +169,10 @@ impl SessionTable {
             × (abandoned.new.items ≡ abandoned.old.items)) }
     {
         let Some(slot) = slot_near(&self.kept, near, self.likely) else {
-            return Err(Untaken::Cause(FlowCause::WrongState));
+            return Ok(None);
         };
-        let row = &mut self.kept.rows[slot];
-        let taken = row.flows.take_exception(&row.session, flow, abandoned);
+        let last = self.kept.rows[slot].flows.apply_exception(flow, abandoned);
         self.kept.settle(slot);
-        taken
+        last
     }
 }

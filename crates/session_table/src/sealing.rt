@@ -10,16 +10,13 @@ ghost use Rattle.session_table.specs.Table.{in_session, packet_sealed, sealed_by
 
 use crate::slot::slot_near;
 use crate::table::SessionTable;
-use crypto_profile::Context;
+use crypto_profile::{CIPHERED_AT, Context};
 use packet_scramble::{SEALED_AT, scramble};
 use rtmfp_base::Message;
 use rtmfp_chunks::{ChunkView, write_chunk};
 use rtmfp_forms::Outgoing;
 use rtmfp_packet::begin_packet;
 use session_core::Session;
-
-/// The most bytes of a datagram that is sent.
-const DATAGRAM_LIMIT: usize = 1200;
 
 /// A datagram of a session.
 #[derive(Drop)]
@@ -99,41 +96,31 @@ pub(crate) fn seal_packet(
 }
 
 /// The datagram of a packet in a session, for which memory was found and a count is left.
-fn sealed_in(blank: Vec<u8>, session: &mut Session, packet: &Outgoing) -> Message
+fn sealed_in(mut blank: Vec<u8>, session: &mut Session, packet: &Outgoing) -> Message
     requires blank { length blank.items ≡ 1200 }
-    requires spent { is_spent session.old ≡ false }
+    requires unspent { is_spent session.old ≡ false }
     ensures datagram { result ≡ datagram session.old.joined.far
         (sealed_part session.old packet.now) }
     ensures short { length result ≤ 1200 }
     ensures session { session.new ≡ after_seal session.old }
 {
-    let sid = session.joined().far;
-    let mut buffer = [0; DATAGRAM_LIMIT];
-    match session.seal(packet, &mut buffer) {
-        Some(len) => message_of(blank, sid, &buffer[SEALED_AT..len]),
-        None => Message::of(blank),
-    }
-}
-
-/// The datagram of a sealed part, for which memory was found.
-fn message_of(mut blank: Vec<u8>, sid: u32, part: &[u8]) -> Message
-    requires blank { length blank.items ≡ 1200 }
-    requires fits { length part.now ≤ 1196 }
-    ensures datagram { result ≡ datagram sid part.now }
-    ensures short { length result ≤ 1200 }
-{
-    blank.truncate(SEALED_AT + part.len());
-    put_datagram(&mut blank, sid, part);
+    blank.truncate(SEALED_AT + CIPHERED_AT + packet.bytes().len());
+    fill(&mut blank, session, packet);
     blank.shrink_to_fit();
     Message::of(blank)
 }
 
-/// Fills a buffer, which is as long as the datagram, with that of a sealed part.
-fn put_datagram(buffer: &mut [u8], sid: u32, part: &[u8])
-    requires { length buffer.old ≡ 4 + length part.now }
-    ensures { buffer.new ≡ datagram sid part.now }
+/// Fills a buffer, which is as long as the datagram, with that of a session's next packet.
+fn fill(buffer: &mut [u8], session: &mut Session, packet: &Outgoing)
+    requires room { length buffer.old ≡ 36 + length packet.now }
+    requires unspent { is_spent session.old ≡ false }
+    ensures datagram { buffer.new ≡ datagram session.old.joined.far
+        (sealed_part session.old packet.now) }
+    ensures session { session.new ≡ after_seal session.old }
 {
-    let (head, rest) = buffer.split_at_mut(SEALED_AT);
-    head.copy_from_slice(&scramble(sid, part).to_be_bytes());
-    rest.copy_from_slice(part);
+    let sid = session.joined().far;
+    let (head, part) = buffer.split_at_mut(SEALED_AT);
+    session.seal_part(packet, part);
+    let scrambled = scramble(sid, part);
+    head.copy_from_slice(&scrambled.to_be_bytes());
 }

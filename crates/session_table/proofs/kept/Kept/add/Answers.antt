@@ -1,4 +1,4 @@
-use Rattle.std.proofs.Common.{ℕ, List, ◌≡◌, ◌<◌, ◌≤◌, ◌∙◌, length, min, sym, subst, arith}
+use Rattle.std.proofs.Common.{ℕ, List, ◌≡◌, ◌≤◌, ◌∙◌, length, min, sym, subst, arith}
 use Rattle.std.specs.FinMap.{insert}
 use Rattle.keyed_slab.specs.declared.keys.Key.{Key}
 use Rattle.keyed_slab.specs.Keys.{KeyTable}
