@@ -319,35 +319,43 @@ chunks_did place from draws walk s (c ∷ cs) =
     then_do (chunk_did place from draws walk s c)
     (λ t. chunks_did place from draws (walked walk c) t cs)
 
--- ---- a datagram
+-- ---- a datagram, once it was taken and its session is confirmed
 
--- a half-open session is confirmed, and then come these chunks
-abbrev pub gone_through : AddressParts → Draws → State → Place → List Placed → Did
-gone_through from draws s place cs =
-    then_do (confirming s place) (λ t. chunks_did place from draws outset t cs)
+-- the chunks, and so many packets of the acks that they owe
+abbrev pub walked_and_acked : Place → AddressParts → Draws → State → List Placed → ℕ → Did
+walked_and_acked place from draws s cs acks =
+    then_do (chunks_did place from draws outset s cs) (λ t. acked acks t place)
 
 -- More packets of acks than a session can owe: one for each flow of the other end.
 abbrev pub most_acks : ℕ
 most_acks = 256
 
--- and after them the acks that they owe, and a test of the address that it came from
-abbrev pub gone_through_and_acked : AddressParts → Draws → State → Place → List Placed → ℕ → Did
-gone_through_and_acked from draws s place cs count =
-    then_do (gone_through from draws s place cs) (λ t. acked count t place)
+-- all acks that they owe, and then a test of the address that it came from
+abbrev pub walked_and_tested : Place → AddressParts → Draws → State → List Placed → Did
+walked_and_tested place from draws s cs =
+    then_do (walked_and_acked place from draws s cs most_acks) (λ t. tested t place from draws)
 
+-- Or it stops after so many packets of acks. Those that are owed yet aren't sent any more.
+abbrev pub walked_in_part : Place → AddressParts → Draws → State → List Placed → ℕ → Did
+walked_in_part place from draws s cs acks =
+    then_do (walked_and_acked place from draws s cs acks) (λ t. nothing (unowed t place))
+
+-- ---- a datagram
+
+-- It is refused; or a half-open session is confirmed, and then come the chunks, the acks and the
+-- test.
 abbrev pub received : AddressParts → Draws → Admission → Did
 received from draws (Rejected s cause) = discarded s 0 cause
 received from draws (Admitted s place packet) =
-    then_do (gone_through_and_acked from draws s place (chunks_of packet) most_acks)
-    (λ t. tested t place from draws)
+    then_do (confirming s place) (λ t. walked_and_tested place from draws t (chunks_of packet))
 
 -- What was done of a datagram of which so many chunks were gone through, and then so many packets
--- of acks sent. Those that are owed yet aren't sent any more.
+-- of acks sent.
 abbrev pub part_received : AddressParts → Draws → Admission → ℕ → ℕ → Did
 part_received from draws (Rejected s cause) count acks = nothing s
 part_received from draws (Admitted s place packet) count acks =
-    then_do (gone_through_and_acked from draws s place (take count (chunks_of packet)) acks)
-    (λ t. nothing (unowed t place))
+    then_do (confirming s place)
+    (λ t. walked_in_part place from draws t (take count (chunks_of packet)) acks)
 
 -- ---- datagrams that add nothing but discards
 

@@ -2,6 +2,7 @@
 use Rattle.std.specs.Prelude.{ℕ, ◌+◌, ◌<◌, ◌≡◌, ◌⊎◌, true, false, if◌then◌else◌, List, [], ◌∷◌, ◌++◌, drop, length, Option, Some, None, IsSome, IfSome, IfNone, OnOk, IfErr, IsOk, ◌≤◌, Result, Ok, Err}
 use Rattle.rtmfp_base.specs.declared.memory.Memory.{Memory}
 use Rattle.rtmfp_forms.specs.Address.{AddressParts}
+use Rattle.rtmfp_packet.specs.Walk.{Placed}
 use Rattle.startup.specs.Attempts.{cancel_fact}
 use Rattle.endpoint_model.specs.declared.config.Draws.{Draws}
 use Rattle.endpoint_model.specs.declared.entry.Entry.{Entry}
@@ -16,7 +17,7 @@ use Rattle.introducer.specs.Directory.{row_refusal}
 use Rattle.endpoint_model.specs.Event.{Setup, Call, Open, Cancel, Close, AddRow, Introduce, OnFlows, Receive, Tick, Answer, Began, Done, NotOpened, Refused, NotAdded, Stopped, OutOfMemory, Event}
 use Rattle.endpoint_model.specs.Added.{Added}
 use Rattle.endpoint_model.specs.State.{State, Did, Does, nothing, fresh, at_moment, Done as DoneIn}
-use Rattle.endpoint_model.specs.Admission.{Admission, Rejected, Admitted, admission, confirms}
+use Rattle.endpoint_model.specs.Admission.{Admission, Rejected, Admitted, admission, confirms, confirming}
 use Rattle.endpoint_model.specs.Keying.{chunks_of}
 use Rattle.endpoint_model.specs.Introducing.{with_redirect, introducing}
 use Rattle.endpoint_model.specs.InSessions.{held_row, closing, asks_at}
@@ -24,7 +25,7 @@ use Rattle.endpoint_model.specs.FlowCall.{FlowCall}
 use Rattle.endpoint_model.specs.OnFlows.{call_refusal, flow_called}
 use Rattle.endpoint_model.specs.FlowChunks.{owes_at}
 use Rattle.endpoint_model.specs.declared.place.Place.{Place}
-use Rattle.endpoint_model.specs.Effects.{open_refusal, opening, cancelling, ticks, gone_through_and_acked, received, part_received, AddsDiscards, discards, first_due}
+use Rattle.endpoint_model.specs.Effects.{open_refusal, opening, cancelling, ticks, walked_and_acked, received, part_received, AddsDiscards, discards, first_due}
 use Rattle.endpoint_model.specs.FlowTimes.{all_late}
 
 -- ---- what a call may answer, add and leave, from a state in which its moment is noted
@@ -50,17 +51,23 @@ abbrev pub IsStopBefore : Admission → Type 0
 IsStopBefore (Rejected s cause) = Unit {0}
 IsStopBefore (Admitted s place packet) = confirms s place ≡ true
 
--- No memory was found at a chunk, which isn't gone through; or, after the last one and after so many
--- packets of acks, for one more packet that is owed, or for the test of the address.
+-- One more packet of acks is owed, or the address is to be tested.
 abbrev pub WantsMore : AddressParts → Place → State → Type 0
 WantsMore from place s = (owes_at s place ≡ true) ⊎ (asks_at s place from ≡ true)
 
+-- Behind the confirming, no memory was found at a chunk, which isn't gone through; or, after the
+-- last one and after so many packets of acks, for one more packet that is owed, or for the test of
+-- the address.
+abbrev pub StopsAt : Place → AddressParts → Draws → State → List Placed → ℕ → ℕ → Type 0
+StopsAt place from draws s cs count acks = ((count < length cs) × (acks ≡ 0)) ⊎
+    ((count ≡ length cs) ×
+    WantsMore from place (walked_and_acked place from draws s cs acks).state)
+
+-- a datagram that was taken stops so, once its session is confirmed
 abbrev pub IsStopAt : AddressParts → Draws → Admission → ℕ → ℕ → Type 0
 IsStopAt from draws (Rejected s cause) count acks = ⊥
 IsStopAt from draws (Admitted s place packet) count acks =
-    ((count < length (chunks_of packet)) × (acks ≡ 0)) ⊎
-    ((count ≡ length (chunks_of packet)) × WantsMore from place
-    (gone_through_and_acked from draws s place (chunks_of packet) acks).state)
+    StopsAt place from draws (confirming s place).state (chunks_of packet) count acks
 
 -- the answer where the datagram wasn't taken
 abbrev pub not_taken : Stop
