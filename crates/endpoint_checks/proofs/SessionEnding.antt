@@ -18,9 +18,9 @@ use Rattle.glare_core.specs.Things.{IsHalfOpen, IsKept, near_of}
 use Rattle.endpoint_model.specs.declared.config.Draws.{Draws}
 use Rattle.endpoint_model.specs.declared.entry.Entry.TheVariants.{Fact as FactEntry}
 use Rattle.endpoint_model.specs.Event.{Setup, own_of, Call, Event}
-use Rattle.endpoint_laws.specs.Past.{Past, WasDone, begun, stamped}
+use Rattle.endpoint_laws.specs.Past.{Past, WasDone, begun, stamped, Taken, taken_since}
 use Rattle.endpoint_laws.specs.Lawful.{BeganWith}
-use Rattle.endpoint_laws.specs.Taken.{Taken, taken_since, count_in, IsNewAfter, Passes, TakesChunkOf, TookAt}
+use Rattle.endpoint_laws.specs.Taken.{count_in, IsNewAfter, Passes, TakesChunkOf, TookAt}
 use Rattle.endpoint_checks.specs.Takes.{context_here, ComesIn, Brings}
 use Rattle.endpoint_checks.specs.SessionEnds.{OthersRefused, TheTableRefusesUnconfirmed, TheTableRefusesNears, TheTableRefusesFars, TheTableRefusesIdles}
 use Rattle.endpoint_checks.proofs.Logs.{same, other}

@@ -9,8 +9,8 @@ use Rattle.glare_core.specs.declared.facts.Joined.{Joined}
 use Rattle.endpoint_model.specs.declared.config.Draws.{Draws}
 use Rattle.endpoint_model.specs.Event.{Setup, ReceiveCall, Receive, Answer, Done, Stopped, Event}
 use Rattle.endpoint_model.specs.Keying.{IsAmong, chunks_of}
-use Rattle.endpoint_laws.specs.Past.{Past}
-use Rattle.endpoint_laws.specs.Taken.{Taken, taken_since, count_in, IsNewAfter, TakesChunkOf}
+use Rattle.endpoint_laws.specs.Past.{Past, Taken, taken_since}
+use Rattle.endpoint_laws.specs.Taken.{count_in, IsNewAfter, TakesChunkOf}
 use Rattle.endpoint_checks.specs.Logs.{doing}
 use Rattle.endpoint_checks.specs.Takes.{context_here, UntakenRefused}
 use Rattle.endpoint_checks.proofs.Brings.{one_packet}

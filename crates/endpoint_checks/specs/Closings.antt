@@ -4,15 +4,15 @@ use Rattle.rtmfp_forms.specs.Address.{AddressParts}
 use Rattle.rtmfp_chunks.specs.Chunk.{CloseAck}
 use Rattle.glare_core.specs.declared.facts.Why.{Why}
 use Rattle.glare_core.specs.declared.facts.Why.TheVariants.{Near}
-use Rattle.glare_core.specs.declared.facts.Fact.TheVariants.{Born, Ended}
+use Rattle.glare_core.specs.declared.facts.Fact.TheVariants.{Born}
 use Rattle.glare_core.specs.declared.facts.Joined.{Joined}
 use Rattle.endpoint_model.specs.declared.config.Draws.{Draws}
 use Rattle.endpoint_model.specs.declared.entry.Entry.{Entry}
-use Rattle.endpoint_model.specs.declared.entry.Entry.TheVariants.{Fact as FactEntry, Closed}
+use Rattle.endpoint_model.specs.declared.entry.Entry.TheVariants.{Closed}
 use Rattle.endpoint_model.specs.Event.{Setup, Call, Open, Cancel, Close, Receive, Tick, Event}
-use Rattle.endpoint_laws.specs.Past.{begun, stamped, is_close}
+use Rattle.endpoint_laws.specs.Past.{is_close, with_begun}
 use Rattle.endpoint_laws.specs.Lawful.{ClosedLine}
-use Rattle.endpoint_checks.specs.Logs.{answering, doing, says, IsRefused}
+use Rattle.endpoint_checks.specs.Logs.{answering, doing, says, IsRefused, past_of_end}
 use Rattle.endpoint_checks.specs.Ends.{after_start, after_birth}
 use Rattle.endpoint_checks.specs.SessionEnds.{ends}
 use Rattle.endpoint_checks.specs.Takes.{Brings, UntakenRefused}
@@ -57,12 +57,10 @@ pub record ClosingsRefused (setup : Setup) (moment : ℕ) (c d e : Call) (from :
       (more ++ answering moment (Receive from sent draws) answer (over j) ∷ [])))
   -- a tick at 19,000 ms meets the line, and a datagram with an answer to a close
   pub in_time : is_close why ≡ true →
-      ClosedLine setup 19000 (Tick draws) (stamped 0 (FactEntry (Ended j.peer j.near why))
-      ∷ stamped 0 (FactEntry (Born j)) ∷ []) j.near
+      ClosedLine setup 19000 (Tick draws) (past_of_end j why) j.near
   pub by_answer : Brings setup j sent CloseAck →
       ClosedLine setup moment (Receive from sent draws)
-      (begun moment (doing moment (Receive from sent draws) (over j))
-      ∷ stamped 0 (FactEntry (Ended j.peer j.near Near)) ∷ stamped 0 (FactEntry (Born j)) ∷ [])
+      (with_begun moment (doing moment (Receive from sent draws) (over j)) (past_of_end j Near))
       j.near
 
 abbrev pub TheTableRefusesClosings : Type 0

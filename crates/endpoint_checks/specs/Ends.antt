@@ -10,7 +10,7 @@ use Rattle.glare_core.specs.declared.facts.Joined.{Joined}
 use Rattle.endpoint_model.specs.declared.config.Draws.{Draws}
 use Rattle.endpoint_model.specs.declared.entry.Entry.TheVariants.{Fact as FactEntry, Discard, Out}
 use Rattle.endpoint_model.specs.Event.{Setup, own_of, Call, Open, Cancel, Close, Receive, Tick, Event}
-use Rattle.endpoint_laws.specs.Past.{stamped}
+use Rattle.endpoint_laws.specs.Past.{nothing_done, with_fact}
 use Rattle.endpoint_laws.specs.Lawful.{EndedLine}
 use Rattle.endpoint_checks.specs.Logs.{doing, says, IsRefused}
 
@@ -88,7 +88,7 @@ pub record ExpiriesRefused (setup : Setup) (c : Call) (draws : Draws) (peer : Li
       (after_birth c j (doing moment (Tick draws) (says (Ended j.peer j.near Expired))))
   -- one at 95,000 ms after the start meets the line
   pub in_time : EndedLine setup 95000 (Tick draws)
-      (stamped 0 (FactEntry (Started peer 1 5 peer)) ∷ []) [] peer 5 Expired
+      (with_fact 0 (Started peer 1 5 peer) nothing_done) [] peer 5 Expired
 
 -- Of an attempt or a session that makes way for a Born of its peer: what follows it isn't that
 -- Born.

@@ -1,10 +1,13 @@
 -- Short logs, and when one is refused.
 use Rattle.std.specs.Prelude.{ℕ, List, [], ◌∷◌}
+use Rattle.glare_core.specs.declared.facts.Why.{Why}
 use Rattle.glare_core.specs.declared.facts.Fact.{Fact}
+use Rattle.glare_core.specs.declared.facts.Fact.TheVariants.{Born, Ended}
 use Rattle.glare_core.specs.declared.facts.Joined.{Joined}
 use Rattle.endpoint_model.specs.declared.entry.Entry.{Entry}
 use Rattle.endpoint_model.specs.declared.entry.Entry.TheVariants.{Fact as FactEntry}
 use Rattle.endpoint_model.specs.Event.{Setup, Call, Answer, Done, Event}
+use Rattle.endpoint_laws.specs.Past.{Past, nothing_done, with_fact}
 use Rattle.endpoint_laws.specs.Lawful.{IsLawful}
 
 -- a call at a moment, what it answered, and what it added
@@ -39,3 +42,13 @@ joined peer near far ni nr = record {
   nr = nr;
   k = 0;
 }
+
+-- ---- pasts
+
+-- A session was born at 0,
+abbrev pub past_of_birth : Joined → Past
+past_of_birth j = with_fact 0 (Born j) nothing_done
+
+-- and then it ended, at 0 as well.
+abbrev pub past_of_end : Joined → Why → Past
+past_of_end j why = with_fact 0 (Ended j.peer j.near why) (past_of_birth j)

@@ -17,11 +17,11 @@ use Rattle.glare_core.specs.Tells.{as_initiator, as_responder}
 use Rattle.endpoint_model.specs.declared.entry.Entry.{Entry}
 use Rattle.endpoint_model.specs.declared.entry.Entry.TheVariants.{Fact as FactEntry, Closed, Out}
 use Rattle.endpoint_model.specs.Event.{Setup, own_of, Call}
-use Rattle.endpoint_laws.specs.Past.{stamped, is_close}
+use Rattle.endpoint_laws.specs.Past.{is_close}
 use Rattle.endpoint_laws.specs.Contexts.{session_context}
 use Rattle.endpoint_laws.specs.Lawful.{InSession}
 use Rattle.endpoint_model.specs.Keying.{IsAmong, chunks_of, initiator_part, responder_part}
-use Rattle.endpoint_checks.specs.Logs.{doing, says, IsRefused}
+use Rattle.endpoint_checks.specs.Logs.{doing, says, IsRefused, past_of_end}
 
 -- a datagram that goes out in a context
 abbrev pub sends : AddressParts → List ℕ → Context → List Entry
@@ -167,8 +167,7 @@ pub record InSessionsRefused (setup : Setup) (moment : ℕ) (c d : Call) (to : A
       ∷ doing moment d (sends to sent (Session x y fp_i fp_r sid_i sid_r to_responder)) ∷ [])
   -- one that is closing, which either end closed, meets the line
   pub while_closing : (why : Why) → is_close why ≡ true →
-      InSession setup (stamped 0 (FactEntry (Ended j.peer j.near why))
-      ∷ stamped 0 (FactEntry (Born j)) ∷ []) j.far
+      InSession setup (past_of_end j why) j.far
       (session_context (as_responder (own_of setup) j) false)
 
 abbrev pub TheTableRefusesSends : Type 0

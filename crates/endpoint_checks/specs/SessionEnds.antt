@@ -8,11 +8,10 @@ use Rattle.glare_core.specs.declared.facts.Fact.TheVariants.{Started, Born, Open
 use Rattle.glare_core.specs.declared.facts.Joined.{Joined}
 use Rattle.endpoint_model.specs.declared.config.Draws.{Draws}
 use Rattle.endpoint_model.specs.declared.entry.Entry.{Entry}
-use Rattle.endpoint_model.specs.declared.entry.Entry.TheVariants.{Fact as FactEntry}
 use Rattle.endpoint_model.specs.Event.{Setup, Call, Open, Cancel, Close, Receive, Tick, Event}
-use Rattle.endpoint_laws.specs.Past.{begun, stamped}
+use Rattle.endpoint_laws.specs.Past.{with_begun, with_fact}
 use Rattle.endpoint_laws.specs.Lawful.{EndedLine}
-use Rattle.endpoint_checks.specs.Logs.{answering, doing, says, IsRefused}
+use Rattle.endpoint_checks.specs.Logs.{answering, doing, says, IsRefused, past_of_birth}
 use Rattle.endpoint_checks.specs.Ends.{after_start, after_birth}
 use Rattle.endpoint_checks.specs.Takes.{ComesIn, Brings, UntakenRefused}
 
@@ -72,8 +71,7 @@ pub record UnconfirmedRefused (setup : Setup) (moment : ℕ) (c d : Call) (from 
   pub of_opened
       : IsRefused setup (after_opened 0 c d j (doing moment (Tick draws) (ends j Unconfirmed)))
   -- one at 20,000 ms meets the line
-  pub in_time : EndedLine setup 20000 (Tick draws) (stamped 0 (FactEntry (Born j)) ∷ []) [] j.peer
-      j.near Unconfirmed
+  pub in_time : EndedLine setup 20000 (Tick draws) (past_of_birth j) [] j.peer j.near Unconfirmed
 
 pub record NearsRefused (setup : Setup) (moment : ℕ) (c : Call) (from : AddressParts)
     (sent : List ℕ) (draws : Draws) (j : Joined) : Type 0 where
@@ -89,8 +87,7 @@ pub record NearsRefused (setup : Setup) (moment : ℕ) (c : Call) (from : Addres
   pub of_another : (id : ℕ) → id ≢ j.near →
       IsRefused setup (after_birth c j (doing moment (Close id) (ends j Near)))
   -- a close of it meets the line
-  pub by_close : EndedLine setup moment (Close j.near) (stamped 0 (FactEntry (Born j)) ∷ []) []
-      j.peer j.near Near
+  pub by_close : EndedLine setup moment (Close j.near) (past_of_birth j) [] j.peer j.near Near
 
 pub record FarsRefused (setup : Setup) (moment : ℕ) (c : Call) (from : AddressParts)
     (sent : List ℕ) (draws : Draws) (j : Joined) : Type 0 where
@@ -108,8 +105,8 @@ pub record FarsRefused (setup : Setup) (moment : ℕ) (c : Call) (from : Address
   -- one with a close meets the line
   pub by_close : Brings setup j sent CloseChunk →
       EndedLine setup moment (Receive from sent draws)
-      (begun moment (doing moment (Receive from sent draws) (ends j Far))
-      ∷ stamped 0 (FactEntry (Born j)) ∷ []) [] j.peer j.near Far
+      (with_begun moment (doing moment (Receive from sent draws) (ends j Far)) (past_of_birth j)) []
+      j.peer j.near Far
 
 pub record IdlesRefused (setup : Setup) (moment : ℕ) (c d : Call) (from : AddressParts)
     (sent : List ℕ) (draws : Draws) (j : Joined) : Type 0 where
@@ -144,8 +141,7 @@ pub record IdlesRefused (setup : Setup) (moment : ℕ) (c d : Call) (from : Addr
       ∷ doing 120000 (Tick draws) (ends j Idle) ∷ [])
   -- one at 120,000 ms meets the line
   pub in_time : EndedLine setup 120000 (Tick draws)
-      (stamped 0 (FactEntry (Confirmed j.peer j.near)) ∷ stamped 0 (FactEntry (Born j)) ∷ []) []
-      j.peer j.near Idle
+      (with_fact 0 (Confirmed j.peer j.near) (past_of_birth j)) [] j.peer j.near Idle
 
 abbrev pub TheTableRefusesUnconfirmed : Type 0
 TheTableRefusesUnconfirmed = (setup : Setup) (moment : ℕ) (c d : Call) (from : AddressParts)

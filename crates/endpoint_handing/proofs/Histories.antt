@@ -13,8 +13,8 @@ use Rattle.session_flows.specs.Told.{begins_with_a}
 use Rattle.endpoint_model.specs.declared.row.Row.{Row}
 use Rattle.endpoint_model.specs.declared.entry.Entry.{Entry}
 use Rattle.endpoint_model.specs.Views.{Sending, fact_in, out_in}
-use Rattle.endpoint_model.specs.Event.{Setup, own_of, Call, Open, Cancel, Close, AddRow, Introduce}
-use Rattle.endpoint_model.specs.Event.{OnFlows, Receive, Tick, Event}
+use Rattle.endpoint_model.specs.Event.{Setup, own_of, Call}
+use Rattle.endpoint_model.specs.Event.{OnFlows, Receive, Event}
 use Rattle.rtmfp_forms.specs.Address.{AddressParts}
 use Rattle.endpoint_model.specs.declared.config.Draws.{Draws}
 use Rattle.endpoint_model.specs.FlowCall.{FlowCall, OpenFlow, Queue, Abandon, Finish}
@@ -285,12 +285,7 @@ module _ (ends : ℕ → Setup) (secret : List ℕ) (owed : (e : End) → FlowsH
       let ours : IsCall (Receive from datagram draws) = subst IsCall is calls.1 in
       (arrives from datagram draws is, omega (arith, ours.3))
   given_with (OnFlows near call) is = λ none are. opens_as_asked near call is are
-  given_with (Open peer candidates draws) is = tt
-  given_with (Cancel n) is = tt
-  given_with (Close near) is = tt
-  given_with (AddRow print addresses) is = tt
-  given_with Introduce is = tt
-  given_with (Tick draws) is = tt
+  given_with call is = tt
 
   hands : Hands it facts (record { state = t; entries = entries }) carried.flows
   hands = answers_hand it (λ A. owed (with_begins it A)) facts noted t entries carried.flows stands new x.event.call x.event.answer (given_with x.event.call refl) step

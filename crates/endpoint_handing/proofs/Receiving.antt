@@ -49,9 +49,7 @@ use Rattle.endpoint_model.specs.Admission.{admitted_packet, admitted, admission}
 use Rattle.endpoint_model.specs.InSessions.{tested}
 use Rattle.endpoint_model.specs.FlowChunks.{acked}
 use Rattle.endpoint_model.specs.FlowChunks.{unowed}
-use Rattle.endpoint_model.specs.Effects.{outset, chunks_did, gone_through, most_acks}
-use Rattle.endpoint_model.specs.Effects.{gone_through_and_acked}
-use Rattle.endpoint_model.specs.Effects.{received, part_received}
+use Rattle.endpoint_model.specs.Effects.{outset, chunks_did, most_acks, walked_and_acked, received, part_received}
 use Rattle.endpoint_model.specs.Log.{stopped}
 use Rattle.endpoint_laws.specs.Past.{fact_and}
 use Rattle.endpoint_laws.specs.OpensIn.{context_in_session, context_found, opens_in}
@@ -232,32 +230,32 @@ came_after e (Session near) facts before cs h d at one all = record {
   came = λ x among. one.grows.came e.who (back all.context) x (all.came x among);
 }
 
-module _ (e : End) (owed : FlowsHand e) (place : Place) (from : AddressParts) (draws : Draws) (at : BeginsAt e place) (facts : List Fact) (s : State) (h : History) (stands : Stands e facts s h) where
-  hands_gone : (cs : List Placed) → AllCameAt e place facts None cs h → AreNew e facts (gone_through from draws s place cs).entries → Hands e facts (gone_through from draws s place cs) h
-  hands_gone cs all new =
+-- One thing, and then another that needs nothing of it.
+hands_and : (e : End) (facts : List Fact) (h : History) (d : Did) (next : State → Did) → (AreNew e facts d.entries → Hands e facts d h) → ((more : List Fact) (t : State) → Does e more t (next t)) →
+    AreNew e facts (then_do d next).entries → Hands e facts (then_do d next) h
+hands_and e facts h d next first does new =
+    let parts = new_split e d.entries (next d.state).entries facts new in
+    let one : Hands e facts d h = first parts.0 in
+    hands_after e facts d.state d.entries (next d.state) h one (does (facts_onto d.entries facts) d.state one.after one.stands parts.1)
+
+module _ (e : End) (owed : FlowsHand e) (place : Place) (from : AddressParts) (draws : Draws) (at : BeginsAt e place) (cs : List Placed) (count : ℕ) where
+  -- the chunks, and the acks after them
+  hands_acked : (facts : List Fact) (s : State) (h : History) → Stands e facts s h → AllCameAt e place facts None cs h → AreNew e facts (walked_and_acked place from draws s cs count).entries →
+      Hands e facts (walked_and_acked place from draws s cs count) h
+  hands_acked facts s h stands all =
+      hands_and e facts h (chunks_did place from draws outset s cs) (λ t. acked count t place) (λ new. hands_chunks e owed place from draws at cs facts outset s h stands tt all new) (λ more t. acked_made (timed_does e owed) count t place more)
+
+  -- once the session is confirmed, and with what comes last
+  hands_walked : (next : State → Did) (facts : List Fact) (s : State) (h : History) → Stands e facts s h → AllCameAt e place facts None cs h → ((more : List Fact) (t : State) → Does e more t (next t)) →
+      AreNew e facts (then_do (confirming s place) (λ t. then_do (walked_and_acked place from draws t cs count) next)).entries → Hands e facts (then_do (confirming s place) (λ t. then_do (walked_and_acked place from draws t cs count) next)) h
+  hands_walked next facts s h stands all does new =
       let d : Did = confirming s place in
-      let later : Did = chunks_did place from draws outset d.state cs in
+      let went : Did = walked_and_acked place from draws d.state cs count in
+      let later : Did = then_do went next in
       let parts = new_split e d.entries later.entries facts new in
       let one : Hands e facts d h = confirming_made (quiet_does e) s place facts h stands parts.0 in
-      hands_after e facts d.state d.entries later h one
-      (hands_chunks e owed place from draws at cs (facts_onto d.entries facts) outset d.state one.after one.stands tt (came_after e place facts None cs h d at one all) parts.1)
-
-  -- after the chunks come things that need nothing of them
-  hands_gone_and : (cs : List Placed) (next : State → Did) → AllCameAt e place facts None cs h → ((more : List Fact) (t : State) → Does e more t (next t)) → AreNew e facts (then_do (gone_through from draws s place cs) next).entries →
-      Hands e facts (then_do (gone_through from draws s place cs) next) h
-  hands_gone_and cs next all does new =
-      let d : Did = gone_through from draws s place cs in
-      let parts = new_split e d.entries (next d.state).entries facts new in
-      let one : Hands e facts d h = hands_gone cs all parts.0 in
-      hands_after e facts d.state d.entries (next d.state) h one (does (facts_onto d.entries facts) d.state one.after one.stands parts.1)
-
-  hands_acked_and : (cs : List Placed) (count : ℕ) (next : State → Did) → AllCameAt e place facts None cs h → ((more : List Fact) (t : State) → Does e more t (next t)) →
-      AreNew e facts (then_do (gone_through_and_acked from draws s place cs count) next).entries → Hands e facts (then_do (gone_through_and_acked from draws s place cs count) next) h
-  hands_acked_and cs count next all does new =
-      let d : Did = gone_through_and_acked from draws s place cs count in
-      let parts = new_split e d.entries (next d.state).entries facts new in
-      let one : Hands e facts d h = hands_gone_and cs (λ t. acked count t place) all (λ more t. acked_made (timed_does e owed) count t place more) parts.0 in
-      hands_after e facts d.state d.entries (next d.state) h one (does (facts_onto d.entries facts) d.state one.after one.stands parts.1)
+      let now : List Fact = facts_onto d.entries facts in
+      hands_after e facts d.state d.entries later h one (hands_and e now one.after went next (hands_acked now d.state one.after one.stands (came_after e place facts None cs h d at one all)) does parts.1)
 
 -- ---- the datagram came
 
@@ -338,11 +336,11 @@ module _ (e : End) (owed : (A : Type 0) → FlowsHand (with_begins e A)) (from :
   -- the chunks of a packet that was admitted, or some of them, so many packets of acks, and what comes then
   module _ (t : State) (packet : Whole) (cs : List Placed) (rest : List Placed) (whole : chunks_of packet ≡ cs ++ rest) (count : ℕ) (next : State → Did) (does : (A : Type 0) (more : List Fact) (u : State) → Does (with_begins e A) more u (next u)) where
     abbrev did : Place → Did
-    did place = then_do (gone_through_and_acked from draws t place cs count) next
+    did place = then_do (confirming t place) (λ u. then_do (walked_and_acked place from draws u cs count) next)
 
     -- outside of sessions
     hands_outside : (place : Place) → BeginsAt open_end place → AllCameAt open_end place facts None cs h → Stands open_end facts t h → AreNew open_end facts (did place).entries → Hands open_end facts (did place) h
-    hands_outside place at all stands new = hands_acked_and open_end (owed (Unit {0})) place from draws at facts t h stands cs count next all (does (Unit {0})) new
+    hands_outside place at all stands new = hands_walked open_end (owed (Unit {0})) place from draws at cs count next facts t h stands all (does (Unit {0})) new
 
     hands_inside : (near : ℕ) → OpensHere s datagram near packet → IsAlike s t → Arrives open_end s datagram h → Stands open_end facts s h → Stands open_end facts t h → AreNew open_end facts (did (Session near)).entries → Hands open_end facts (did (Session near)) h
     hands_inside near opens alike arrives before stands new =
@@ -361,7 +359,7 @@ module _ (e : End) (owed : (A : Type 0) → FlowsHand (with_begins e A)) (from :
         let stands_now : Stands shut_end facts t now = stands_in shut_end facts c pieces h t sent (stands_as e (Unit {0}) ⊥ facts t h stands) in
         hands_as e ⊥ facts (did (Session near)) h
         (hands_in shut_end facts c pieces h (did (Session near))
-        (hands_acked_and shut_end (owed ⊥) (Session near) from draws (λ never. never) facts t now stands_now cs count next all (does ⊥) (new_as e (Unit {0}) ⊥ (did (Session near)).entries facts new)))
+        (hands_walked shut_end (owed ⊥) (Session near) from draws (λ never. never) cs count next facts t now stands_now all (does ⊥) (new_as e (Unit {0}) ⊥ (did (Session near)).entries facts new)))
 
     -- at whatever place
     hands_admitted : (place : Place) → IsAlike s t → OpensAt s datagram place packet → Arrives open_end s datagram h → Stands open_end facts s h → AreNew open_end facts (did place).entries → Hands open_end facts (did place) h

@@ -68,7 +68,7 @@ use Rattle.endpoint_model.specs.Causes.{form_cause, initiator_keying_cause, last
 use Rattle.endpoint_model.specs.InSessions.{tested as tested_at}
 use Rattle.endpoint_model.specs.FlowChunks.{flow_taken, acked, unowed}
 use Rattle.endpoint_laws.proofs.Hearing.{HeardWell, known_more}
-use Rattle.endpoint_model.specs.Effects.{read_reply, with_born, keying_done, initiator_keyed, responder_keyed, with_opened, opening_done, discarded_or, chunk_did, walked, chunks_did, received, part_received, outset, gone_through, most_acks, gone_through_and_acked}
+use Rattle.endpoint_model.specs.Effects.{read_reply, with_born, keying_done, initiator_keyed, responder_keyed, with_opened, opening_done, discarded_or, chunk_did, walked, chunks_did, received, part_received, outset, most_acks, walked_and_acked}
 use Rattle.endpoint_model.specs.Log.{Answers}
 use Rattle.endpoint_laws.specs.Laws.{IsSetup, IsCall}
 use Rattle.endpoint_laws.specs.Complete.{WentThrough, IsPing, outs_in, at_initiator, IsOfOffer, IsBornAndTold, AdmissibleKeyingsBear, OpensItsSession, KeyingsWithoutCauseOpen}
@@ -385,11 +385,12 @@ record AddsItsChunks (u : State) (place : Place) (from : AddressParts) (draws : 
   untested : (d : Did) → then_do d (λ v. tested_at v place from draws) ≡ d
   nothing_left : (d : Did) → then_do d (λ v. nothing (unowed v place)) ≡ d
 
-gone_entries : (u : State) (place : Place) (from : AddressParts) (draws : Draws) (cs : List Placed) (count : ℕ) → AddsItsChunks u place from draws →
-    (gone_through_and_acked from draws u place cs count).entries ≡ (chunks_did place from draws outset u cs).entries
-gone_entries u place from draws cs count alone =
-    ap (λ (d : Did). d.entries) (alone.unacked (gone_through from draws u place cs) count)
-    ∙ ap (λ (d : Did). (then_do d (λ v. chunks_did place from draws outset v cs)).entries) alone.quiet
+gone_entries : (u : State) (place : Place) (from : AddressParts) (draws : Draws) (cs : List Placed) (count : ℕ) (last : State → Did) → AddsItsChunks u place from draws → ((d : Did) → then_do d last ≡ d) →
+    (then_do (confirming u place) (λ v. then_do (walked_and_acked place from draws v cs count) last)).entries ≡ (chunks_did place from draws outset u cs).entries
+gone_entries u place from draws cs count last alone no_more =
+    ap (λ (d : Did). (then_do d (λ v. then_do (walked_and_acked place from draws v cs count) last)).entries) alone.quiet
+    ∙ ap (λ (d : Did). d.entries) (no_more (walked_and_acked place from draws u cs count))
+    ∙ ap (λ (d : Did). d.entries) (alone.unacked (chunks_did place from draws outset u cs) count)
 
 went_entries : (noted t u : State) (place : Place) (from : AddressParts) (datagram : List ℕ) (draws : Draws) (answer : CallAnswer) (entries : List Entry) (packet : Whole) (gone : List Placed) →
     Answers noted (Receive from datagram draws) answer entries t → admission noted datagram ≡ Admitted u place packet → AddsItsChunks u place from draws →
@@ -397,8 +398,7 @@ went_entries : (noted t u : State) (place : Place) (from : AddressParts) (datagr
 went_entries noted t u place from datagram draws (Began n) entries packet gone step at alone went = absurd went
 went_entries noted t u place from datagram draws Done entries packet gone step at alone went =
     step.entries ∙ ap (λ (x : Admission). (received from draws x).entries) at
-    ∙ ap (λ (d : Did). d.entries) (alone.untested (gone_through_and_acked from draws u place (chunks_of packet) most_acks))
-    ∙ gone_entries u place from draws (chunks_of packet) most_acks alone
+    ∙ gone_entries u place from draws (chunks_of packet) most_acks (λ v. tested_at v place from draws) alone alone.untested
     ∙ ap (λ (cs : List Placed). (chunks_did place from draws outset u cs).entries) (sym went)
 went_entries noted t u place from datagram draws (NotOpened refusal) entries packet gone step at alone went = absurd went
 went_entries noted t u place from datagram draws (Refused refusal) entries packet gone step at alone went = absurd went
@@ -407,8 +407,7 @@ went_entries noted t u place from datagram draws (Stopped stop) entries packet g
     step.left.entries
     ∙ ap (λ (b : Bool). (if b then part_received from draws (admission noted datagram) stop.chunks step.acks else nothing noted).entries) went.0
     ∙ ap (λ (x : Admission). (part_received from draws x stop.chunks step.acks).entries) at
-    ∙ ap (λ (d : Did). d.entries) (alone.nothing_left (gone_through_and_acked from draws u place (take stop.chunks (chunks_of packet)) step.acks))
-    ∙ gone_entries u place from draws (take stop.chunks (chunks_of packet)) step.acks alone
+    ∙ gone_entries u place from draws (take stop.chunks (chunks_of packet)) step.acks (λ v. nothing (unowed v place)) alone alone.nothing_left
     ∙ ap (λ (cs : List Placed). (chunks_did place from draws outset u cs).entries) (sym went.1)
 went_entries noted t u place from datagram draws OutOfMemory entries packet gone step at alone went = absurd went
 

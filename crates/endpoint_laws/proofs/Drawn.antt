@@ -34,14 +34,14 @@ use Rattle.endpoint_model.specs.declared.answers.Stopped.{Stopped as Stop}
 use Rattle.endpoint_model.specs.Event.{Call, Open, Cancel, Close, AddRow, Introduce, OnFlows, Receive, Tick, Answer as CallAnswer, Began, Done, NotOpened, Refused, NotAdded, Stopped, OutOfMemory}
 use Rattle.endpoint_model.specs.Introducing.{with_redirect, introducing}
 use Rattle.endpoint_model.specs.OnFlows.{flow_entry, flow_called}
-use Rattle.endpoint_model.specs.FlowChunks.{acked}
+use Rattle.endpoint_model.specs.FlowChunks.{acked, unowed}
 use Rattle.endpoint_model.specs.FlowTimes.{all_late}
 use Rattle.endpoint_laws.specs.Past.{Past, stamped, onto, facts_of, fact_and}
-use Rattle.endpoint_model.specs.State.{State, full, Did, Does, nothing, fact_entries, with_startup, free_from}
+use Rattle.endpoint_model.specs.State.{State, full, Did, Does, nothing, then_do, fact_entries, with_startup, free_from}
 use Rattle.endpoint_model.specs.Sending.{sent_answer}
 use Rattle.endpoint_model.specs.Admission.{Admission, Rejected, Admitted, admission, sid_at, confirming}
 use Rattle.endpoint_model.specs.Keying.{chunks_of}
-use Rattle.endpoint_model.specs.Effects.{opening, cancelling, ticks, keying_done, initiator_keyed, opening_done, responder_keyed, with_born, chunk_did, chunks_did, walked, received, part_received, outset, gone_through, most_acks, gone_through_and_acked}
+use Rattle.endpoint_model.specs.Effects.{opening, cancelling, ticks, keying_done, initiator_keyed, opening_done, responder_keyed, with_born, chunk_did, chunks_did, walked, received, part_received, outset, most_acks, walked_and_acked}
 use Rattle.endpoint_model.specs.Causes.{initiator_keying_cause}
 use Rattle.endpoint_laws.specs.Lawful.{nonces_of}
 use Rattle.endpoint_laws.proofs.Unseen.{AreUnseen, flows_unseen}
@@ -224,25 +224,27 @@ module _ (place : Place) (from : AddressParts) (draws : Draws) where
       by true e rest = once_before draws.nonce d.entries _ (once_chunk s walk c small) (none_chunks cs (walked walk c) d.state next (or_either walk.keyed (c.kind == 0x38) (inr e)))
       by false e rest = once_after draws.nonce d.entries _ (none_other s walk c small e) rest
 
-once_some : (from : AddressParts) (draws : Draws) (s : State) (place : Place) (cs : List Placed) → Once draws.nonce ((confirming s place).entries ++ (chunks_did place from draws outset (confirming s place).state cs).entries)
-once_some from draws s place cs =
-    once_after draws.nonce (confirming s place).entries (chunks_did place from draws outset (confirming s place).state cs).entries (confirming_made none_quiet s place) (once_chunks place from draws cs outset (confirming s place).state tt)
-
-once_acked : (from : AddressParts) (draws : Draws) (s : State) (place : Place) (cs : List Placed) (count : ℕ) → Once draws.nonce (gone_through_and_acked from draws s place cs count).entries
+once_acked : (from : AddressParts) (draws : Draws) (s : State) (place : Place) (cs : List Placed) (count : ℕ) → Once draws.nonce (walked_and_acked place from draws s cs count).entries
 once_acked from draws s place cs count =
-    let d : Did = gone_through from draws s place cs in
-    once_before draws.nonce d.entries (acked count d.state place).entries (once_some from draws s place cs) (acked_made none_law.timed count d.state place)
+    let d : Did = chunks_did place from draws outset s cs in
+    once_before draws.nonce d.entries (acked count d.state place).entries (once_chunks place from draws cs outset s tt) (acked_made none_law.timed count d.state place)
+
+-- once the session is confirmed, and with what comes last and draws none
+once_walked : (from : AddressParts) (draws : Draws) (s : State) (place : Place) (cs : List Placed) (count : ℕ) (last : State → Did) → ((t : State) → drawn (last t).entries ≡ []) →
+    Once draws.nonce (then_do (confirming s place) (λ t. then_do (walked_and_acked place from draws t cs count) last)).entries
+once_walked from draws s place cs count last none =
+    let first : Did = confirming s place in
+    let d : Did = walked_and_acked place from draws first.state cs count in
+    once_after draws.nonce first.entries (d.entries ++ (last d.state).entries) (confirming_made none_quiet s place)
+    (once_before draws.nonce d.entries (last d.state).entries (once_acked from draws first.state place cs count) (none d.state))
 
 once_received : (from : AddressParts) (draws : Draws) (a : Admission) → Once draws.nonce (received from draws a).entries
 once_received from draws (Rejected s cause) = inl refl
-once_received from draws (Admitted s place packet) =
-    let d : Did = gone_through_and_acked from draws s place (chunks_of packet) most_acks in
-    once_before draws.nonce d.entries (tested_at d.state place from draws).entries (once_acked from draws s place (chunks_of packet) most_acks) (tested_made none_quiet d.state place from draws tt)
+once_received from draws (Admitted s place packet) = once_walked from draws s place (chunks_of packet) most_acks (λ t. tested_at t place from draws) (λ t. tested_made none_quiet t place from draws tt)
 
 once_part : (from : AddressParts) (draws : Draws) (a : Admission) (count acks : ℕ) → Once draws.nonce (part_received from draws a count acks).entries
 once_part from draws (Rejected s cause) count acks = inl refl
-once_part from draws (Admitted s place packet) count acks =
-    once_before draws.nonce (gone_through_and_acked from draws s place (take count (chunks_of packet)) acks).entries [] (once_acked from draws s place (take count (chunks_of packet)) acks) refl
+once_part from draws (Admitted s place packet) count acks = once_walked from draws s place (take count (chunks_of packet)) acks (λ t. nothing (unowed t place)) (λ t. refl)
 
 once_stopped : (s : State) (from : AddressParts) (draws : Draws) (a : Admission) (stop : Stop) (acks : ℕ) → Once draws.nonce (stopped s from draws a stop acks).entries
 once_stopped s from draws a stop acks = by stop.taken

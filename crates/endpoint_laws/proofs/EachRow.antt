@@ -1,4 +1,5 @@
--- What is so of the flows of each session, at every moment: it is so of none, and all that is done with flows keeps it.
+-- What is so of the flows of each session, at every moment: it is so of none, and all that is done
+-- with flows keeps it.
 use Rattle.std.proofs.Common.{◌≡◌, ℕ, List, [], ◌∷◌, Option, Some, None, inl, inr, refl, sym, subst}
 use Rattle.std.specs.Ordering.{nat_cmp}
 use Rattle.std.specs.FinMap.{get, insert, remove, get-empty}
@@ -6,7 +7,8 @@ use Rattle.rtmfp_base.proofs.Maps.{found_inserted, found_left, none_is_some}
 use Rattle.rtmfp_data_chunks.specs.Chunk.{DataChunk}
 use Rattle.rtmfp_data_chunks.specs.Fitting.{FitsIn}
 use Rattle.glare_core.specs.declared.facts.Fact.{Fact}
-use Rattle.glare_core.specs.declared.facts.Fact.TheVariants.{Started, Born, Opened, Confirmed, Ended}
+use Rattle.glare_core.specs.declared.facts.Fact.TheVariants.{Started, Born, Opened, Confirmed}
+use Rattle.glare_core.specs.declared.facts.Fact.TheVariants.{Ended}
 use Rattle.session_core.specs.Session.{SessionState}
 use Rattle.session_core.specs.Sealed.{after_seal}
 use Rattle.session_flows.specs.Keeping.{FlowsState, no_flows, with_sending}
@@ -17,31 +19,46 @@ use Rattle.session_flows.specs.Timing.{after_late, overdue_done}
 use Rattle.session_flows.specs.Packing.{pace_of, filled}
 use Rattle.session_flows.specs.declared.pace.Pace.{Pace}
 use Rattle.endpoint_model.specs.declared.row.Row.{Row}
+use Rattle.endpoint_model.specs.declared.entry.Entry.{Entry}
 use Rattle.endpoint_model.specs.State.{State, Sessions, Did, with_row, fresh, at_moment}
 use Rattle.endpoint_model.specs.Sending.{packet_head}
 use Rattle.endpoint_model.specs.FlowCall.{FlowCall, flow_refusal, flow_did}
 use Rattle.endpoint_model.specs.Effects.{without_ended}
-use Rattle.endpoint_model.specs.Event.{Setup, Event}
-use Rattle.endpoint_model.specs.Log.{Leads, StandsFor}
-use Rattle.endpoint_laws.proofs.Small.{Quiet, FlowThing, Called, Came, Acked, Unowed, Late, Overdue, Packed, row_after, MayBe, Any, All, Begins, Enters}
-use Rattle.endpoint_laws.proofs.Made.{all_law, answers_made}
+use Rattle.endpoint_model.specs.Event.{Setup, Call, Answer, Event}
+use Rattle.endpoint_model.specs.Log.{Answers, Leads, StandsFor}
+use Rattle.endpoint_laws.proofs.Small.{Quiet, FlowThing, Called, Came, Acked, Unowed, Late, Overdue}
+use Rattle.endpoint_laws.proofs.Small.{Packed, on_flows, row_after, MayBe, IsNoChunk, Any, Timed}
+use Rattle.endpoint_laws.proofs.Small.{All, Begins, Enters}
+use Rattle.endpoint_laws.proofs.Made.{timed_law, all_law, CallsDo, WasMade, answers_made}
 use Rattle.glare_core.specs.Calls.{way_made}
 
-module _ (P : FlowsState → Type 0) where
-  -- It is so of no flows, and what is done with the flows of a session keeps it.
-  pub record IsKept : Type 0 where
-    pub none : P no_flows
-    pub called : (f : FlowsState) (c : FlowCall) → flow_refusal f c ≡ None → P f → P (flow_did f c).flows
-    pub chunk : (session : SessionState) (f : FlowsState) (c : DataChunk) → FitsIn c → flows_cause session f c ≡ None → P f → P (chunk_done f c).flows
-    pub acked : (f : FlowsState) (packet : List ℕ) → P f → P (after_acks f packet)
-    pub unowed : (f : FlowsState) → P f → P (owing_none f)
-    pub late : (session : SessionState) (f : FlowsState) (moment : ℕ) → P f → P (after_late session f moment)
-    pub overdue : (f : FlowsState) (flow seq : ℕ) → P f → P (overdue_done f (Some (flow, seq))).flows
-    pub sent : (pace : Pace) (f : FlowsState) (packet : List ℕ) → P f → P (with_sending f (filled pace f.sending packet).sending)
+-- ---- by the session ID, and without the chunks that came
+
+module _ (P : ℕ → FlowsState → Type 0) where
+  -- It is so of no flows, and what is done with the flows of a session keeps it, but for a chunk
+  -- that came.
+  pub record IsKeptAlone : Type 0 where
+    pub none : (near : ℕ) → P near no_flows
+    pub called : (near : ℕ) (f : FlowsState) (c : FlowCall) → flow_refusal f c ≡ None → P near f →
+        P near (flow_did f c).flows
+    pub acked : (near : ℕ) (f : FlowsState) (packet : List ℕ) → P near f →
+        P near (after_acks f packet)
+    pub unowed : (near : ℕ) (f : FlowsState) → P near f → P near (owing_none f)
+    pub late : (near : ℕ) (session : SessionState) (f : FlowsState) (moment : ℕ) → P near f →
+        P near (after_late session f moment)
+    pub overdue : (near : ℕ) (f : FlowsState) (flow seq : ℕ) → P near f →
+        P near (overdue_done f (Some (flow, seq))).flows
+    pub sent : (near : ℕ) (pace : Pace) (f : FlowsState) (packet : List ℕ) → P near f →
+        P near (with_sending f (filled pace f.sending packet).sending)
+
+  -- And so does a chunk.
+  abbrev pub ChunksKeep : Type 0
+  ChunksKeep = (near : ℕ) (session : SessionState) (f : FlowsState) (c : DataChunk) → FitsIn c →
+      flows_cause session f c ≡ None → P near f → P near (chunk_done f c).flows
 
   -- It is so of the flows of each session.
   abbrev pub InEach : Sessions → Type 0
-  InEach sessions = (near : ℕ) (row : Row) → get sessions near ≡ Some row → P row.flows
+  InEach sessions = (near : ℕ) (row : Row) → get sessions near ≡ Some row → P near row.flows
 
   abbrev pub Each : State → Type 0
   Each s = InEach s.sessions
@@ -49,21 +66,24 @@ module _ (P : FlowsState → Type 0) where
   abbrev pub Keeps : State → Did → Type 0
   Keeps s d = Each s → Each d.state
 
-  module _ (kept : IsKept) where
-    -- ---- rows
+  -- ---- rows
 
-    put : (m : Sessions) (near : ℕ) (row : Row) → P row.flows → InEach m → InEach (insert m near row)
-    put m near row p each q r e = elim (found_inserted m near row q r e) [
-      | inl is ↦ subst (λ (x : Row). P x.flows) is.1 p
-      | inr is ↦ each q r is.1
-    ]
+  pub put : (m : Sessions) (near : ℕ) (row : Row) → P near row.flows → InEach m →
+      InEach (insert m near row)
+  put m near row p each q r e = elim (found_inserted m near row q r e) [
+    | inl is ↦ subst (λ (x : Row). P q x.flows) is.1 (subst (λ (n : ℕ). P n row.flows) (sym is.0) p)
+    | inr is ↦ each q r is.1
+  ]
 
+  module _ (kept : IsKeptAlone) where
     left : (m : Sessions) (near : ℕ) → InEach m → InEach (remove m near)
     left m near each q r e = each q r (found_left m near q r e).1
 
     -- the session in a row is changed, or its moves are
-    keeps_put : (s : State) (near : ℕ) (old new : Row) → get s.sessions near ≡ Some old → new.flows ≡ old.flows → Each s → Each (with_row s near new)
-    keeps_put s near old new is flows each = put s.sessions near new (subst P (sym flows) (each near old is)) each
+    keeps_put : (s : State) (near : ℕ) (old new : Row) → get s.sessions near ≡ Some old →
+        new.flows ≡ old.flows → Each s → Each (with_row s near new)
+    keeps_put s near old new is flows each = put s.sessions near new
+        (subst (λ (f : FlowsState). P near f) (sym flows) (each near old is)) each
 
     ended_left : (m : Sessions) (o : Option Fact) → InEach m → InEach (without_ended m o)
     ended_left m None each = each
@@ -75,21 +95,29 @@ module _ (P : FlowsState → Type 0) where
 
     -- ---- small things
 
-    flows_kept : (moment : ℕ) (row : Row) (thing : FlowThing) → MayBe row thing → P row.flows → P (row_after moment row thing).flows
-    flows_kept moment row (Called call) may p = kept.called row.flows call may p
-    flows_kept moment row (Came chunk) may p = kept.chunk row.session row.flows chunk may.0 may.1 p
-    flows_kept moment row Acked may p = kept.acked row.flows (packet_head row.session moment) p
-    flows_kept moment row Unowed may p = kept.unowed row.flows p
-    flows_kept moment row Late may p = kept.late row.session row.flows moment p
-    flows_kept moment row (Overdue flow seq) may p = kept.overdue row.flows flow seq p
-    flows_kept moment row Packed may p = kept.sent (pace_of row.session moment) row.flows (packet_head row.session moment) p
+    flows_kept : (near moment : ℕ) (row : Row) (thing : FlowThing) → MayBe row thing →
+        IsNoChunk thing → P near row.flows → P near (row_after moment row thing).flows
+    flows_kept near moment row (Called call) may alone p = kept.called near row.flows call may p
+    flows_kept near moment row (Came chunk) may alone p = absurd alone
+    flows_kept near moment row Acked may alone p = kept.acked near row.flows
+        (packet_head row.session moment) p
+    flows_kept near moment row Unowed may alone p = kept.unowed near row.flows p
+    flows_kept near moment row Late may alone p = kept.late near row.session row.flows moment p
+    flows_kept near moment row (Overdue flow seq) may alone p =
+        kept.overdue near row.flows flow seq p
+    flows_kept near moment row Packed may alone p = kept.sent near (pace_of row.session moment)
+        row.flows (packet_head row.session moment) p
 
-    each_quiet : Quiet Any Keeps
+    pub each_quiet : Quiet Any Keeps
     each_quiet = record {
       sends = record {
-        steps = record { does_nothing = λ s each. each; and_then = λ s d e first later each. later (first each) };
+        steps = record {
+          does_nothing = λ s each. each;
+          and_then = λ s d e first later each. later (first each);
+        };
         out = λ s to sid plain each. each;
-        out_in = λ s near row to body is carries. keeps_put s near row (record row { session = after_seal row.session }) is refl;
+        out_in = λ s near row to body is carries.
+            keeps_put s near row (record row { session = after_seal row.session }) is refl;
       };
       attempts = λ s startup kin each. each;
       close = tt;
@@ -104,32 +132,105 @@ module _ (P : FlowsState → Type 0) where
       goes_on = λ s near old new is goes. keeps_put s near old new is goes.flows;
     }
 
-    each_law : All Any Keeps
-    each_law = all_law each_quiet (λ s near row thing is may each. put s.sessions near _ (flows_kept s.moment row thing may (each near row is)) each)
+    on_each : (s : State) (near : ℕ) (row : Row) (thing : FlowThing) →
+        get s.sessions near ≡ Some row → MayBe row thing → IsNoChunk thing →
+        Keeps s (on_flows s near row thing)
+    on_each s near row thing is may alone each = put s.sessions near _
+        (flows_kept near s.moment row thing may alone (each near row is)) each
 
-    each_begins : Begins Keeps Keeps
+    pub each_timed : Timed Any Keeps
+    each_timed = timed_law each_quiet on_each
+
+    pub each_calls : CallsDo Keeps
+    each_calls s near row call is may = on_each s near row (Called call) is may tt
+
+    pub each_begins : Begins Keeps Keeps
     each_begins = record {
       quiet = λ s d keeps. keeps;
       steps = each_quiet.sends.steps;
       starts = λ s startup peer n near ni kin each. each;
-      bears = λ s peer o j from each. put (without_ended s.sessions (way_made peer o)) j.near _ kept.none (ended_left s.sessions (way_made peer o) each);
-      opens = λ s startup j from kin each. put s.sessions j.near _ kept.none each;
+      bears = λ s peer o j from each. put (without_ended s.sessions (way_made peer o)) j.near _
+          (kept.none j.near) (ended_left s.sessions (way_made peer o) each);
+      opens = λ s startup j from kin each. put s.sessions j.near _ (kept.none j.near) each;
     }
 
-    each_enters : Enters Keeps
+    pub each_enters : Enters Keeps
     each_enters = record {
-      counts = λ s near row session is. keeps_put s near row (record row { session = session }) is refl;
+      counts = λ s near row session is.
+          keeps_put s near row (record row { session = session }) is refl;
       unseen = λ s introduces rows each. each;
     }
 
-    -- ---- logs
+    pub each_law : ChunksKeep → All Any Keeps
+    each_law chunk = all_law each_quiet by
+      where
+        by : (s : State) (near : ℕ) (row : Row) (thing : FlowThing) →
+            get s.sessions near ≡ Some row → MayBe row thing → Keeps s (on_flows s near row thing)
+        by s near row (Came c) is may each = put s.sessions near _
+            (chunk near row.session row.flows c may.0 may.1 (each near row is)) each
+        by s near row (Called call) is may each = on_each s near row (Called call) is may tt each
+        by s near row Acked is may each = on_each s near row Acked is may tt each
+        by s near row Unowed is may each = on_each s near row Unowed is may tt each
+        by s near row Late is may each = on_each s near row Late is may tt each
+        by s near row (Overdue flow seq) is may each = on_each s near row (Overdue flow seq) is may
+            tt each
+        by s near row Packed is may each = on_each s near row Packed is may tt each
 
-    keeps_leads : (log : List Event) (s t : State) → Each s → Leads s log t → Each t
-    keeps_leads [] s t each leads = subst Each leads each
-    keeps_leads (e ∷ events) s t each leads =
-        let one = answers_made each_law each_begins each_enters (at_moment s e.moment) leads.0 e.call e.answer e.entries leads.1 in
-        keeps_leads events leads.0 t (subst Each (sym one.does.state) (one.made each)) leads.2
+  -- ---- logs
 
-    -- In every log it is so of the flows of each session.
-    pub in_every_log : (setup : Setup) (log : List Event) (s : State) → StandsFor setup log s → Each s
-    in_every_log setup log s stands = keeps_leads log (fresh setup) s (λ near row e. absurd (none_is_some row (get (fresh setup).sessions near) (get-empty nat_cmp near) e)) stands
+  -- Each call keeps it.
+  abbrev pub AnswersKeep : Type 0
+  AnswersKeep = (s t : State) (call : Call) (answer : Answer) (entries : List Entry) →
+      Answers s call answer entries t → WasMade Keeps s t entries
+
+  keeps_leads : AnswersKeep → (log : List Event) (s t : State) → Each s → Leads s log t → Each t
+  keeps_leads answers [] s t each leads = subst Each leads each
+  keeps_leads answers (e ∷ events) s t each leads =
+      let one = answers (at_moment s e.moment) leads.0 e.call e.answer e.entries leads.1 in
+      keeps_leads answers events leads.0 t (subst Each (sym one.does.state) (one.made each)) leads.2
+
+  -- In every log it is so of the flows of each session.
+  pub after_every_log : AnswersKeep → (setup : Setup) (log : List Event) (s : State) →
+      StandsFor setup log s → Each s
+  after_every_log answers setup log s stands = keeps_leads answers log (fresh setup) s
+      (λ near row e. absurd (none_is_some row (get (fresh setup).sessions near)
+      (get-empty nat_cmp near) e)) stands
+
+-- ---- of each session alike
+
+module _ (P : FlowsState → Type 0) where
+  -- It is so of no flows, and what is done with the flows of a session keeps it.
+  pub record IsKept : Type 0 where
+    pub none : P no_flows
+    pub called : (f : FlowsState) (c : FlowCall) → flow_refusal f c ≡ None → P f →
+        P (flow_did f c).flows
+    pub chunk : (session : SessionState) (f : FlowsState) (c : DataChunk) → FitsIn c →
+        flows_cause session f c ≡ None → P f → P (chunk_done f c).flows
+    pub acked : (f : FlowsState) (packet : List ℕ) → P f → P (after_acks f packet)
+    pub unowed : (f : FlowsState) → P f → P (owing_none f)
+    pub late : (session : SessionState) (f : FlowsState) (moment : ℕ) → P f →
+        P (after_late session f moment)
+    pub overdue : (f : FlowsState) (flow seq : ℕ) → P f →
+        P (overdue_done f (Some (flow, seq))).flows
+    pub sent : (pace : Pace) (f : FlowsState) (packet : List ℕ) → P f →
+        P (with_sending f (filled pace f.sending packet).sending)
+
+  kept_alone : IsKept → IsKeptAlone (λ near f. P f)
+  kept_alone kept = record {
+    none = λ near. kept.none;
+    called = λ near. kept.called;
+    acked = λ near. kept.acked;
+    unowed = λ near. kept.unowed;
+    late = λ near. kept.late;
+    overdue = λ near. kept.overdue;
+    sent = λ near. kept.sent;
+  }
+
+  -- In every log it is so of the flows of each session.
+  pub in_every_log : IsKept → (setup : Setup) (log : List Event) (s : State) →
+      StandsFor setup log s → Each (λ near f. P f) s
+  in_every_log kept =
+      let alone = kept_alone kept in
+      after_every_log (λ near f. P f) (answers_made (each_law (λ near f. P f) alone
+      (λ near. kept.chunk)) (each_begins (λ near f. P f) alone)
+      (each_enters (λ near f. P f) alone))

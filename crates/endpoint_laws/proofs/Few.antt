@@ -4,8 +4,8 @@ use Rattle.endpoint_model.specs.declared.entry.Entry.{Entry}
 use Rattle.endpoint_model.specs.State.{State, Did}
 use Rattle.endpoint_model.specs.Event.{Call, Answer}
 use Rattle.endpoint_model.specs.Log.{Answers}
-use Rattle.endpoint_laws.specs.Past.{Past, stamped, onto}
-use Rattle.endpoint_laws.specs.Complete.{outs_in, outs_of}
+use Rattle.endpoint_laws.specs.Past.{Past, stamped, onto, outs_of}
+use Rattle.endpoint_laws.specs.Complete.{outs_in}
 use Rattle.endpoint_laws.proofs.Small.{Quiet, Any, All, Begins, Enters}
 use Rattle.endpoint_laws.proofs.Made.{all_law, answers_made}
 

@@ -30,9 +30,9 @@ use Rattle.endpoint_model.specs.Event.{Event}
 use Rattle.endpoint_model.specs.State.{Sessions, State, at_moment, with_session}
 use Rattle.endpoint_model.specs.Admission.{packet_in, place_of, heard_by, heard_in, opened_at, placed, opened_found, counted_by, timed_by, mode_by, peers_mode, has_mode, Admission, Rejected, Admitted, admitted_packet, admitted, admission}
 use Rattle.endpoint_model.proofs.Reading.{packet_reads}
-use Rattle.endpoint_laws.specs.Past.{Past, OfEvent, begun}
+use Rattle.endpoint_laws.specs.Past.{Past, OfEvent, begun, Taken, datagram_in, taken_and, taken_since}
 use Rattle.endpoint_laws.specs.Contexts.{OpensUnder}
-use Rattle.endpoint_laws.specs.Taken.{Taken, datagram_in, taken_and, taken_since, PassesIn}
+use Rattle.endpoint_laws.specs.Taken.{PassesIn}
 use Rattle.endpoint_laws.proofs.Bytes.{plain_is}
 use Rattle.endpoint_laws.proofs.Hearing.{lasting, Counts, IsKnown, AreKnown, HeardWell}
 use Rattle.endpoint_laws.proofs.Taking.{counts_unopened, counts_refused, counts_counted, counts_taken}

@@ -14,9 +14,8 @@ use Rattle.glare_core.specs.declared.facts.Joined.{Joined}
 use Rattle.session_core.specs.declared.stage.Role.{Role}
 use Rattle.endpoint_model.specs.declared.row.Row.{Row}
 use Rattle.session_core.specs.Session.{SessionState, first_stage, is_opening, new_session}
-use Rattle.endpoint_laws.specs.Past.{Past, onto, stamped}
+use Rattle.endpoint_laws.specs.Past.{Past, onto, stamped, begins, taken_since}
 use Rattle.glare_core.specs.declared.facts.Why.{Why}
-use Rattle.endpoint_laws.specs.Taken.{begins, taken_since}
 use Rattle.rtmfp_base.proofs.Maps.{found_inserted, found_left}
 use Rattle.std.specs.FinMap.{insert, remove}
 use Rattle.std.proofs.lemmas.Bool.Decides.{nat_tests}

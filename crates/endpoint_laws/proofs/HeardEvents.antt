@@ -8,8 +8,7 @@ use Rattle.endpoint_model.specs.declared.row.Row.{Row}
 use Rattle.endpoint_model.specs.Event.{Setup, ReceiveCall, receive_in, Event}
 use Rattle.endpoint_model.specs.State.{State, fresh, at_moment, is_used}
 use Rattle.endpoint_model.specs.Admission.{Admission, Rejected, Admitted}
-use Rattle.endpoint_laws.specs.Past.{Past, OfEvent, begun}
-use Rattle.endpoint_laws.specs.Taken.{was_gone_through, datagram_of, datagram_in, taken_and, taken_since}
+use Rattle.endpoint_laws.specs.Past.{Past, OfEvent, begun, was_gone_through, datagram_of, datagram_in, taken_and, taken_since}
 use Rattle.endpoint_laws.proofs.Hearing.{HeardWell, known_more}
 use Rattle.endpoint_laws.proofs.Passing.{PassedAt}
 

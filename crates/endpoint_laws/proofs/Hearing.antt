@@ -17,8 +17,8 @@ use Rattle.endpoint_model.specs.declared.entry.Entry.TheVariants.{Fact as FactEn
 use Rattle.endpoint_model.specs.Views.{fact_in}
 use Rattle.endpoint_model.specs.State.{Sessions, State, Did, nothing, then_do}
 use Rattle.endpoint_model.specs.Admission.{peers_mode}
-use Rattle.endpoint_laws.specs.Past.{Stamped, stamped, onto, WasDone, Past}
-use Rattle.endpoint_laws.specs.Taken.{Taken, begins, taken_since, IsNewAfter, TookIn}
+use Rattle.endpoint_laws.specs.Past.{Stamped, stamped, onto, WasDone, Past, Taken, begins, taken_since}
+use Rattle.endpoint_laws.specs.Taken.{IsNewAfter, TookIn}
 
 -- ---- what of a session lasts
 

@@ -78,3 +78,5 @@ mod ReadsBack
 mod Since
 mod StatedFacts
 mod Telling
+mod AcksFew
+mod NoneOwed

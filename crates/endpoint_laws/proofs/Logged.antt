@@ -21,9 +21,8 @@ use Rattle.endpoint_model.specs.Effects.{opening, cancelling, ticks, received}
 use Rattle.endpoint_model.specs.Log.{Answers, Leads, StandsFor, stopped}
 use Rattle.introducer.specs.Directory.{AddressRows}
 use Rattle.introducer.proofs.FewRows.{few_addresses}
-use Rattle.endpoint_laws.specs.Past.{Past, OfEvent, onto, facts_of, past_of, last_moment, begun}
-use Rattle.endpoint_laws.specs.Taken.{was_gone_through, datagram_in}
-use Rattle.endpoint_laws.specs.Complete.{outs_in, outs_of}
+use Rattle.endpoint_laws.specs.Past.{Past, OfEvent, onto, facts_of, past_of, last_moment, begun, was_gone_through, datagram_in, outs_of}
+use Rattle.endpoint_laws.specs.Complete.{outs_in}
 use Rattle.endpoint_laws.specs.Laws.{IsSetup, IsCall, AreCalls, EveryLogIsLawful, TheLedgerIsOfTheLog, UsesAreWithin, RowsAreWithin}
 use Rattle.endpoint_laws.proofs.Bytes.{of_bytes}
 use Rattle.endpoint_laws.proofs.Lines.{FactPart, OutPart, CountPart, EntriesMeet, EventsMeet, events_lawful}
@@ -214,20 +213,10 @@ module _ (setup : Setup) (past : Past) (s : State) (e : Event) (holds : Holds se
       by false gone = none_waits (not_gone_through e gone)
 
   known_for : (call : Call) (answer : Answer) → e.call ≡ call → e.answer ≡ answer → KnownFor start noted call answer
-  known_for (Open peer candidates draws) answer is said = no_receive (Open peer candidates draws) is refl
-  known_for (Cancel n) answer is said = no_receive (Cancel n) is refl
-  known_for (Close near) answer is said = no_receive (Close near) is refl
-  known_for (AddRow print addresses) answer is said = no_receive (AddRow print addresses) is refl
-  known_for Introduce answer is said = no_receive Introduce is refl
-  known_for (OnFlows near call) answer is said = no_receive (OnFlows near call) is refl
-  known_for (Tick draws) answer is said = no_receive (Tick draws) is refl
   known_for (Receive from datagram draws) Done is said = admitted from datagram draws is (ap was_gone_through said)
   known_for (Receive from datagram draws) (Stopped stop) is said = waits from datagram draws stop is said
-  known_for (Receive from datagram draws) (Began n) is said = tt
-  known_for (Receive from datagram draws) (NotOpened refusal) is said = tt
-  known_for (Receive from datagram draws) (Refused refusal) is said = tt
-  known_for (Receive from datagram draws) (NotAdded refusal) is said = tt
-  known_for (Receive from datagram draws) OutOfMemory is said = tt
+  known_for (Receive from datagram draws) answer is said = tt
+  known_for call answer is said = no_receive call is refl
 
   -- an event began, whose moment is noted
   holds_begun : Begun setup start noted e.call e.answer

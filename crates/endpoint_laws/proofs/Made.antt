@@ -24,13 +24,13 @@ use Rattle.endpoint_model.specs.declared.config.Draws.{Draws}
 use Rattle.endpoint_model.specs.declared.entry.Entry.{Entry}
 use Rattle.glare_core.specs.declared.facts.Fact.{Fact}
 use Rattle.endpoint_model.specs.declared.entry.Entry.TheVariants.{Fact as FactEntry}
-use Rattle.endpoint_model.specs.FlowCall.{FlowCall, flow_refusal}
+use Rattle.endpoint_model.specs.FlowCall.{FlowCall, flow_did, flow_refusal}
 use Rattle.session_flows.specs.declared.cause.FlowCause.{FlowCause}
 use Rattle.session_flows.specs.declared.refusal.CallRefusal.{CallRefusal as FlowRefusal}
 use Rattle.glare_core.specs.declared.facts.Held.TheVariants.{HalfOpen, KeptAsInitiator, KeptAsResponder, Opening as OpeningHeld}
 use Rattle.glare_core.specs.declared.facts.Held.{Held}
 use Rattle.startup.specs.declared.attempt.Stage.TheVariants.{Hello, Keying}
-use Rattle.endpoint_model.specs.Effects.{Hellos, InSession, InStartup, Introduction, Reply, Silence, cancelling, chunk_did, chunks_did, due_done, forwarded, gone_through, gone_through_and_acked, initiator_keyed, keying_done, most_acks, opening, opening_done, outset, part_received, read_done, read_left, read_reply, received, replied, responder_keyed, tick_once, ticks, walked, with_opened}
+use Rattle.endpoint_model.specs.Effects.{Hellos, InSession, InStartup, Introduction, Reply, Silence, cancelling, chunk_did, chunks_did, due_done, forwarded, initiator_keyed, keying_done, most_acks, opening, opening_done, outset, part_received, read_done, read_left, read_reply, received, replied, responder_keyed, tick_once, ticks, walked, walked_and_acked, with_opened}
 use Rattle.session_core.specs.declared.stage.SessionDue.TheVariants.{Idle, Over, RepeatClose, Unconfirmed}
 use Rattle.startup.specs.Keyings.{InitiatorKeying, ResponderKeying, after_keying, after_opening, again_or_birth, born_session, change_answer, initiator_keying_in, keyed_reading, keyed_with, keying_of, opened_reading, opened_with, repeated_session, responder_keying_in, session_answer}
 use Rattle.glare_core.specs.declared.facts.Joined.{Joined}
@@ -55,7 +55,7 @@ use Rattle.startup.specs.Attempts.{after_end_of, after_begin, after_confirm, aft
 use Rattle.startup.specs.Due.{repeat_of, repeat_signed}
 use Rattle.session_core.specs.Closing.{first_due as session_first_due, after_due as after_due_in, asked_to_close, closed_near, is_held, is_near_close, kept_alive, needs_keepalive}
 use Rattle.endpoint_model.specs.FlowTimes.{end_due, abandon_due, all_late, data_body, row_due, row_due_done}
-use Rattle.endpoint_model.specs.OnFlows.{call_refusal, call_refusal_by, flow_called, flow_called_by, flow_refused}
+use Rattle.endpoint_model.specs.OnFlows.{call_refusal, call_refusal_by, flow_called, flow_called_by, flow_refused, flows_done}
 use Rattle.endpoint_laws.proofs.ByKind.{chunk_by_kind}
 use Rattle.rtmfp_chunks.specs.Writing.{chunk_bytes}
 use Rattle.endpoint_model.specs.Causes.{initiator_keying_cause, takes}
@@ -75,10 +75,10 @@ use Rattle.endpoint_model.specs.Sending.{last_count, sent_answer, sent_by, sent_
 use Rattle.std.specs.Option.{option_map}
 use Rattle.sha2.specs.Sha256.{sha256}
 use Rattle.rtmfp_data_chunks.proofs.Fitting.{small_next, what_is_read_fits}
-use Rattle.endpoint_laws.proofs.Small.{FlowThing, GoesOn, Called, Came, Acked, Unowed, Late, Overdue, Packed, on_flows, birth, stated, MayBe, Any, Sends, Quiet, Timed, All, Begins, Enters}
+use Rattle.endpoint_laws.proofs.Small.{FlowThing, GoesOn, Called, Came, Acked, Unowed, Late, Overdue, Packed, on_flows, birth, stated, MayBe, IsNoChunk, Any, Sends, Quiet, Timed, All, Begins, Enters}
 use Rattle.startup.specs.Due.{repeated}
 use Rattle.startup.specs.Attempts.{with_attempt}
-use Rattle.endpoint_laws.proofs.Walks.{tick_walked, acked_walked, unowed_walked, tick_all_walked}
+use Rattle.endpoint_laws.proofs.Walks.{Steps, tick_walked, acked_walked, unowed_walked, tick_all_walked}
 use Rattle.endpoint_laws.proofs.Kin.{IsKin, kin_ended, kin_confirm, kin_end, kin_rhello, kin_redirect, kin_change, kin_keying}
 
 -- what an answer carries in sessions
@@ -326,7 +326,7 @@ module _ {Body : List ℕ → Type 0} {P : State → Did → Type 0} (q : Quiet 
 
 -- ---- flows
 
-none_told : (o : Option FlowCause) → option_map told_cause o ≡ None → o ≡ None
+pub none_told : (o : Option FlowCause) → option_map told_cause o ≡ None → o ≡ None
 none_told None e = refl
 none_told (Some cause) e = absurd (cc)
 
@@ -375,28 +375,39 @@ module _ {Body : List ℕ → Type 0} {P : State → Did → Type 0} (k : Timed 
   tick_all_made = tick_all_walked k.quiet.sends.steps k.loses tick_made
 
 -- where any body may go out, what is done with flows is one thing and the datagram another
+pub timed_law : {P : State → Did → Type 0} → Quiet Any P → ((s : State) (near : ℕ) (row : Row) (thing : FlowThing) → get s.sessions near ≡ Some row → MayBe row thing → IsNoChunk thing → P s (on_flows s near row thing)) → Timed Any P
+timed_law q flows = record {
+  quiet = q;
+  acks = λ s near row is owed. and_home_made q.sends s near (acks_body row s.moment) (on_flows s near row Acked) (flows s near row Acked is tt tt) tt;
+  owes_none = λ s near row is. flows s near row Unowed is tt tt;
+  loses = λ s near row is. flows s near row Late is tt tt;
+  abandons = λ s near row flow seq is due. flows s near row (Overdue flow seq) is tt tt;
+  packs = λ s near row is. and_home_made q.sends s near (data_body row s.moment) (on_flows s near row Packed) (flows s near row Packed is tt tt) tt;
+}
+
 pub all_law : {P : State → Did → Type 0} → Quiet Any P → ((s : State) (near : ℕ) (row : Row) (thing : FlowThing) → get s.sessions near ≡ Some row → MayBe row thing → P s (on_flows s near row thing)) → All Any P
 all_law q flows = record {
-  timed = record {
-    quiet = q;
-    acks = λ s near row is owed. and_home_made q.sends s near (acks_body row s.moment) (on_flows s near row Acked) (flows s near row Acked is tt) tt;
-    owes_none = λ s near row is. flows s near row Unowed is tt;
-    loses = λ s near row is. flows s near row Late is tt;
-    abandons = λ s near row flow seq is due. flows s near row (Overdue flow seq) is tt;
-    packs = λ s near row is. and_home_made q.sends s near (data_body row s.moment) (on_flows s near row Packed) (flows s near row Packed is tt) tt;
-  };
+  timed = timed_law q (λ s near row thing is may alone. flows s near row thing is may);
   bodies = λ body. tt;
   calls = λ s near row call is none. flows s near row (Called call) is none;
   takes = λ s near row chunk is fits none. flows s near row (Came chunk) is (fits, none);
 }
 
-module _ {Body : List ℕ → Type 0} {P : State → Did → Type 0} (a : All Body P) where
+-- a call on flows
+abbrev pub CallsDo : (State → Did → Type 0) → Type 0
+CallsDo P = (s : State) (near : ℕ) (row : Row) (call : FlowCall) → get s.sessions near ≡ Some row → flow_refusal row.flows call ≡ None → P s (flows_done s near row (flow_did row.flows call))
+
+module _ (P : State → Did → Type 0) (calls : CallsDo P) where
   called_by_made : (s : State) (near : ℕ) (c : FlowCall) (o : Option Row) → held_row s near ≡ o → call_refusal_by c o ≡ None → P s (flow_called_by s near c o)
   called_by_made s near c None is none = absurd (cc)
-  called_by_made s near c (Some row) is none = a.calls s near row c (held_is_there (get s.sessions near) row is) (none_refused (flow_refusal row.flows c) none)
+  called_by_made s near c (Some row) is none = calls s near row c (held_is_there (get s.sessions near) row is) (none_refused (flow_refusal row.flows c) none)
 
+  call_made : (s : State) (near : ℕ) (c : FlowCall) → call_refusal s near c ≡ None → P s (flow_called s near c)
+  call_made s near c none = called_by_made s near c (held_row s near) refl none
+
+module _ {Body : List ℕ → Type 0} {P : State → Did → Type 0} (a : All Body P) where
   pub called_made : (s : State) (near : ℕ) (c : FlowCall) → call_refusal s near c ≡ None → P s (flow_called s near c)
-  called_made s near c none = called_by_made s near c (held_row s near) refl none
+  called_made s near c none = call_made P a.calls s near c none
 
   taken_by_made : (s : State) (near : ℕ) (chunk : DataChunk) → FitsIn chunk → (o : Option Row) → get s.sessions near ≡ o → taking_cause o chunk ≡ None → P s (flow_taken_by s near chunk o)
   taken_by_made s near chunk fits None is none = absurd (cc)
@@ -477,6 +488,78 @@ module _ {Body : List ℕ → Type 0} {Q P : State → Did → Type 0} (q : Quie
   pub responder_made : (s : State) (near : ℕ) (from : AddressParts) (payload : List ℕ) → P s (responder_keyed s near from payload)
   responder_made s near from payload = opened_made s near from (get s.startup.attempts near) (responder_keying_in payload)
 
+-- ---- what a datagram leaves of its session before its chunks
+
+-- what an admission leaves
+abbrev pub left_by : Admission → State
+left_by (Rejected s cause) = s
+left_by (Admitted s place packet) = s
+
+module _ {P : State → Did → Type 0} (steps : Steps P) (e : Enters P) where
+  counted_made : (s : State) (place : Place) (part : List ℕ) → P s (nothing (counted_at s place part))
+  counted_made s Startup part = steps.does_nothing s
+  counted_made s (Attempt near) part = steps.does_nothing s
+  counted_made s (Session near) part = by (get s.sessions near) refl
+    where
+      by : (o : Option Row) → get s.sessions near ≡ o → P s (nothing (counted_by s near part o))
+      by None is = steps.does_nothing s
+      by (Some row) is = e.counts s near row _ is
+
+  timed_made : (s : State) (place : Place) (head : PacketHead) → P s (nothing (timed_at s place head))
+  timed_made s Startup head = steps.does_nothing s
+  timed_made s (Attempt near) head = steps.does_nothing s
+  timed_made s (Session near) head = by (get s.sessions near) refl
+    where
+      by : (o : Option Row) → get s.sessions near ≡ o → P s (nothing (timed_by s near head o))
+      by None is = steps.does_nothing s
+      by (Some row) is = e.counts s near row _ is
+
+  pub admission_made : (s : State) (datagram : List ℕ) → P s (nothing (left_by (admission s datagram)))
+  admission_made s datagram = by (opened_datagram s datagram)
+    where
+      packed : (t : State) (place : Place) (r : Result Whole PacketFault) → P t (nothing (left_by (admitted_packet t place r)))
+      packed t place (Err fault) = steps.does_nothing t
+      packed t place (Ok packet) = moded (has_mode packet.head (mode_at t place))
+        where
+          moded : (m : Bool) → P t (nothing (left_by (if m then Admitted (timed_at t place packet.head) place packet else Rejected t WrongPlace)))
+          moded true = timed_made t place packet.head
+          moded false = steps.does_nothing t
+
+      by : (r : Result (Place × List ℕ) Cause) → P s (nothing (left_by (admitted s datagram r)))
+      by (Err cause) = steps.does_nothing s
+      by (Ok found) =
+          let t : State = counted_at s found.0 (drop 4 datagram) in
+          steps.and_then s (nothing t) (nothing (left_by (admitted_packet t found.0 (packet_in found.1)))) (counted_made s found.0 (drop 4 datagram)) (packed t found.0 (packet_in found.1))
+
+-- ---- calls
+
+-- what is done with the datagram of a call
+pub record Given (P : State → Did → Type 0) : Type 0 where
+  pub whole : (s : State) (from : AddressParts) (draws : Draws) (datagram : List ℕ) → P s (received from draws (admission s datagram))
+  pub part : (s : State) (from : AddressParts) (draws : Draws) (datagram : List ℕ) (stop : Stop) (acks : ℕ) → P s (stopped s from draws (admission s datagram) stop acks)
+
+module _ {Body : List ℕ → Type 0} {Q P : State → Did → Type 0} (k : Timed Body Q) (calls : CallsDo Q) (b : Begins Q P) (e : Enters P) (given : Given P) where
+  answer_is : (s t : State) (entries : List Entry) (d : Did) → P s d → Does d t [] entries → WasMade P s t entries
+  answer_is s t entries d made does = record { did = d; made = made; does = does }
+
+  pub answers_by : (s t : State) (call : Call) (answer : CallAnswer) (entries : List Entry) → Answers s call answer entries t → WasMade P s t entries
+  answers_by s t (Open peer candidates draws) (Began n) entries h = answer_is s t entries _ (opening_made k.quiet b s peer candidates draws) h.2
+  answers_by s t (Open peer candidates draws) (NotOpened refusal) entries h = answer_is s t entries _ (b.steps.does_nothing s) h.1
+  answers_by s t (Cancel n) Done entries h = answer_is s t entries _ (b.quiet s _ (cancelling_made k.quiet s n)) h.1
+  answers_by s t (Cancel n) (Refused refusal) entries h = answer_is s t entries _ (b.steps.does_nothing s) h.2
+  answers_by s t (Close near) Done entries h = answer_is s t entries _ (b.quiet s _ (closing_made k.quiet s near)) h.1
+  answers_by s t (Close near) (Refused refusal) entries h = answer_is s t entries _ (b.steps.does_nothing s) h.2
+  answers_by s t (AddRow print addresses) Done entries h = answer_is s t entries _ (e.unseen s s.introduces (insert s.redirects print addresses)) h.1
+  answers_by s t (AddRow print addresses) (NotAdded refusal) entries h = answer_is s t entries _ (b.steps.does_nothing s) h.1
+  answers_by s t Introduce Done entries h = answer_is s t entries _ (e.unseen s true s.redirects) h
+  answers_by s t (OnFlows near call) Done entries h = answer_is s t entries _ (b.quiet s _ (call_made Q calls s near call h.0)) h.1
+  answers_by s t (OnFlows near call) (Refused refusal) entries h = answer_is s t entries _ (b.steps.does_nothing s) h.1
+  answers_by s t (Receive from datagram draws) Done entries h = answer_is s t entries _ (given.whole s from draws datagram) h
+  answers_by s t (Receive from datagram draws) (Stopped stop) entries h = answer_is s t entries _ (given.part s from draws datagram stop h.acks) h.left
+  answers_by s t (Tick draws) Done entries h = answer_is s t entries _ (b.quiet s _ (tick_all_made k h.0.0 s)) h.0.1
+  answers_by s t (Tick draws) OutOfMemory entries h = answer_is s t entries _ (b.quiet s _ (tick_all_made k h.0 s)) h.1
+  answers_by s t call answer entries h = absurd h
+
 module _ {Body : List ℕ → Type 0} {Q P : State → Did → Type 0} (a : All Body Q) (b : Begins Q P) where
   -- ---- the chunks of a datagram
 
@@ -490,70 +573,34 @@ module _ {Body : List ℕ → Type 0} {Q P : State → Did → Type 0} (a : All 
       let d : Did = chunk_did place from draws walk s c in
       b.steps.and_then s d _ (chunk_made place from draws walk s c small) (chunks_made place from draws (walked walk c) d.state cs (small_next walk.cursor c.kind c.payload small))
 
-  acked_after_made : (from : AddressParts) (draws : Draws) (s : State) (place : Place) (cs : List Placed) (count : ℕ) → P s (gone_through_and_acked from draws s place cs count)
+  acked_after_made : (from : AddressParts) (draws : Draws) (s : State) (place : Place) (cs : List Placed) (count : ℕ) → P s (walked_and_acked place from draws s cs count)
   acked_after_made from draws s place cs count =
+      let went : Did = chunks_did place from draws outset s cs in
+      b.steps.and_then s went (acked count went.state place) (chunks_made place from draws outset s cs tt) (b.quiet went.state _ (acked_made a.timed count went.state place))
+
+  -- once the session is confirmed, and with what comes last
+  walked_made : (from : AddressParts) (draws : Draws) (s : State) (place : Place) (cs : List Placed) (count : ℕ) (last : State → Did) → ((t : State) → P t (last t)) →
+      P s (then_do (confirming s place) (λ t. then_do (walked_and_acked place from draws t cs count) last))
+  walked_made from draws s place cs count last ends =
       let first : Did = confirming s place in
-      let went : Did = gone_through from draws s place cs in
-      b.steps.and_then s went (acked count went.state place) (b.steps.and_then s first _ (b.quiet s first (confirming_made a.timed.quiet s place)) (chunks_made place from draws outset first.state cs tt))
-      (b.quiet went.state _ (acked_made a.timed count went.state place))
+      let went : Did = walked_and_acked place from draws first.state cs count in
+      b.steps.and_then s first (then_do went last) (b.quiet s first (confirming_made a.timed.quiet s place))
+      (b.steps.and_then first.state went (last went.state) (acked_after_made from draws first.state place cs count) (ends went.state))
 
   -- ---- a datagram, and a call
 
   module _ (e : Enters P) where
-    counted_made : (s : State) (place : Place) (part : List ℕ) → P s (nothing (counted_at s place part))
-    counted_made s Startup part = b.steps.does_nothing s
-    counted_made s (Attempt near) part = b.steps.does_nothing s
-    counted_made s (Session near) part = by (get s.sessions near) refl
-      where
-        by : (o : Option Row) → get s.sessions near ≡ o → P s (nothing (counted_by s near part o))
-        by None is = b.steps.does_nothing s
-        by (Some row) is = e.counts s near row _ is
-
-    timed_made : (s : State) (place : Place) (head : PacketHead) → P s (nothing (timed_at s place head))
-    timed_made s Startup head = b.steps.does_nothing s
-    timed_made s (Attempt near) head = b.steps.does_nothing s
-    timed_made s (Session near) head = by (get s.sessions near) refl
-      where
-        by : (o : Option Row) → get s.sessions near ≡ o → P s (nothing (timed_by s near head o))
-        by None is = b.steps.does_nothing s
-        by (Some row) is = e.counts s near row _ is
-
-    -- what an admission leaves
-    abbrev left_by : Admission → State
-    left_by (Rejected s cause) = s
-    left_by (Admitted s place packet) = s
-
-    admission_made : (s : State) (datagram : List ℕ) → P s (nothing (left_by (admission s datagram)))
-    admission_made s datagram = by (opened_datagram s datagram)
-      where
-        packed : (t : State) (place : Place) (r : Result Whole PacketFault) → P t (nothing (left_by (admitted_packet t place r)))
-        packed t place (Err fault) = b.steps.does_nothing t
-        packed t place (Ok packet) = moded (has_mode packet.head (mode_at t place))
-          where
-            moded : (m : Bool) → P t (nothing (left_by (if m then Admitted (timed_at t place packet.head) place packet else Rejected t WrongPlace)))
-            moded true = timed_made t place packet.head
-            moded false = b.steps.does_nothing t
-
-        by : (r : Result (Place × List ℕ) Cause) → P s (nothing (left_by (admitted s datagram r)))
-        by (Err cause) = b.steps.does_nothing s
-        by (Ok found) =
-            let t : State = counted_at s found.0 (drop 4 datagram) in
-            b.steps.and_then s (nothing t) (nothing (left_by (admitted_packet t found.0 (packet_in found.1)))) (counted_made s found.0 (drop 4 datagram)) (packed t found.0 (packet_in found.1))
-
     received_made : (s : State) (from : AddressParts) (draws : Draws) (d : Admission) → P s (nothing (left_by d)) → P s (received from draws d)
     received_made s from draws (Rejected t cause) entered = b.steps.and_then s (nothing t) _ entered (b.quiet t _ (a.timed.quiet.discards t 0 cause))
     received_made s from draws (Admitted t place packet) entered =
-        let went : Did = gone_through_and_acked from draws t place (chunks_of packet) most_acks in
         b.steps.and_then s (nothing t) (received from draws (Admitted t place packet)) entered
-        (b.steps.and_then t went (tested_at went.state place from draws) (acked_after_made from draws t place (chunks_of packet) most_acks)
-        (b.quiet went.state _ (tested_made a.timed.quiet went.state place from draws (a.bodies (chunk_bytes (Ping draws.token))))))
+        (walked_made from draws t place (chunks_of packet) most_acks (λ u. tested_at u place from draws) (λ u. b.quiet u _ (tested_made a.timed.quiet u place from draws (a.bodies (chunk_bytes (Ping draws.token))))))
 
     part_made : (s : State) (from : AddressParts) (draws : Draws) (d : Admission) (count acks : ℕ) → P s (nothing (left_by d)) → P s (part_received from draws d count acks)
     part_made s from draws (Rejected t cause) count acks entered = entered
     part_made s from draws (Admitted t place packet) count acks entered =
-        let went : Did = gone_through_and_acked from draws t place (take count (chunks_of packet)) acks in
         b.steps.and_then s (nothing t) (part_received from draws (Admitted t place packet) count acks) entered
-        (b.steps.and_then t went (nothing (unowed went.state place)) (acked_after_made from draws t place (take count (chunks_of packet)) acks) (b.quiet went.state _ (unowed_made a.timed went.state place)))
+        (walked_made from draws t place (take count (chunks_of packet)) acks (λ u. nothing (unowed u place)) (λ u. b.quiet u _ (unowed_made a.timed u place)))
 
     stopped_made : (s : State) (from : AddressParts) (draws : Draws) (d : Admission) (stop : Stop) (acks : ℕ) → P s (nothing (left_by d)) → P s (stopped s from draws d stop acks)
     stopped_made s from draws d stop acks entered = by stop.taken
@@ -562,23 +609,11 @@ module _ {Body : List ℕ → Type 0} {Q P : State → Did → Type 0} (a : All 
         by true = part_made s from draws d stop.chunks acks entered
         by false = b.steps.does_nothing s
 
-    answer_is : (s t : State) (entries : List Entry) (d : Did) → P s d → Does d t [] entries → WasMade P s t entries
-    answer_is s t entries d made does = record { did = d; made = made; does = does }
+    given_made : Given P
+    given_made = record {
+      whole = λ s from draws datagram. received_made s from draws (admission s datagram) (admission_made b.steps e s datagram);
+      part = λ s from draws datagram stop acks. stopped_made s from draws (admission s datagram) stop acks (admission_made b.steps e s datagram);
+    }
 
     pub answers_made : (s t : State) (call : Call) (answer : CallAnswer) (entries : List Entry) → Answers s call answer entries t → WasMade P s t entries
-    answers_made s t (Open peer candidates draws) (Began n) entries h = answer_is s t entries _ (opening_made a.timed.quiet b s peer candidates draws) h.2
-    answers_made s t (Open peer candidates draws) (NotOpened refusal) entries h = answer_is s t entries _ (b.steps.does_nothing s) h.1
-    answers_made s t (Cancel n) Done entries h = answer_is s t entries _ (b.quiet s _ (cancelling_made a.timed.quiet s n)) h.1
-    answers_made s t (Cancel n) (Refused refusal) entries h = answer_is s t entries _ (b.steps.does_nothing s) h.2
-    answers_made s t (Close near) Done entries h = answer_is s t entries _ (b.quiet s _ (closing_made a.timed.quiet s near)) h.1
-    answers_made s t (Close near) (Refused refusal) entries h = answer_is s t entries _ (b.steps.does_nothing s) h.2
-    answers_made s t (AddRow print addresses) Done entries h = answer_is s t entries _ (e.unseen s s.introduces (insert s.redirects print addresses)) h.1
-    answers_made s t (AddRow print addresses) (NotAdded refusal) entries h = answer_is s t entries _ (b.steps.does_nothing s) h.1
-    answers_made s t Introduce Done entries h = answer_is s t entries _ (e.unseen s true s.redirects) h
-    answers_made s t (OnFlows near call) Done entries h = answer_is s t entries _ (b.quiet s _ (called_made a s near call h.0)) h.1
-    answers_made s t (OnFlows near call) (Refused refusal) entries h = answer_is s t entries _ (b.steps.does_nothing s) h.1
-    answers_made s t (Receive from datagram draws) Done entries h = answer_is s t entries _ (received_made s from draws (admission s datagram) (admission_made s datagram)) h
-    answers_made s t (Receive from datagram draws) (Stopped stop) entries h = answer_is s t entries _ (stopped_made s from draws (admission s datagram) stop h.acks (admission_made s datagram)) h.left
-    answers_made s t (Tick draws) Done entries h = answer_is s t entries _ (b.quiet s _ (tick_all_made a.timed h.0.0 s)) h.0.1
-    answers_made s t (Tick draws) OutOfMemory entries h = answer_is s t entries _ (b.quiet s _ (tick_all_made a.timed h.0 s)) h.1
-    answers_made s t call answer entries h = absurd h
+    answers_made s t call answer entries h = answers_by a.timed a.calls b e given_made s t call answer entries h

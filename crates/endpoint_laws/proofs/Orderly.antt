@@ -16,7 +16,7 @@ use Rattle.endpoint_model.specs.Event.{Setup, Call, Receive}
 use Rattle.endpoint_model.specs.Keying.{IsAmong, IsFirst, chunks_of}
 use Rattle.endpoint_model.specs.State.{State, Did, nothing, then_do}
 use Rattle.endpoint_model.specs.Admission.{Admission, Rejected, Admitted, confirming}
-use Rattle.endpoint_model.specs.Effects.{tick_once, ticks, discarded, chunk_did, walked, chunks_did, gone_through, most_acks, gone_through_and_acked, received, part_received, outset}
+use Rattle.endpoint_model.specs.Effects.{tick_once, ticks, discarded, chunk_did, walked, chunks_did, most_acks, walked_and_acked, received, part_received, outset}
 use Rattle.endpoint_model.specs.InSessions.{tested as tested_at}
 use Rattle.endpoint_model.specs.FlowChunks.{acked_by, owes_by, acked, unowed_by, unowed}
 use Rattle.endpoint_model.specs.FlowTimes.{late_marked, late_at, all_late}
@@ -235,48 +235,51 @@ module _ (setup : Setup) (is : IsSetup setup) (from : AddressParts) (datagram : 
   abbrev this : Call
   this = Receive from datagram draws
 
-  -- what it leaves before its chunks, and then these, which are the first of them
-  first_orderly : (t : State) (place : Place) (packet : Whole) (cs rest : List Placed) → chunks_of packet ≡ cs ++ rest → IsTaken setup past s datagram t place packet → HeardWell past t → PassedAt past place datagram packet t →
-      Orderly setup this past t (gone_through from draws t place cs)
-  first_orderly t place packet cs rest whole taken well passed =
-      let d : Did = confirming t place in
-      let one : Orderly setup this past t d = record {
-        goes = goes_confirming setup from datagram draws t place taken.leaves.heard past taken.leaves.tied;
-        meets = meets_confirming setup t.moment this past t place taken.leaves.sent;
-        heard = heard_follows t d (confirming_made follows_quiet t place) past well;
-      } in
-      orderly_then setup this past t d (λ u. chunks_did place from draws outset u cs) one
-      (chunks_orderly setup is from datagram draws fits packet place taken.came outset [] cs rest d.state (onto t.moment d.entries past) (record { whole = whole; keyed = λ e c none kind. none; small = tt }) one.goes.tied one.meets.sent one.heard.well
-      (passed_in place datagram packet past t passed))
+  confirming_orderly : (t : State) (place : Place) (packet : Whole) → IsTaken setup past s datagram t place packet → HeardWell past t → Orderly setup this past t (confirming t place)
+  confirming_orderly t place packet taken well = record {
+    goes = goes_confirming setup from datagram draws t place taken.leaves.heard past taken.leaves.tied;
+    meets = meets_confirming setup t.moment this past t place taken.leaves.sent;
+    heard = heard_follows t (confirming t place) (confirming_made follows_quiet t place) past well;
+  }
 
-  -- and then so many packets of acks
-  acked_after_orderly : (t : State) (place : Place) (packet : Whole) (cs rest : List Placed) (count : ℕ) → chunks_of packet ≡ cs ++ rest → IsTaken setup past s datagram t place packet → HeardWell past t → PassedAt past place datagram packet t →
-      Orderly setup this past t (gone_through_and_acked from draws t place cs count)
-  acked_after_orderly t place packet cs rest count whole taken well passed =
-      let d : Did = gone_through from draws t place cs in
-      let one : Orderly setup this past t d = first_orderly t place packet cs rest whole taken well passed in
-      orderly_then setup this past t d (λ u. acked count u place) one (acked_orderly setup this count d.state place (onto t.moment d.entries past) one.goes.tied one.meets.sent one.heard.well)
+  -- these chunks, which are the first of the packet, and then so many packets of acks
+  acked_after_orderly : (t : State) (place : Place) (packet : Whole) (cs rest : List Placed) (count : ℕ) (now : Past) → chunks_of packet ≡ cs ++ rest → Came setup datagram place packet →
+      Tied setup now t → Sent setup now t → HeardWell now t → PassedAt now place datagram packet t → Orderly setup this now t (walked_and_acked place from draws t cs count)
+  acked_after_orderly t place packet cs rest count now whole came tied sent well passed =
+      let d : Did = chunks_did place from draws outset t cs in
+      let one : Orderly setup this now t d = chunks_orderly setup is from datagram draws fits packet place came outset [] cs rest t now (record { whole = whole; keyed = λ e c none kind. none; small = tt }) tied sent well passed in
+      orderly_then setup this now t d (λ u. acked count u place) one (acked_orderly setup this count d.state place (onto t.moment d.entries now) one.goes.tied one.meets.sent one.heard.well)
 
-  -- and then the test of its address
+  -- the session is confirmed, then come these, and then something that needs nothing of them
+  walked_orderly : (t : State) (place : Place) (packet : Whole) (cs rest : List Placed) (count : ℕ) (last : State → Did) → chunks_of packet ≡ cs ++ rest → ((u : State) → KeepsOrderly setup this u (last u)) →
+      IsTaken setup past s datagram t place packet → HeardWell past t → PassedAt past place datagram packet t →
+      Orderly setup this past t (then_do (confirming t place) (λ u. then_do (walked_and_acked place from draws u cs count) last))
+  walked_orderly t place packet cs rest count last whole ends taken well passed =
+      let first : Did = confirming t place in
+      let d : Did = walked_and_acked place from draws first.state cs count in
+      let one : Orderly setup this past t first = confirming_orderly t place packet taken well in
+      let now : Past = onto t.moment first.entries past in
+      let two : Orderly setup this now first.state d = acked_after_orderly first.state place packet cs rest count now whole taken.came one.goes.tied one.meets.sent one.heard.well (passed_in place datagram packet past t passed) in
+      orderly_then setup this past t first (λ u. then_do (walked_and_acked place from draws u cs count) last) one
+      (orderly_then setup this now first.state d last two (ends d.state (onto first.state.moment d.entries now) two.goes.tied two.meets.sent two.heard.well))
+
+  -- the test of its address
+  tested_orderly : (place : Place) (u : State) → KeepsOrderly setup this u (tested_at u place from draws)
+  tested_orderly place u now tied sent well = record {
+    goes = goes_tested setup this u from draws place now tied;
+    meets = meets_tested setup this now u sent tied from draws fits.3 place;
+    heard = heard_follows u (tested_at u place from draws) (tested_made follows_quiet u place from draws tt) now well;
+  }
+
   whole_orderly : (t : State) (place : Place) (packet : Whole) → IsTaken setup past s datagram t place packet → HeardWell past t → PassedAt past place datagram packet t →
       Orderly setup this past t (received from draws (Admitted t place packet))
-  whole_orderly t place packet taken well passed =
-      let d : Did = gone_through_and_acked from draws t place (chunks_of packet) most_acks in
-      let one : Orderly setup this past t d = acked_after_orderly t place packet (chunks_of packet) [] most_acks (sym (append-nil (chunks_of packet))) taken well passed in
-      let middle : Past = onto t.moment d.entries past in
-      orderly_then setup this past t d (λ u. tested_at u place from draws) one (record {
-        goes = goes_tested setup this d.state from draws place middle one.goes.tied;
-        meets = meets_tested setup this middle d.state one.meets.sent one.goes.tied from draws fits.3 place;
-        heard = heard_follows d.state (tested_at d.state place from draws) (tested_made follows_quiet d.state place from draws tt) middle one.heard.well;
-      })
+  whole_orderly t place packet = walked_orderly t place packet (chunks_of packet) [] most_acks (λ u. tested_at u place from draws) (sym (append-nil (chunks_of packet))) (tested_orderly place)
 
   -- or the acks that are owed yet are given up
-  given_up_orderly : (t : State) (place : Place) (packet : Whole) (cs rest : List Placed) (count : ℕ) → chunks_of packet ≡ cs ++ rest → IsTaken setup past s datagram t place packet → HeardWell past t → PassedAt past place datagram packet t →
-      Orderly setup this past t (then_do (gone_through_and_acked from draws t place cs count) (λ u. nothing (unowed u place)))
-  given_up_orderly t place packet cs rest count whole taken well passed =
-      let d : Did = gone_through_and_acked from draws t place cs count in
-      let one : Orderly setup this past t d = acked_after_orderly t place packet cs rest count whole taken well passed in
-      orderly_then setup this past t d (λ u. nothing (unowed u place)) one (unowed_orderly setup this d.state place (onto t.moment d.entries past) one.goes.tied one.meets.sent one.heard.well)
+  given_up_orderly : (t : State) (place : Place) (packet : Whole) (count acks : ℕ) → IsTaken setup past s datagram t place packet → HeardWell past t → PassedAt past place datagram packet t →
+      Orderly setup this past t (part_received from draws (Admitted t place packet) count acks)
+  given_up_orderly t place packet count acks =
+      walked_orderly t place packet (take count (chunks_of packet)) (drop count (chunks_of packet)) acks (λ u. nothing (unowed u place)) (sym (take-append-drop count (chunks_of packet))) (λ u. unowed_orderly setup this u place)
 
   rejected_orderly : (t : State) (cause : Cause) → IsRejected setup past s t → HeardWell past t → Orderly setup this past t (discarded t 0 cause)
   rejected_orderly t cause so well = record { goes = goes_discarded setup this t 0 cause past so.tied; meets = meets_discarded setup t.moment this past t 0 cause so.sent; heard = heard_follows t (discarded t 0 cause) (follows_quiet.discards t 0 cause) past well }
@@ -288,8 +291,7 @@ module _ (setup : Setup) (is : IsSetup setup) (from : AddressParts) (datagram : 
   part_orderly : (count acks : ℕ) (a : Admission) → AdmissionIs setup past s datagram a → AdmissionHeard past s.moment datagram a → Orderly setup this past s (part_received from draws a count acks)
   part_orderly count acks (Rejected t cause) so heard = orderly_from setup this past s t (nothing t) so.same (orderly_nothing setup this past t so.tied so.sent heard.well)
   part_orderly count acks (Admitted t place packet) so heard =
-      orderly_from setup this past s t (part_received from draws (Admitted t place packet) count acks) so.leaves.same
-      (given_up_orderly t place packet (take count (chunks_of packet)) (drop count (chunks_of packet)) acks (sym (take-append-drop count (chunks_of packet))) so heard.0.well heard.1)
+      orderly_from setup this past s t (part_received from draws (Admitted t place packet) count acks) so.leaves.same (given_up_orderly t place packet count acks so heard.0.well heard.1)
 
   pub stopped_orderly : (stop : Stop) (acks : ℕ) (a : Admission) → Tied setup past s → Sent setup past s → AdmissionIs setup past s datagram a → StopHeard datagram past s stop.taken a → Orderly setup this past s (stopped s from draws a stop acks)
   stopped_orderly stop acks a tied sent so heard = by stop.taken heard

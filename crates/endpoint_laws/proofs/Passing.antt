@@ -6,8 +6,8 @@ use Rattle.endpoint_model.specs.declared.row.Row.{Row}
 use Rattle.endpoint_model.specs.declared.place.Place.{Place}
 use Rattle.endpoint_model.specs.declared.place.Place.TheVariants.{Startup, Attempt, Session}
 use Rattle.endpoint_model.specs.State.{State, Did}
-use Rattle.endpoint_laws.specs.Past.{Past, onto}
-use Rattle.endpoint_laws.specs.Taken.{Taken, taken_since, PassesIn}
+use Rattle.endpoint_laws.specs.Past.{Past, onto, Taken, taken_since}
+use Rattle.endpoint_laws.specs.Taken.{PassesIn}
 use Rattle.endpoint_laws.proofs.Hearing.{Lasting, lasting, inward_of, mode_in, Follows, since_onto}
 
 -- The datagram is the last one that was given since the session began, and passes in it.

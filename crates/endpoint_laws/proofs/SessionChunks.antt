@@ -40,10 +40,10 @@ use Rattle.endpoint_model.specs.Causes.{row_takes}
 use Rattle.endpoint_model.specs.InSessions.{ended_as, closed as closed_entry, if_held, held_row, closing_by, closing, lingering, close_taken_by, moved_where, moved_by, told_in_session, test_begun, tested_by, tested, session_due_done, kept_alive_by}
 use Rattle.endpoint_model.specs.Sending.{sent_in_session}
 use Rattle.endpoint_model.proofs.Members.{tested as tested_number}
-use Rattle.endpoint_laws.specs.Past.{Past}
+use Rattle.endpoint_laws.specs.Past.{Past, Taken, taken_since}
 use Rattle.endpoint_laws.specs.Contexts.{inward, ReadsUnder}
 use Rattle.endpoint_laws.specs.OfTheLog.{WasThing}
-use Rattle.endpoint_laws.specs.Taken.{Taken, taken_since, count_in, IsNewAfter, PassesIn, TookIn, TookAt, Passes, inward_mode, TakesChunkOf}
+use Rattle.endpoint_laws.specs.Taken.{count_in, IsNewAfter, PassesIn, TookIn, TookAt, Passes, inward_mode, TakesChunkOf}
 use Rattle.endpoint_laws.specs.Lawful.{IsTick, FarLine, BeganWith, IsIdle}
 use Rattle.endpoint_laws.proofs.Tied.{Tied, StageFits, thing_of}
 use Rattle.endpoint_laws.proofs.Moving.{IsAlike, alike_itself}

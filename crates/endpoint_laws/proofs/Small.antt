@@ -81,6 +81,11 @@ MayBe row (Called call) = flow_refusal row.flows call ≡ None
 MayBe row (Came chunk) = FitsIn chunk × (flows_cause row.session row.flows chunk ≡ None)
 MayBe row thing = Unit {0}
 
+-- all of them but a chunk that came
+abbrev pub IsNoChunk : FlowThing → Type 0
+IsNoChunk (Came chunk) = ⊥
+IsNoChunk thing = Unit {0}
+
 abbrev pub on_flows : State → ℕ → Row → FlowThing → Did
 on_flows s near row thing = record { state = with_row s near (row_after s.moment row thing); entries = map (flow_entry near) (stated_of row thing) }
 

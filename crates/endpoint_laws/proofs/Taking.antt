@@ -11,9 +11,9 @@ use Rattle.endpoint_model.specs.declared.place.Place.TheVariants.{Session}
 use Rattle.endpoint_model.specs.State.{State}
 use Rattle.endpoint_model.specs.Admission.{confirming}
 use Rattle.endpoint_model.specs.Effects.{chunk_did}
-use Rattle.endpoint_laws.specs.Past.{Past, onto}
+use Rattle.endpoint_laws.specs.Past.{Past, onto, Taken}
 use Rattle.endpoint_laws.specs.Contexts.{OpensUnder}
-use Rattle.endpoint_laws.specs.Taken.{Taken, count_in, IsNewAfter, PassesIn}
+use Rattle.endpoint_laws.specs.Taken.{count_in, IsNewAfter, PassesIn}
 use Rattle.endpoint_laws.proofs.Numbers.{room_after, refused_after, err_not_ok}
 use Rattle.endpoint_laws.proofs.Hearing.{Lasting, inward_of, mode_in, Counts}
 use Rattle.rtmfp_data_chunks.specs.Fitting.{AreSmall}

@@ -1,5 +1,5 @@
 -- What keyings give that nothing refuses.
-use Rattle.std.specs.Prelude.{ℕ, ◌≡◌, ◌≢◌, ◌+◌, ◌-◌, ◌^◌, ◌<◌, true, List, [], ◌∷◌, ◌++◌, take, Option, Some, None, Ok}
+use Rattle.std.specs.Prelude.{ℕ, ◌≡◌, ◌≢◌, ◌+◌, ◌-◌, ◌^◌, ◌<◌, true, List, [], ◌∷◌, ◌++◌, take, Some, None, Ok}
 use Rattle.std.specs.FinMap.{get}
 use Rattle.crypto_profile.specs.declared.keys.Context.{Context}
 use Rattle.crypto_profile.specs.declared.keys.Context.TheVariants.{Startup}
@@ -22,9 +22,9 @@ use Rattle.endpoint_model.specs.declared.config.Draws.{Draws}
 use Rattle.endpoint_model.specs.declared.place.Place.TheVariants.{Attempt}
 use Rattle.endpoint_model.specs.declared.entry.Entry.{Entry}
 use Rattle.endpoint_model.specs.declared.entry.Entry.TheVariants.{Fact as FactEntry, Out}
-use Rattle.endpoint_model.specs.Views.{Sending, out_in}
+use Rattle.endpoint_model.specs.Views.{out_in}
 use Rattle.endpoint_model.specs.Event.{Setup, own_of, Receive, Answer, Began, Done, NotOpened, Refused, NotAdded, Stopped, OutOfMemory, Event, moment_at}
-use Rattle.endpoint_laws.specs.Past.{Past, facts_of, past_of, last_moment, out_done}
+use Rattle.endpoint_laws.specs.Past.{facts_of, last_moment, past_of_log, out_count, outs_of}
 use Rattle.endpoint_laws.specs.Contexts.{session_context}
 use Rattle.endpoint_model.specs.Keying.{IsFirst, chunks_of}
 use Rattle.endpoint_laws.specs.Admissible.{Admissible, Offer}
@@ -91,19 +91,10 @@ WentThrough (NotAdded refusal) chunks gone = ⊥
 WentThrough (Stopped stop) chunks gone = (stop.taken ≡ true) × (gone ≡ take stop.chunks chunks)
 WentThrough OutOfMemory chunks gone = ⊥
 
--- one for a datagram that goes out
-abbrev pub out_count : Option Sending → ℕ
-out_count None = 0
-out_count (Some sent) = 1
-
--- how many datagrams went out, among entries and in what was done
+-- how many datagrams went out, among entries
 abbrev pub outs_in : List Entry → ℕ
 outs_in [] = 0
 outs_in (entry ∷ rest) = out_count (out_in entry) + outs_in rest
-
-abbrev pub outs_of : Past → ℕ
-outs_of [] = 0
-outs_of (s ∷ earlier) = out_count (out_done s.what) + outs_of earlier
 
 -- Where the end with this log takes a datagram whose first initiator's keying is admissible by what
 -- the log says, and goes through this keying, the session of its offer is born and told in that
@@ -115,12 +106,12 @@ AdmissibleKeyingsBear = (setup : Setup) (log : List Event) (s t : State) (moment
     (entries : List Entry) (offer : Offer) (gone : List Placed)
     → IsSetup setup → AreCalls log → StandsFor setup log s → IsCall (Receive from datagram draws)
     → Step s (taken_event moment from datagram draws answer entries) t
-    → (a : Admissible setup (past_of 0 [] log)
+    → (a : Admissible setup (past_of_log log)
     (moment_at (last_moment 0 log) (taken_event moment from datagram draws answer entries)) from
     datagram offer)
     → WentThrough answer (chunks_of a.packet) gone → IsFirst a.chunk gone
-    → offer.peer ≢ own_of setup → outs_of (past_of 0 [] log) + outs_in entries < 2 ^ 64 - 1
-    → (j : Joined) × IsOfOffer offer draws.nonce (facts_of (past_of 0 [] log)) j ×
+    → offer.peer ≢ own_of setup → outs_of (past_of_log log) + outs_in entries < 2 ^ 64 - 1
+    → (j : Joined) × IsOfOffer offer draws.nonce (facts_of (past_of_log log)) j ×
     IsBornAndTold setup from j entries
 
 -- ---- responders' keyings

@@ -7,7 +7,7 @@ use Rattle.glare_core.specs.Told.{AllDifferent}
 use Rattle.endpoint_model.specs.declared.entry.Entry.{Entry}
 use Rattle.endpoint_model.specs.Views.{Sending, out_in}
 use Rattle.endpoint_model.specs.Event.{Setup, own_of, Call, ReceiveCall, receive_in, Event}
-use Rattle.endpoint_laws.specs.Past.{Past, facts_of, past_of}
+use Rattle.endpoint_laws.specs.Past.{Past, facts_of, past_of_log}
 use Rattle.endpoint_laws.specs.Contexts.{ContextOf, OpensUnder}
 use Rattle.endpoint_laws.specs.Lawful.{IsLawful, nonces_of}
 
@@ -28,7 +28,7 @@ log_of who (h ∷ earlier) = if h.who == who then log_of who earlier ++ h.event 
 
 -- what an end did, and the facts that it stated, the newest first
 abbrev pub past_at : ℕ → History → Past
-past_at who history = past_of 0 [] (log_of who history)
+past_at who history = past_of_log (log_of who history)
 
 abbrev pub facts_at : ℕ → History → List Fact
 facts_at who history = facts_of (past_at who history)
@@ -76,7 +76,7 @@ IsHonest ends (h ∷ earlier) = IsHonestCall (ends h.who) (past_at h.who earlier
 -- the nonces of all attempts and of all sessions that were born, at whatever end
 abbrev pub nonces_in : History → List (List ℕ)
 nonces_in [] = []
-nonces_in (h ∷ earlier) = nonces_of (facts_of (past_of 0 [] (h.event ∷ []))) ++ nonces_in earlier
+nonces_in (h ∷ earlier) = nonces_of (facts_of (past_of_log (h.event ∷ []))) ++ nonces_in earlier
 
 -- An event of this end is in the history.
 abbrev pub TakesPart : ℕ → History → Type 0

@@ -20,13 +20,12 @@ use Rattle.glare_core.specs.Standing.{held, count}
 use Rattle.glare_core.specs.Stands.{Stands, IsBornOf, IsForBorn}
 use Rattle.glare_core.specs.Told.{AllDifferent}
 use Rattle.endpoint_model.specs.declared.entry.Entry.{Entry}
-use Rattle.endpoint_model.specs.declared.entry.Entry.TheVariants.{Fact as FactEntry}
 use Rattle.endpoint_model.specs.Views.{Sending, fact_in, out_in, closed_in}
 use Rattle.endpoint_model.specs.declared.config.Draws.{Draws}
 use Rattle.endpoint_model.specs.Event.{Setup, own_of, Call, OpenCall, ReceiveCall, open_in, cancel_in, close_in, receive_in, tick_in, Event, moment_at}
-use Rattle.endpoint_laws.specs.Past.{Past, begun, stamped, with_event, out_done, facts_of, is_in_use, IsClosing, WasDone}
+use Rattle.endpoint_laws.specs.Past.{Past, with_event, facts_of, is_in_use, IsClosing, taken_since, nothing_done, with_begun, with_entry, with_fact, WasStated, WentOut}
 use Rattle.endpoint_laws.specs.Contexts.{ReadsUnder, StandsUnder, inward, outward, OpensUnder}
-use Rattle.endpoint_laws.specs.Taken.{taken_since, TookAt, TakesChunkIn}
+use Rattle.endpoint_laws.specs.Taken.{TookAt, TakesChunkIn}
 use Rattle.endpoint_model.specs.Keying.{IsSigned, IsAmong, KeyingsAre, chunks_of, initiator_part, responder_part}
 use Rattle.endpoint_laws.specs.Admissible.{Admissible, Offer}
 
@@ -117,7 +116,7 @@ pub record StartedLine (call : Call) (past : Past) (peer : List ℕ) (near : ℕ
 -- there is one.
 abbrev pub WayMade : ℕ → Past → Past → List ℕ → Type 0
 WayMade now past before peer = (past ≡ before) ⊎ ((near : ℕ) × (why : Why) × IsForBorn why ×
-    (past ≡ stamped now (FactEntry (Ended peer near why)) ∷ before))
+    (past ≡ with_fact now (Ended peer near why) before))
 
 pub record BornLine (setup : Setup) (now : ℕ) (call : Call) (past : Past) (j : Joined)
     : Type 0 where
@@ -143,7 +142,7 @@ pub record IsOverdue (now : ℕ) (past : Past) (peer : List ℕ) (near : ℕ) : 
   pub ni : List ℕ
   pub is_held : held peer (facts_of past) ≡ Some (Opening n near ni)
   pub start : ℕ
-  pub started : WasDone (stamped start (FactEntry (Started peer n near ni))) past
+  pub started : WasStated start (Started peer n near ni) past
   pub over : start + lifetime ≤ now
 
 pub record CancelledLine (call : Call) (facts : List Fact) (peer : List ℕ) : Type 0 where
@@ -168,7 +167,7 @@ pub record IsUnconfirmed (now : ℕ) (past : Past) (peer : List ℕ) : Type 0 wh
   pub j : Joined
   pub is_held : held peer (facts_of past) ≡ Some (HalfOpen j)
   pub birth : ℕ
-  pub born : WasDone (stamped birth (FactEntry (Born j))) past
+  pub born : WasStated birth (Born j) past
   pub over : birth + 20000 ≤ now
 
 -- The session is held, and the call takes a datagram in it that has a close.
@@ -193,7 +192,7 @@ pub record IsIdle (setup : Setup) (now : ℕ) (past : Past) (peer : List ℕ) (n
   pub first : ℕ
   pub fact : Fact
   pub began_with : BeganWith thing fact
-  pub began : WasDone (stamped first (FactEntry fact)) past
+  pub began : WasStated first fact past
   pub old : first + 120000 ≤ now
   pub quiet : (moment : ℕ) → TookAt setup thing near moment (taken_since near past) →
       moment + 120000 ≤ now
@@ -237,9 +236,7 @@ IsNumbered context number (Some sent) = (sent.context ≡ context) ×
 
 -- An earlier datagram went out in this context with this number.
 abbrev pub WasNumbered : Context → List ℕ → Past → Type 0
-WasNumbered context number [] = ⊥
-WasNumbered context number (s ∷ earlier) = IsNumbered context number (out_done s.what) ⊎
-    WasNumbered context number earlier
+WasNumbered context number past = WentOut (IsNumbered context number) past
 
 -- the nonces of the attempts that were started, and of the sessions that were born
 abbrev pub nonces_of : List Fact → List (List ℕ)
@@ -346,14 +343,14 @@ Line setup now call past rest entry =
 abbrev pub EntriesLawful : Setup → ℕ → Call → Past → List Entry → Type 0
 EntriesLawful setup now call past [] = Unit {0}
 EntriesLawful setup now call past (entry ∷ rest) = Line setup now call past rest entry ×
-    EntriesLawful setup now call (stamped now entry ∷ past) rest
+    EntriesLawful setup now call (with_entry now entry past) rest
 
 -- the events of a log, the oldest first, after what was done before
 abbrev pub LawfulFrom : Setup → ℕ → Past → List Event → Type 0
 LawfulFrom setup last past [] = Unit {0}
 LawfulFrom setup last past (e ∷ events) =
-    EntriesLawful setup (moment_at last e) e.call (begun (moment_at last e) e ∷ past) e.entries ×
+    EntriesLawful setup (moment_at last e) e.call (with_begun (moment_at last e) e past) e.entries ×
     LawfulFrom setup (moment_at last e) (with_event (moment_at last e) e past) events
 
 abbrev pub IsLawful : Setup → List Event → Type 0
-IsLawful setup log = LawfulFrom setup 0 [] log
+IsLawful setup log = LawfulFrom setup 0 nothing_done log

@@ -4,7 +4,7 @@ use Rattle.identity.specs.Certificates.{IsCertificate}
 use Rattle.glare_core.specs.Account.{StandsFor as AccountStandsFor}
 use Rattle.glare_core.specs.Ledger.{row_count}
 use Rattle.endpoint_model.specs.Event.{Setup, Call, Open, Receive, Event}
-use Rattle.endpoint_laws.specs.Past.{facts_of, past_of}
+use Rattle.endpoint_laws.specs.Past.{facts_of, past_of_log}
 use Rattle.endpoint_model.specs.State.{State, uses}
 use Rattle.endpoint_model.specs.Log.{StandsFor}
 use Rattle.endpoint_laws.specs.Lawful.{IsLawful}
@@ -41,7 +41,7 @@ EveryLogIsLawful = (setup : Setup) (log : List Event) (s : State) → IsSetup se
 abbrev pub TheLedgerIsOfTheLog : Type 0
 TheLedgerIsOfTheLog = (setup : Setup) (log : List Event) (s : State) → IsSetup setup →
     AreCalls log → StandsFor setup log s
-    → AccountStandsFor 0 s.startup.ledger (facts_of (past_of 0 [] log))
+    → AccountStandsFor 0 s.startup.ledger (facts_of (past_of_log log))
 
 -- There are never more attempts and sessions than may be.
 abbrev pub UsesAreWithin : Type 0

@@ -1,5 +1,5 @@
 -- What an end keeps is what its log says.
-use Rattle.std.specs.Prelude.{ℕ, ◌≡◌, ◌⊎◌, List, [], length, Some}
+use Rattle.std.specs.Prelude.{ℕ, ◌≡◌, ◌⊎◌, List, length, Some}
 use Rattle.std.specs.List.{list_any}
 use Rattle.std.specs.Str.{bytes_eq}
 use Rattle.std.specs.FinMap.{get}
@@ -17,9 +17,8 @@ use Rattle.session_core.specs.declared.stage.Stage.{Stage}
 use Rattle.session_core.specs.declared.stage.Stage.TheVariants.{Opening, Open, NearClose, FarLinger, Closed}
 use Rattle.session_core.specs.Session.{SessionState}
 use Rattle.endpoint_model.specs.declared.row.Row.{Row}
-use Rattle.endpoint_model.specs.declared.entry.Entry.TheVariants.{Fact as FactEntry}
 use Rattle.endpoint_model.specs.Event.{Setup, own_of, Event}
-use Rattle.endpoint_laws.specs.Past.{Past, stamped, facts_of, ids_in_use, is_in_use, IsClosing, WasDone, past_of, last_moment}
+use Rattle.endpoint_laws.specs.Past.{Past, facts_of, ids_in_use, is_in_use, IsClosing, last_moment, past_of_log, WasStated}
 use Rattle.endpoint_model.specs.State.{State, uses, is_used}
 use Rattle.endpoint_model.specs.Log.{StandsFor}
 use Rattle.endpoint_laws.specs.Laws.{IsSetup, AreCalls}
@@ -42,7 +41,7 @@ IsThing Responder Closed j thing = ⊥
 -- The attempt under this session ID is held with its peer, and was started at its moment.
 pub record AttemptIsHeld (past : Past) (near : ℕ) (a : AttemptState) : Type 0 where
   pub is_held : held a.peer (facts_of past) ≡ Some (AttemptHeld a.n near a.ni)
-  pub started : WasDone (stamped a.start (FactEntry (Started a.peer a.n near a.ni))) past
+  pub started : WasStated a.start (Started a.peer a.n near a.ni) past
 
 -- An attempt that is held is there under its session ID.
 pub record AttemptIsThere (s : State) (peer : List ℕ) (n near : ℕ) (ni : List ℕ) : Type 0 where
@@ -124,4 +123,4 @@ pub record IsOfTheLog (setup : Setup) (s : State) (now : ℕ) (past : Past) : Ty
 abbrev pub TheStateIsOfTheLog : Type 0
 TheStateIsOfTheLog = (setup : Setup) (log : List Event) (s : State) → IsSetup setup → AreCalls log →
     StandsFor setup log s
-    → IsOfTheLog setup s (last_moment 0 log) (past_of 0 [] log)
+    → IsOfTheLog setup s (last_moment 0 log) (past_of_log log)

@@ -1,5 +1,5 @@
 -- The context in which a datagram opens at an end.
-use Rattle.std.specs.Prelude.{ℕ, ◌≡◌, nat_lt, false, if◌then◌else◌, List, [], length, drop, Option, Some, None}
+use Rattle.std.specs.Prelude.{ℕ, ◌≡◌, nat_lt, false, if◌then◌else◌, List, length, drop, Option, Some, None}
 use Rattle.std.specs.FinMap.{get}
 use Rattle.crypto_profile.specs.declared.keys.Context.{Context}
 use Rattle.crypto_profile.specs.declared.keys.Context.TheVariants.{Startup as StartupContext}
@@ -12,7 +12,7 @@ use Rattle.endpoint_model.specs.declared.row.Row.{Row}
 use Rattle.endpoint_model.specs.declared.place.Place.{Place}
 use Rattle.endpoint_model.specs.declared.place.Place.TheVariants.{Startup, Attempt, Session}
 use Rattle.endpoint_model.specs.Event.{Setup, Event, own_of}
-use Rattle.endpoint_laws.specs.Past.{Past, past_of}
+use Rattle.endpoint_laws.specs.Past.{Past, past_of_log}
 use Rattle.endpoint_laws.specs.Contexts.{ContextOf, OpensUnder}
 use Rattle.endpoint_model.specs.State.{State}
 use Rattle.endpoint_model.specs.Admission.{place_of, startup_keys}
@@ -66,8 +66,8 @@ pub record OpensAt (setup : Setup) (past : Past) (datagram : List ℕ) (context 
 pub record IsContextAt (setup : Setup) (log : List Event) (datagram : List ℕ)
     (answer : Option Context) : Type 0 where
   pub opens : (context : Context) → answer ≡ Some context →
-      OpensAt setup (past_of 0 [] log) datagram context
-  pub all : (context : Context) → OpensAt setup (past_of 0 [] log) datagram context →
+      OpensAt setup (past_of_log log) datagram context
+  pub all : (context : Context) → OpensAt setup (past_of_log log) datagram context →
       answer ≡ Some context
 
 -- It is so for every log that the end stands for.

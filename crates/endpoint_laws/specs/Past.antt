@@ -1,6 +1,7 @@
 -- What an end did so far: the events that began and the entries that were added, the newest first,
--- each with the moment of its event. Whoever asks of the past does so by the names below.
-use Rattle.std.specs.Prelude.{ℕ, List, [], ◌∷◌, ◌==◌, ◌≡◌, ◌≢◌, ◌⊎◌, not, filter, Bool, true, false, if◌then◌else◌, Option, Some, None}
+-- each with the moment of its event. Whoever says how it grows, or asks of it, does so by the names
+-- below.
+use Rattle.std.specs.Prelude.{ℕ, List, [], ◌∷◌, ◌+◌, ◌==◌, ◌≡◌, ◌≢◌, ◌⊎◌, not, filter, Bool, true, false, if◌then◌else◌, Option, Some, None}
 use Rattle.std.specs.List.{list_any}
 use Rattle.glare_core.specs.declared.facts.Why.{Why}
 use Rattle.glare_core.specs.declared.facts.Why.TheVariants.{Cancelled, Expired, Glare, Override, Unconfirmed, Near, Far, Idle}
@@ -9,7 +10,8 @@ use Rattle.glare_core.specs.declared.facts.Fact.{Fact}
 use Rattle.glare_core.specs.declared.facts.Fact.TheVariants.{Started, Born, Opened, Confirmed, Ended}
 use Rattle.glare_core.specs.Standing.{held}
 use Rattle.endpoint_model.specs.declared.entry.Entry.{Entry}
-use Rattle.endpoint_model.specs.Event.{Event, moment_at}
+use Rattle.endpoint_model.specs.declared.entry.Entry.TheVariants.{Fact as FactEntry}
+use Rattle.endpoint_model.specs.Event.{ReceiveCall, receive_in, Answer, Began, Done, NotOpened, Refused, NotAdded, Stopped, OutOfMemory, Event, moment_at}
 use Rattle.endpoint_model.specs.Views.{Sending, fact_in, out_in, closed_in}
 
 -- what happened: an event began, or an entry was added in it
@@ -31,26 +33,51 @@ begun moment e = record { moment = moment; what = OfEvent e }
 abbrev pub stamped : ℕ → Entry → Stamped
 stamped moment entry = record { moment = moment; what = OfEntry entry }
 
+-- ---- how it grows
+
+abbrev pub nothing_done : Past
+nothing_done = []
+
+-- an event that began, on top of what was done before
+abbrev pub with_begun : ℕ → Event → Past → Past
+with_begun moment e past = begun moment e ∷ past
+
+-- an entry, on top of what was done before
+abbrev pub with_entry : ℕ → Entry → Past → Past
+with_entry moment entry past = stamped moment entry ∷ past
+
+-- a fact, as such an entry
+abbrev pub with_fact : ℕ → Fact → Past → Past
+with_fact moment fact past = with_entry moment (FactEntry fact) past
+
 -- entries of one event, in their order, on top of what was done before
 abbrev pub onto : ℕ → List Entry → Past → Past
 onto moment [] past = past
-onto moment (entry ∷ rest) past = onto moment rest (stamped moment entry ∷ past)
+onto moment (entry ∷ rest) past = onto moment rest (with_entry moment entry past)
 
 -- an event and its entries, on top of what was done before
 abbrev pub with_event : ℕ → Event → Past → Past
-with_event moment e past = onto moment e.entries (begun moment e ∷ past)
+with_event moment e past = onto moment e.entries (with_begun moment e past)
+
+-- the moment of the last event, and what was done, after these events, the oldest first
+abbrev pub last_moment : ℕ → List Event → ℕ
+last_moment last [] = last
+last_moment last (e ∷ events) = last_moment (moment_at last e) events
+
+abbrev pub past_of : ℕ → Past → List Event → Past
+past_of last past [] = past
+past_of last past (e ∷ events) =
+    past_of (moment_at last e) (with_event (moment_at last e) e past) events
+
+-- what an end with this log did
+abbrev pub past_of_log : List Event → Past
+past_of_log log = past_of 0 nothing_done log
+
+-- ---- facts
 
 abbrev pub fact_done : Happening → Option Fact
 fact_done (OfEvent event) = None
 fact_done (OfEntry entry) = fact_in entry
-
-abbrev pub out_done : Happening → Option Sending
-out_done (OfEvent event) = None
-out_done (OfEntry entry) = out_in entry
-
-abbrev pub closed_done : Happening → Option ℕ
-closed_done (OfEvent event) = None
-closed_done (OfEntry entry) = closed_in entry
 
 -- a fact on top of others, where there is one
 abbrev pub fact_and : Option Fact → List Fact → List Fact
@@ -62,7 +89,41 @@ abbrev pub facts_of : Past → List Fact
 facts_of [] = []
 facts_of (s ∷ earlier) = fact_and (fact_done s.what) (facts_of earlier)
 
+-- This was done before.
+abbrev pub WasDone : Stamped → Past → Type 0
+WasDone done [] = ⊥
+WasDone done (s ∷ earlier) = (done ≡ s) ⊎ WasDone done earlier
+
+-- This fact was stated at this moment.
+abbrev pub WasStated : ℕ → Fact → Past → Type 0
+WasStated moment fact past = WasDone (stamped moment (FactEntry fact)) past
+
+-- ---- datagrams that went out
+
+abbrev pub out_done : Happening → Option Sending
+out_done (OfEvent event) = None
+out_done (OfEntry entry) = out_in entry
+
+-- Something that was done is so, judged by the datagram that went out with it, where one did.
+abbrev pub WentOut : (Option Sending → Type 0) → Past → Type 0
+WentOut so [] = ⊥
+WentOut so (s ∷ earlier) = so (out_done s.what) ⊎ WentOut so earlier
+
+-- one for a datagram that goes out
+abbrev pub out_count : Option Sending → ℕ
+out_count None = 0
+out_count (Some sent) = 1
+
+-- how many went out
+abbrev pub outs_of : Past → ℕ
+outs_of [] = 0
+outs_of (s ∷ earlier) = out_count (out_done s.what) + outs_of earlier
+
 -- ---- closing
+
+abbrev pub closed_done : Happening → Option ℕ
+closed_done (OfEvent event) = None
+closed_done (OfEntry entry) = closed_in entry
 
 -- After these ends a session is closing: this end or the peer closed it.
 abbrev pub is_close : Why → Bool
@@ -126,17 +187,49 @@ ids_in_use (s ∷ earlier) =
 abbrev pub is_in_use : ℕ → Past → Bool
 is_in_use near past = list_any (λ id. id == near) (ids_in_use past)
 
--- This was done before.
-abbrev pub WasDone : Stamped → Past → Type 0
-WasDone done [] = ⊥
-WasDone done (s ∷ earlier) = (done ≡ s) ⊎ WasDone done earlier
+-- ---- the datagrams since a session began
 
--- the moment of the last event, and what was done, after these events, the oldest first
-abbrev pub last_moment : ℕ → List Event → ℕ
-last_moment last [] = last
-last_moment last (e ∷ events) = last_moment (moment_at last e) events
+-- a datagram that a call was given, with the moment
+pub record Taken : Type 0 where
+  pub moment : ℕ
+  pub datagram : List ℕ
 
-abbrev pub past_of : ℕ → Past → List Event → Past
-past_of last past [] = past
-past_of last past (e ∷ events) =
-    past_of (moment_at last e) (with_event (moment_at last e) e past) events
+-- A call that found no memory before it took its datagram didn't take it.
+abbrev pub was_gone_through : Answer → Bool
+was_gone_through (Began n) = true
+was_gone_through Done = true
+was_gone_through (NotOpened refusal) = true
+was_gone_through (Refused refusal) = true
+was_gone_through (NotAdded refusal) = true
+was_gone_through (Stopped stop) = stop.taken
+was_gone_through OutOfMemory = true
+
+abbrev pub datagram_of : Option ReceiveCall → Option (List ℕ)
+datagram_of None = None
+datagram_of (Some r) = Some r.datagram
+
+-- the datagram of a happening that is such a call
+abbrev pub datagram_in : Happening → Option (List ℕ)
+datagram_in (OfEvent event) =
+    if was_gone_through event.answer then datagram_of (receive_in event.call) else None
+datagram_in (OfEntry entry) = None
+
+-- The fact begins the session under this session ID.
+abbrev pub begins : ℕ → Option Fact → Bool
+begins near None = false
+begins near (Some (Started peer n id ni)) = false
+begins near (Some (Born j)) = j.near == near
+begins near (Some (Opened j)) = j.near == near
+begins near (Some (Confirmed peer id)) = false
+begins near (Some (Ended peer id why)) = false
+
+abbrev pub taken_and : ℕ → Option (List ℕ) → List Taken → List Taken
+taken_and moment None earlier = earlier
+taken_and moment (Some datagram) earlier =
+    record { moment = moment; datagram = datagram } ∷ earlier
+
+-- the datagrams that calls were given since that session began, the newest first
+abbrev pub taken_since : ℕ → Past → List Taken
+taken_since near [] = []
+taken_since near (s ∷ earlier) = if begins near (fact_done s.what) then []
+    else taken_and s.moment (datagram_in s.what) (taken_since near earlier)

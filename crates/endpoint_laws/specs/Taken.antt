@@ -1,67 +1,18 @@
 -- The datagrams that a session took.
-use Rattle.std.specs.Prelude.{ℕ, ◌≡◌, ◌≢◌, ◌+◌, ◌<◌, ◌==◌, ◌⊎◌, Bool, true, false, if◌then◌else◌, List, [], ◌∷◌, drop, Option, Some, None}
+use Rattle.std.specs.Prelude.{ℕ, ◌≡◌, ◌≢◌, ◌+◌, ◌<◌, ◌⊎◌, List, [], ◌∷◌, drop, Option, Some, None}
 use Rattle.crypto_profile.specs.declared.keys.Context.{Context}
 use Rattle.rtmfp_packet.specs.declared.head.Mode.{Mode}
 use Rattle.rtmfp_packet.specs.declared.head.Mode.TheVariants.{Initiator as FromInitiator, Responder as FromResponder, Startup as FromStartup}
 use Rattle.rtmfp_packet.specs.Whole.{Whole}
 use Rattle.rtmfp_packet.specs.Walk.{Placed}
 use Rattle.rtmfp_chunks.specs.Chunk.{Chunk, Spells}
-use Rattle.glare_core.specs.declared.facts.Fact.{Fact}
-use Rattle.glare_core.specs.declared.facts.Fact.TheVariants.{Started, Born, Opened, Confirmed, Ended}
 use Rattle.glare_core.specs.declared.facts.Held.{Held}
 use Rattle.glare_core.specs.declared.facts.Held.TheVariants.{Opening, HalfOpen, KeptAsResponder, KeptAsInitiator}
 use Rattle.session_core.specs.Hearing.{count_of}
-use Rattle.endpoint_model.specs.Event.{Setup, own_of, ReceiveCall, receive_in, Answer, Began, Done, NotOpened, Refused, NotAdded, Stopped, OutOfMemory}
+use Rattle.endpoint_model.specs.Event.{Setup, own_of, ReceiveCall}
 use Rattle.endpoint_model.specs.Keying.{IsAmong, chunks_of}
-use Rattle.endpoint_laws.specs.Past.{Past, Happening, OfEvent, OfEntry, fact_done}
+use Rattle.endpoint_laws.specs.Past.{Past, Taken, taken_since}
 use Rattle.endpoint_laws.specs.Contexts.{inward, OpensUnder, ReadsUnder}
-
--- ---- the datagrams since a session began
-
--- a datagram that a call was given, with the moment
-pub record Taken : Type 0 where
-  pub moment : ℕ
-  pub datagram : List ℕ
-
--- A call that found no memory before it took its datagram didn't take it.
-abbrev pub was_gone_through : Answer → Bool
-was_gone_through (Began n) = true
-was_gone_through Done = true
-was_gone_through (NotOpened refusal) = true
-was_gone_through (Refused refusal) = true
-was_gone_through (NotAdded refusal) = true
-was_gone_through (Stopped stop) = stop.taken
-was_gone_through OutOfMemory = true
-
-abbrev pub datagram_of : Option ReceiveCall → Option (List ℕ)
-datagram_of None = None
-datagram_of (Some r) = Some r.datagram
-
--- the datagram of a happening that is such a call
-abbrev pub datagram_in : Happening → Option (List ℕ)
-datagram_in (OfEvent event) =
-    if was_gone_through event.answer then datagram_of (receive_in event.call) else None
-datagram_in (OfEntry entry) = None
-
--- The fact begins the session under this session ID.
-abbrev pub begins : ℕ → Option Fact → Bool
-begins near None = false
-begins near (Some (Started peer n id ni)) = false
-begins near (Some (Born j)) = j.near == near
-begins near (Some (Opened j)) = j.near == near
-begins near (Some (Confirmed peer id)) = false
-begins near (Some (Ended peer id why)) = false
-
-abbrev pub taken_and : ℕ → Option (List ℕ) → List Taken → List Taken
-taken_and moment None earlier = earlier
-taken_and moment (Some datagram) earlier =
-    record { moment = moment; datagram = datagram } ∷ earlier
-
--- the datagrams that calls were given since that session began, the newest first
-abbrev pub taken_since : ℕ → Past → List Taken
-taken_since near [] = []
-taken_since near (s ∷ earlier) = if begins near (fact_done s.what) then []
-    else taken_and s.moment (datagram_in s.what) (taken_since near earlier)
 
 -- ---- which of them it took
 

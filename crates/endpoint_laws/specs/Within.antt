@@ -1,5 +1,5 @@
 -- How many flows the sessions of an end have, what their IDs are, and how much each flow holds.
-use Rattle.std.specs.Prelude.{ℕ, ◌≡◌, ◌+◌, ◌≤◌, true, List, Some}
+use Rattle.std.specs.Prelude.{ℕ, ◌≡◌, ◌+◌, ◌≤◌, true, false, List, Some}
 use Rattle.std.specs.List.{AllByRecursion}
 use Rattle.std.specs.FinMap.{get}
 use Rattle.flow_recv.specs.Receiver.{Receiver, knows, end_of_first, held_in}
@@ -10,6 +10,7 @@ use Rattle.session_flows.specs.Laws.{IsSound}
 use Rattle.endpoint_model.specs.declared.row.Row.{Row}
 use Rattle.endpoint_model.specs.Event.{Setup, Event}
 use Rattle.endpoint_model.specs.State.{State}
+use Rattle.endpoint_model.specs.FlowChunks.{owes_by}
 use Rattle.endpoint_model.specs.Log.{StandsFor}
 
 -- In every log, of each session: its sending flows have the IDs 0, 1, 2 and on, those of its
@@ -39,3 +40,8 @@ pub record HoldFew (s : FlowsState) : Type 0 where
 abbrev pub FlowsHoldFew : Type 0
 FlowsHoldFew = (setup : Setup) (log : List Event) (s : State) (near : ℕ) (row : Row) →
     StandsFor setup log s → get s.sessions near ≡ Some row → HoldFew row.flows
+
+-- In every log, no session owes an ack: those of a call go out in it, or are given up.
+abbrev pub NoAckIsOwed : Type 0
+NoAckIsOwed = (setup : Setup) (log : List Event) (s : State) (near : ℕ) →
+    StandsFor setup log s → owes_by (get s.sessions near) ≡ false

@@ -4,7 +4,7 @@
 ghost use Rattle.endpoint_laws.specs.Agreed.{EveryLawfulHistoryIsAgreed, EachEndStatesItsLog, EachPrefixIsAMoment, LogsKeepTheSame};
 ghost use Rattle.endpoint_laws.specs.Complete.{AdmissibleKeyingsBear, KeyingsWithoutCauseOpen};
 ghost use Rattle.endpoint_laws.specs.Handed.{EveryMessageIsHandedOver};
-ghost use Rattle.endpoint_laws.specs.Within.{FlowsAreWithin, FlowsHoldFew};
+ghost use Rattle.endpoint_laws.specs.Within.{FlowsAreWithin, FlowsHoldFew, NoAckIsOwed};
 ghost use Rattle.endpoint_laws.specs.Laws.{EveryLogIsLawful, TheLedgerIsOfTheLog, UsesAreWithin, RowsAreWithin};
 ghost use Rattle.endpoint_laws.specs.OfTheLog.{TheStateIsOfTheLog};
 
@@ -79,4 +79,10 @@ pub fn flows_are_within()
 /// bytes, and at most 65,536 numbers above its lowest missing one.
 pub fn flows_hold_few()
     ensures { FlowsHoldFew }
+{}
+
+/// Between calls no ack is owed, in no session: those that the chunks of a call owe go out in that
+/// call, or are given up for want of memory.
+pub fn no_ack_is_owed()
+    ensures { NoAckIsOwed }
 {}
