@@ -1,5 +1,6 @@
 -- Ends that are told, and a session that changes.
-use Rattle.std.proofs.Common.{if◌then◌else◌, ℕ, ◌≡◌, ◌≤◌, ◌+◌, List, ◌++◌, length, Bool, true, false, is_some, Option, Some, None, refl, sym, ap, ◌∙◌, subst, arith}
+use Rattle.std.proofs.Common.{if◌then◌else◌, ℕ, ◌≡◌, ◌≤◌, List, ◌++◌, Bool, true, false, is_some, Option, Some, None, IfSome, refl, sym, ap, ◌∙◌, subst, arith}
+use Rattle.std.specs.Prelude.{option_to_list}
 use Rattle.std.specs.FinMap.{get}
 use Rattle.glare_core.specs.declared.facts.Fact.{Fact}
 use Rattle.glare_core.specs.declared.facts.Why.{Why}
@@ -8,37 +9,30 @@ use Rattle.startup.specs.Attempts.{end_fact, after_end}
 use Rattle.session_core.specs.Session.{SessionState}
 use Rattle.session_core.specs.Closing.{is_held}
 use Rattle.endpoint_model.specs.declared.row.Row.{Row}
-use Rattle.endpoint_model.specs.Added.{Added}
+use Rattle.endpoint_model.specs.declared.entry.Entry.{Entry}
+use Rattle.endpoint_model.specs.Added.{Added, IsShort}
 use Rattle.endpoint_model.specs.State.{State, Did, Done, nothing, fact_entries, with_startup, with_session}
 use Rattle.endpoint_model.specs.InSessions.{if_held, ended_as, sent_home, sent_home_by}
 use Rattle.endpoint_model.proofs.Steps.{done_nothing, joined}
-use Rattle.end_state.specs.Steps.{session_changed, end_told}
+use Rattle.end_state.specs.Steps.{Gives, session_changed, end_told}
+use Rattle.end_state.proofs.Giving.{gives_nothing}
 
 -- ---- an end is told
 
-pub told_done : (s now : State) (near : ℕ) (why : Why) (row : Row) (startup : StartupState) (fact : Option Fact) (before after : Added) →
+pub told_gives : (s now : State) (near : ℕ) (why : Why) (row : Row) (startup : StartupState) (fact : Option Fact) (entry : Option Entry) →
     s ≡ now → get s.sessions near ≡ Some row → startup ≡ after_end s.startup row.session.joined.peer why → fact ≡ end_fact s.startup row.session.joined.peer why →
-    after.entries ≡ before.entries ++ fact_entries fact → before.free ≤ after.free + length (fact_entries fact) → after.room ≡ before.room →
-    Done (end_told now why (get now.sessions near)) (with_startup s startup) before after
-told_done s now near why row startup fact before after is was startup_is fact_is entries free room =
+    fact_entries fact ≡ option_to_list entry → IfSome entry (λ e. IsShort e) → Gives (end_told now why (get now.sessions near)) (with_startup s startup) entry
+told_gives s now near why row startup fact entry is was startup_is fact_is entries short =
     let same : end_told now why (get now.sessions near) ≡ end_told s why (Some row) = ap (λ (t : State). end_told t why (get t.sessions near)) (sym is) ∙ ap (end_told s why) was in
-    let P : Did → Type 0 = λ d. Done d (with_startup s startup) before after in
+    let P : Did → Type 0 = λ d. Gives d (with_startup s startup) entry in
     subst P (sym same) (record {
       state = ap (with_startup s) startup_is;
-      entries = entries ∙ ap (λ (f : Option Fact). before.entries ++ fact_entries f) fact_is;
-      free = subst (λ (f : Option Fact). before.free ≤ after.free + length (fact_entries f)) fact_is free;
-      room = room;
+      entries = ap fact_entries (sym fact_is) ∙ entries;
+      short = short;
     })
 
-pub untold_done : (now : State) (near : ℕ) (why : Why) (out : Added) → get now.sessions near ≡ None → Done (end_told now why (get now.sessions near)) now out out
-untold_done now near why out none = let P : Did → Type 0 = λ d. Done d now out out in subst P (sym (ap (end_told now why) none)) (done_nothing now out)
-
-one_fact : (fact : Option Fact) → length (fact_entries fact) ≤ 1
-one_fact None = omega arith
-one_fact (Some fact) = omega arith
-
-pub told_room : (fact : Option Fact) (before after : ℕ) → before ≤ after + length (fact_entries fact) → before ≤ after + 1
-told_room fact before after free = omega (arith, free, one_fact fact)
+pub untold_gives : (now : State) (near : ℕ) (why : Why) → get now.sessions near ≡ None → Gives (end_told now why (get now.sessions near)) now None
+untold_gives now near why none = let P : Did → Type 0 = λ d. Gives d now None in subst P (sym (ap (end_told now why) none)) (gives_nothing now)
 
 -- ---- room was made before
 
@@ -62,6 +56,18 @@ ended_done s t u near why change row before after found told changed =
       entries = told_of.entries;
       free = told_of.free;
       room = told_of.room;
+    }
+
+-- the same of the entry that tells it
+pub ended_gives : (s t u : State) (near : ℕ) (why : Why) (change : ℕ → SessionState → SessionState) (row : Row) (entry : Option Entry) → get s.sessions near ≡ Some row →
+    Gives (end_told s why (get s.sessions near)) t entry → u ≡ session_changed change t near (get t.sessions near) → Gives (ended_as s near row why (change s.moment row.session)) u entry
+ended_gives s t u near why change row entry found told changed =
+    let told_of : Gives (end_told s why (Some row)) t entry = subst (λ (o : Option Row). Gives (end_told s why o) t entry) found told in
+    let left : State = with_startup s (after_end s.startup row.session.joined.peer why) in
+    record {
+      state = changed ∙ ap (λ (x : State). session_changed change x near (get x.sessions near)) told_of.state ∙ ap (session_changed change left near) found;
+      entries = told_of.entries;
+      short = told_of.short;
     }
 
 -- nothing is told, and the session changes

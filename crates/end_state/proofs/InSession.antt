@@ -1,5 +1,6 @@
 -- What goes out in a session.
-use Rattle.std.proofs.Common.{ℕ, List, [], ◌∷◌, ◌++◌, ◌≡◌, ◌≤◌, ◌+◌, length, Bool, true, false, if◌then◌else◌, Option, Some, None, inl, inr, refl, sym, ap, ◌∙◌, subst}
+use Rattle.std.proofs.Common.{ℕ, List, [], ◌∷◌, ◌≡◌, ◌+◌, Bool, true, false, if◌then◌else◌, Option, Some, None, IfSome, inl, inr, refl, sym, ap, ◌∙◌, subst}
+use Rattle.std.specs.Prelude.{option_to_list}
 use Rattle.std.specs.FinMap.{get, insert}
 use Rattle.rtmfp_base.proofs.Maps.{same_tables, same_or_not, get_inserted, get_beside}
 use Rattle.rtmfp_forms.specs.Address.{AddressParts}
@@ -12,12 +13,13 @@ use Rattle.endpoint_model.specs.declared.row.Row.{Row}
 use Rattle.end_state.specs.declared.settings.Settings.{Settings}
 use Rattle.endpoint_model.specs.declared.entry.Entry.{Entry}
 use Rattle.endpoint_model.specs.declared.entry.Entry.TheVariants.{Out}
-use Rattle.endpoint_model.specs.Added.{Added}
+use Rattle.endpoint_model.specs.Added.{IsShort}
 use Rattle.endpoint_model.specs.InSessions.{sent_home, sent_home_by}
 use Rattle.endpoint_model.specs.Sending.{sent_by, sent_in_session, session_datagram}
-use Rattle.endpoint_model.specs.State.{State, Did, Done, Sessions, nothing, with_session, with_sessions}
-use Rattle.endpoint_model.proofs.Steps.{done_nothing}
+use Rattle.endpoint_model.specs.State.{State, Did, Sessions, nothing, with_session, with_sessions}
 use Rattle.end_state.specs.Stored.{state_of}
+use Rattle.end_state.specs.Steps.{Gives}
+use Rattle.end_state.proofs.Giving.{gives_nothing}
 
 -- ---- one datagram goes out, or none
 
@@ -51,32 +53,25 @@ pub sent_as : (s : State) (near : ℕ) (to : AddressParts) (body : List ℕ) (o 
 sent_as s near to body None found = refl
 sent_as s near to body (Some row) found = by_count s near to body row (is_spent row.session) found refl
 
-pub sent_one : (settings : Settings) (moment sealed : ℕ) (startup : StartupState) (old new : Sessions) (t : State) (near : ℕ) (to : AddressParts) (body : List ℕ) (answer : Option Sealed) (before after : Added) →
+pub sent_one : (settings : Settings) (moment sealed : ℕ) (startup : StartupState) (old new : Sessions) (t : State) (near : ℕ) (to : AddressParts) (body : List ℕ) (answer : Option Sealed) (entry : Option Entry) →
     state_of settings moment sealed startup old ≡ t → answer ≡ sealed_by moment body (get old near) → new ≡ in_session after_seal old near →
-    after.entries ≡ before.entries ++ out_of to answer → before.free ≤ after.free + length (out_of to answer) → after.room ≡ before.room →
-    Done (sent_in_session t near to body) (state_of settings moment sealed startup new) before after
-sent_one settings moment sealed startup old new t near to body answer before after view answer_is new_is entries free room =
+    out_of to answer ≡ option_to_list entry → IfSome entry (λ e. IsShort e) → Gives (sent_in_session t near to body) (state_of settings moment sealed startup new) entry
+sent_one settings moment sealed startup old new t near to body answer entry view answer_is new_is entries short =
     let s : State = state_of settings moment sealed startup old in
     let did : sent_in_session s near to body ≡ sealed_did s near to (get old near) answer =
     sent_as s near to body (get old near) refl ∙ ap (sealed_did s near to (get old near)) (sym answer_is) in
-    let done : Done (sealed_did s near to (get old near) answer) (state_of settings moment sealed startup new) before after =
-    record { state = ap (with_sessions s) new_is; entries = entries; free = free; room = room } in
-    subst (λ (u : State). Done (sent_in_session u near to body) (state_of settings moment sealed startup new) before after) view
-    (subst (λ (d : Did). Done d (state_of settings moment sealed startup new) before after) (sym did) done)
-
--- where nothing was sealed, nothing is added
-pub none_added : (s : State) (to : AddressParts) (answer : Option Sealed) (out : Added) → answer ≡ None → (out.entries ≡ out.entries ++ out_of to answer) × (out.free ≤ out.free + length (out_of to answer))
-none_added s to answer out none =
-    let is : [] ≡ out_of to answer = sym (ap (out_of to) none) in
-    (subst (λ (xs : List Entry). out.entries ≡ out.entries ++ xs) is (done_nothing s out).entries, subst (λ (xs : List Entry). out.free ≤ out.free + length xs) is (done_nothing s out).free)
+    let gives : Gives (sealed_did s near to (get old near) answer) (state_of settings moment sealed startup new) entry =
+    record { state = ap (with_sessions s) new_is; entries = entries; short = short } in
+    subst (λ (u : State). Gives (sent_in_session u near to body) (state_of settings moment sealed startup new) entry) view
+    (subst (λ (d : Did). Gives d (state_of settings moment sealed startup new) entry) (sym did) gives)
 
 -- ---- to where its datagrams go
 
-pub unsent_home : (s : State) (near : ℕ) (body : List ℕ) (out : Added) → get s.sessions near ≡ None → Done (sent_home s near body) s out out
-unsent_home s near body out none = subst (λ (d : Did). Done d s out out) (sym (ap (sent_home_by s near body) none)) (done_nothing s out)
+pub unsent_home : (s : State) (near : ℕ) (body : List ℕ) → get s.sessions near ≡ None → Gives (sent_home s near body) s None
+unsent_home s near body none = subst (λ (d : Did). Gives d s None) (sym (ap (sent_home_by s near body) none)) (gives_nothing s)
 
-pub sent_home_to : (s t : State) (near : ℕ) (to : AddressParts) (body : List ℕ) (row : Row) (before after : Added) → get s.sessions near ≡ Some row → to ≡ row.session.address →
-    Done (sent_in_session s near to body) t before after → Done (sent_home s near body) t before after
-sent_home_to s t near to body row before after found to_is sent =
-    let P : Did → Type 0 = λ d. Done d t before after in
+pub sent_home_to : (s t : State) (near : ℕ) (to : AddressParts) (body : List ℕ) (row : Row) (entry : Option Entry) → get s.sessions near ≡ Some row → to ≡ row.session.address →
+    Gives (sent_in_session s near to body) t entry → Gives (sent_home s near body) t entry
+sent_home_to s t near to body row entry found to_is sent =
+    let P : Did → Type 0 = λ d. Gives d t entry in
     subst P (ap (λ (a : AddressParts). sent_in_session s near a body) to_is ∙ ap (sent_by s near row.session.address body) found ∙ sym (ap (sent_home_by s near body) found)) sent

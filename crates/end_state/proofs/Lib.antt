@@ -1,3 +1,4 @@
+pub mod Giving
 pub mod InSession
 pub mod AcksSent
 pub mod Changing

@@ -1,12 +1,22 @@
--- Steps of a session, by the row that is kept under its session ID.
-use Rattle.std.specs.Prelude.{ℕ, Option, Some, None}
+-- What a step gives, and the steps of a session, by the row that is kept under its session ID.
+use Rattle.std.specs.Prelude.{ℕ, ◌≡◌, Option, Some, None, IfSome, option_to_list}
 use Rattle.glare_core.specs.declared.facts.Why.{Why}
 use Rattle.startup.specs.Attempts.{end_fact, after_end}
 use Rattle.session_core.specs.Session.{SessionState}
 use Rattle.endpoint_model.specs.declared.row.Row.{Row}
+use Rattle.endpoint_model.specs.declared.entry.Entry.{Entry}
+use Rattle.endpoint_model.specs.Added.{IsShort}
 use Rattle.endpoint_model.specs.State.{State, Did, nothing, fact_entries, with_startup}
 use Rattle.endpoint_model.specs.State.{with_session, with_row}
 use Rattle.endpoint_model.specs.FlowTimes.{data_sent}
+
+-- ---- what a step gives
+
+-- The state is what a thing left, and the entry, where there is one, all that it adds.
+pub record Gives (d : Did) (new : State) (entry : Option Entry) : Type 0 where
+  pub state : new ≡ d.state
+  pub entries : d.entries ≡ option_to_list entry
+  pub short : IfSome entry (λ entry. IsShort entry)
 
 -- ---- steps of a session
 

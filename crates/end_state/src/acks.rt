@@ -1,12 +1,11 @@
 //! Acks that a session owes, which go out after the chunks of a datagram.
 
-ghost use Rattle.std.specs.Prelude.{◌≡◌, ◌<◌, length};
+ghost use Rattle.std.specs.Prelude.{◌≡◌, length};
 ghost use Rattle.std.specs.FinMap.{get};
 ghost use Rattle.endpoint_model.specs.FlowChunks.{acked_by, owes_by, unowed_by};
-ghost use Rattle.endpoint_model.specs.State.{Done};
+ghost use Rattle.end_state.specs.Steps.{Gives};
 
 use crate::end_state::EndState;
-use crate::outbox::Outbox;
 use endpoint_model::Entry;
 
 impl EndState {
@@ -20,27 +19,25 @@ impl EndState {
         }
     }
 
-    /// Sends one packet of the acks that the session with this session ID owes, for which memory
-    /// and room were found, to where its datagrams go. Where all its counts are used nothing is
-    /// sent, and the acks aren't owed any more.
-    pub fn send_acks(&mut self, blank: Vec<u8>, near: u32, out: &mut Outbox)
-        requires blank { length blank.items ≡ 1200 }
-        requires room { 0 < out.old.free }
-        ensures { Done (acked_by self.old near (get self.old.sessions near)) self.new out.old
-            out.new }
+    /// The entry of one packet of the acks that the session with this session ID owes, for which
+    /// memory was found, to where its datagrams go. Where all its counts are used there is none,
+    /// and the acks aren't owed any more.
+    pub fn seal_acks(&mut self, blank: Vec<u8>, near: u32) -> Option<Entry>
+        requires { length blank.items ≡ 1200 }
+        ensures { Gives (acked_by self.old near (get self.old.sessions near)) self.new result }
     {
         let Some(row) = self.sessions.row(near) else {
-            return;
+            return None;
         };
         let to = *row.session.address();
         let Some(sealed) = self.sessions.seal_acks(near, self.moment, blank) else {
-            return;
+            return None;
         };
-        out.add(Entry::Out {
+        Some(Entry::Out {
             to,
             datagram: sealed.datagram,
             context: sealed.context,
-        });
+        })
     }
 
     /// The session with this session ID owes no acks any more.

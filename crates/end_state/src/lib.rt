@@ -18,7 +18,7 @@ mod taking;
 pub use contexts::{PLAIN_AT, word_of};
 pub use end_state::EndState;
 pub use introducing::RowAddresses;
-pub use outbox::{Outbox, add_fact};
+pub use outbox::{Outbox, fact_entry};
 pub use sealing::blank;
 pub use sending::blanks;
 pub use settings::Settings;

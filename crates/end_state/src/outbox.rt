@@ -1,6 +1,7 @@
 //! The entries that calls added, in order.
 
-ghost use Rattle.std.specs.Prelude.{◌≡◌, ◌<◌, ◌≤◌, ◌+◌, ◌^◌, ◌++◌, [], ◌∷◌, IfOk, IsOk, OnOk, length};
+ghost use Rattle.std.specs.Prelude.{◌≡◌, ◌<◌, ◌≤◌, ◌+◌, ◌^◌, ◌++◌, [], ◌∷◌, IfOk, IfSome, IsOk};
+ghost use Rattle.std.specs.Prelude.{OnOk, length, option_to_list};
 ghost use Rattle.endpoint_model.specs.Added.{AreShort, IsShort};
 ghost use Rattle.endpoint_model.specs.State.{fact_entries};
 
@@ -98,16 +99,30 @@ impl Outbox {
             Err(_) => {}
         }
     }
+
+    /// Adds an entry, where there is one, as `add` does.
+    pub fn add_some(&mut self, entry: Option<Entry>)
+        requires room { 0 < self.old.free }
+        requires short { IfSome entry (λ entry. IsShort entry) }
+        ensures entries { self.new.entries ≡ self.old.entries ++ option_to_list entry }
+        ensures free { self.old.free ≤ self.new.free + length (option_to_list entry) }
+        ensures one { self.old.free ≤ self.new.free + 1 }
+        ensures room { self.new.room ≡ self.old.room }
+    {
+        match entry {
+            Some(entry) => self.add(entry),
+            None => {}
+        }
+    }
 }
 
-/// Adds a fact, where there is one, for which there is room.
-pub fn add_fact(fact: Option<Fact>, out: &mut Outbox)
-    requires { 0 < out.old.free }
-    ensures entries { out.new.entries ≡ out.old.entries ++ fact_entries fact }
-    ensures free { out.old.free ≤ out.new.free + length (fact_entries fact) }
-    ensures room { out.new.room ≡ out.old.room }
+/// The entry of a fact, where there is one.
+pub fn fact_entry(fact: Option<Fact>) -> Option<Entry>
+    ensures entries { fact_entries fact ≡ option_to_list result }
+    ensures short { IfSome result (λ entry. IsShort entry) }
 {
-    if let Some(fact) = fact {
-        out.add(Entry::Fact(fact));
+    match fact {
+        Some(fact) => Some(Entry::Fact(fact)),
+        None => None,
     }
 }

@@ -5,7 +5,7 @@ ghost use Rattle.packet_scramble.specs.Datagram.{datagram};
 ghost use Rattle.crypto_profile.specs.Sealing.{sealed};
 
 use crate::contexts::PLAIN_AT;
-use crypto_profile::{CIPHERED_AT, Keys, seal_in_place};
+use crypto_profile::{Keys, seal_into};
 use packet_scramble::{SEALED_AT, scramble};
 use rtmfp_base::Message;
 use rtmfp_forms::Outgoing;
@@ -46,17 +46,7 @@ fn fill(buffer: &mut [u8], keys: &Keys, sid: u32, number: [u8; 16], plain: &[u8]
     ensures { buffer.new ≡ datagram sid (sealed keys.now sid number plain.now) }
 {
     let (head, part) = buffer.split_at_mut(SEALED_AT);
-    seal_part(part, keys, sid, number, plain);
+    seal_into(keys, sid, number, plain, part);
     let scrambled = scramble(sid, part);
     head.copy_from_slice(&scrambled.to_be_bytes());
-}
-
-/// Fills a buffer, which is as long as the sealed part, with it.
-fn seal_part(part: &mut [u8], keys: &Keys, sid: u32, number: [u8; 16], plain: &[u8])
-    requires { length part.old ≡ 32 + length plain.now }
-    ensures { part.new ≡ sealed keys.now sid number plain.now }
-{
-    let (_, packet) = part.split_at_mut(CIPHERED_AT);
-    packet.copy_from_slice(plain);
-    seal_in_place(keys, sid, number, part);
 }

@@ -1,10 +1,10 @@
 //! Datagrams of an end that go out.
 
-ghost use Rattle.std.specs.Prelude.{◌≡◌, ◌<◌, ◌≤◌, All, IfOk, IfSome, length, option_to_list};
-ghost use Rattle.endpoint_model.specs.Added.{IsShort};
+ghost use Rattle.std.specs.Prelude.{◌≡◌, ◌≤◌, All, IfOk, length};
 ghost use Rattle.endpoint_model.specs.State.{Done};
 ghost use Rattle.endpoint_model.specs.Sending.{sent_answer, sent_each, sent_startup};
 ghost use Rattle.endpoint_model.specs.Sending.{startup_number};
+ghost use Rattle.end_state.specs.Steps.{Gives};
 
 use crate::end_state::EndState;
 use crate::outbox::Outbox;
@@ -38,10 +38,7 @@ impl EndState {
         plain: &Outgoing,
     ) -> Option<Entry>
         requires { length blank.items ≡ 1200 }
-        ensures state { self.new ≡ (sent_startup self.old to.now sid plain.now).state }
-        ensures entry { (sent_startup self.old to.now sid plain.now).entries
-            ≡ option_to_list result }
-        ensures short { IfSome result (λ entry. IsShort entry) }
+        ensures { Gives (sent_startup self.old to.now sid plain.now) self.new result }
     {
         if self.sealed == u64::MAX {
             return None;
@@ -56,17 +53,13 @@ impl EndState {
         })
     }
 
-    /// Sends a startup packet that answers something, for which memory and room were found. Where
-    /// all counts are used nothing is sent.
-    pub fn send_answer(&mut self, blank: Vec<u8>, answer: &Answer, out: &mut Outbox)
-        requires blank { length blank.items ≡ 1200 }
-        requires room { 0 < out.old.free }
-        ensures { Done (sent_answer self.old answer.now) self.new out.old out.new }
+    /// The entry of a startup packet that answers something, for which memory was found. There is
+    /// none where all counts are used.
+    pub fn seal_answer(&mut self, blank: Vec<u8>, answer: &Answer) -> Option<Entry>
+        requires { length blank.items ≡ 1200 }
+        ensures { Gives (sent_answer self.old answer.now) self.new result }
     {
-        match self.startup_packet(blank, &answer.to, answer.sid, &answer.plain) {
-            Some(entry) => out.add(entry),
-            None => {}
-        }
+        self.startup_packet(blank, &answer.to, answer.sid, &answer.plain)
     }
 
     /// Sends a startup packet to several addresses, under session ID 0.

@@ -1,6 +1,6 @@
 //! The steps of which ends and closings of a session are made.
 
-ghost use Rattle.std.specs.Prelude.{◌≡◌, ◌<◌, ◌≤◌, ◌+◌, is_some, IfSome, OnErr, OnOk};
+ghost use Rattle.std.specs.Prelude.{◌≡◌, is_some, IfSome, OnErr, OnOk};
 ghost use Rattle.std.specs.FinMap.{get};
 ghost use Rattle.session_core.specs.Closing.{after_due, asked_to_close, closed_near, first_due};
 ghost use Rattle.session_core.specs.Closing.{kept_alive};
@@ -8,10 +8,10 @@ ghost use Rattle.endpoint_model.specs.InSessions.{held_row, closed};
 ghost use Rattle.endpoint_model.specs.State.{Done, without_row, nothing};
 ghost use Rattle.endpoint_model.specs.FlowTimes.{all_late};
 ghost use Rattle.session_table.specs.FlowTimes.{OverdueWaits, overdue_gone};
-ghost use Rattle.end_state.specs.Steps.{end_told, row_changed, session_changed};
+ghost use Rattle.end_state.specs.Steps.{Gives, end_told, row_changed, session_changed};
 
 use crate::end_state::EndState;
-use crate::outbox::{Outbox, add_fact};
+use crate::outbox::{Outbox, fact_entry};
 use endpoint_model::Entry;
 use glare_core::Why;
 use std::alloc::AllocError;
@@ -27,20 +27,17 @@ impl EndState {
         }
     }
 
-    /// Tells that the session with this session ID ends, for which there is room. Its row stays.
-    pub fn tell_end(&mut self, near: u32, why: Why, out: &mut Outbox)
-        requires { 0 < out.old.free }
-        ensures done { Done (end_told self.old why (get self.old.sessions near)) self.new out.old
-            out.new }
-        ensures room { out.old.free ≤ out.new.free + 1 }
+    /// Ends the session with this session ID, and gives the entry that tells it. Its row stays.
+    pub fn end_session(&mut self, near: u32, why: Why) -> Option<Entry>
+        ensures { Gives (end_told self.old why (get self.old.sessions near)) self.new result }
     {
         match self.sessions.row(near) {
             Some(row) => {
                 let peer = row.session.joined().peer;
                 let fact = self.startup.end(&peer, why);
-                add_fact(fact, out);
+                fact_entry(fact)
             }
-            None => {}
+            None => None,
         }
     }
 

@@ -6,9 +6,10 @@ ghost use Rattle.endpoint_model.specs.Admission.{confirming, confirming_by, conf
 ghost use Rattle.endpoint_model.specs.Admission.{counted_at, counted_by, timed_at, timed_by};
 ghost use Rattle.endpoint_model.specs.Effects.{discarded};
 ghost use Rattle.endpoint_model.specs.State.{Done, nothing};
+ghost use Rattle.end_state.specs.Steps.{Gives};
 
 use crate::end_state::EndState;
-use crate::outbox::{Outbox, add_fact};
+use crate::outbox::{Outbox, fact_entry};
 use endpoint_model::{Entry, Place};
 use rtmfp_packet::PacketHead;
 use startup::Cause;
@@ -71,36 +72,36 @@ impl EndState {
         }
     }
 
-    /// Confirms the session at a place, where it is half-open; there is room for the fact then.
-    pub fn confirm(&mut self, place: Place, out: &mut Outbox)
-        requires { confirms self.old place ≡ true → 0 < out.old.free }
-        ensures { Done (confirming self.old place) self.new out.old out.new }
+    /// Confirms the session at a place, where it is half-open, and gives the entry that tells it
+    /// then.
+    pub fn confirm(&mut self, place: Place) -> Option<Entry>
+        ensures { Gives (confirming self.old place) self.new result }
     {
         match place {
-            Place::Startup => {}
-            Place::Attempt(_) => {}
+            Place::Startup => None,
+            Place::Attempt(_) => None,
             Place::Session(near) => {
                 if self.confirms_in(near) {
-                    self.confirm_in(near, out);
+                    self.confirm_in(near)
+                } else {
+                    None
                 }
             }
         }
     }
 
-    fn confirm_in(&mut self, near: u32, out: &mut Outbox)
-        requires half_open { confirms_by (get self.old.sessions near) ≡ true }
-        requires room { 0 < out.old.free }
-        ensures { Done (confirming_by self.old near (get self.old.sessions near)) self.new out.old
-            out.new }
+    fn confirm_in(&mut self, near: u32) -> Option<Entry>
+        requires { confirms_by (get self.old.sessions near) ≡ true }
+        ensures { Gives (confirming_by self.old near (get self.old.sessions near)) self.new result }
     {
         match self.sessions.row(near) {
             Some(row) => {
                 let peer = row.session.joined().peer;
                 self.sessions.confirm(near);
                 let fact = self.startup.confirm(&peer);
-                add_fact(fact, out);
+                fact_entry(fact)
             }
-            None => {}
+            None => None,
         }
     }
 

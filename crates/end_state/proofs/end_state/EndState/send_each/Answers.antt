@@ -8,6 +8,7 @@ use Rattle.endpoint_model.specs.Added.{Added}
 use Rattle.endpoint_model.specs.State.{State, Did, Done}
 use Rattle.endpoint_model.specs.Sending.{sent_each, sent_startup}
 use Rattle.endpoint_model.proofs.Steps.{joined, each_more}
+use Rattle.end_state.specs.Steps.{Gives}
 use Rattle.end_state.proofs.end_state.EndState.send_each.Goals as goal
 
 popped : {A : Type 0} (xs ys : List A) (r : Option A) (x : A) → xs ≡ ys ++ option_to_list r → r ≡ Some x → length xs ≡ length ys + 1
@@ -21,21 +22,21 @@ each_so s t u plain places i to before between after taken so_far one =
     (joined (sent_each s plain (take i places)) (λ x. sent_startup x to 0 plain) t u before between after so_far one)
 
 -- a packet that is added, and one that isn't there
-added_so : (d : Did) (t : State) (r : Option Entry) (entry : Entry) (before after : Added) → t ≡ d.state → d.entries ≡ option_to_list r → r ≡ Some entry →
+added_so : (d : Did) (t : State) (r : Option Entry) (entry : Entry) (before after : Added) → Gives d t r → r ≡ Some entry →
     after.entries ≡ before.entries ++ entry ∷ [] → before.free ≤ after.free + 1 → after.room ≡ before.room → Done d t before after
-added_so d t r entry before after state entries is added free room =
-    let one : d.entries ≡ entry ∷ [] = entries ∙ ap option_to_list is in
+added_so d t r entry before after gives is added free room =
+    let one : d.entries ≡ entry ∷ [] = gives.entries ∙ ap option_to_list is in
     record {
-      state = state;
+      state = gives.state;
       entries = added ∙ ap (λ xs. before.entries ++ xs) (sym one);
       free = omega (arith, free, ap length one);
       room = room;
     }
 
-none_so : (d : Did) (t : State) (r : Option Entry) (out : Added) → t ≡ d.state → d.entries ≡ option_to_list r → r ≡ None → Done d t out out
-none_so d t r out state entries is = record {
-  state = state;
-  entries = sym (append-nil out.entries) ∙ ap (λ xs. out.entries ++ xs) (sym (entries ∙ ap option_to_list is));
+none_so : (d : Did) (t : State) (r : Option Entry) (out : Added) → Gives d t r → r ≡ None → Done d t out out
+none_so d t r out gives is = record {
+  state = gives.state;
+  entries = sym (append-nil out.entries) ∙ ap (λ xs. out.entries ++ xs) (sym (gives.entries ∙ ap option_to_list is));
   free = omega arith;
   room = refl;
 }
@@ -44,7 +45,7 @@ pub loop-to-preserved : goal.loop-to-preserved
 loop-to-preserved c =
     let taken = take_more c.args.addresses.now c.loop-to.to-index c.to-item.result c.loop-to-test.true ∙ ap (λ to. take c.loop-to.to-index c.args.addresses.now ++ to ∷ []) (sym c.to-item.is) in
     let once = added_so (sent_startup c.loop-to.self c.to-item.result 0 c.args.plain.now) c.startup_packet.new.self c.startup_packet.result c.in-Some-startup_packet.entry c.loop-to.out c.add.new.self
-    c.startup_packet.ensures.state c.startup_packet.ensures.entry c.in-Some-startup_packet.is c.add.ensures.entries c.add.ensures.free c.add.ensures.room in
+    c.startup_packet.ensures c.in-Some-startup_packet.is c.add.ensures.entries c.add.ensures.free c.add.ensures.room in
     record {
       done =
           each_so c.args.self.now c.loop-to.self c.startup_packet.new.self c.args.plain.now c.args.addresses.now c.loop-to.to-index c.to-item.result c.args.out.now c.loop-to.out c.add.new.self taken
@@ -58,7 +59,7 @@ pub loop-to-preserved-in_default-startup_packet : goal.loop-to-preserved-in_defa
 loop-to-preserved-in_default-startup_packet c =
     let taken = take_more c.args.addresses.now c.loop-to.to-index c.to-item.result c.loop-to-test.true ∙ ap (λ to. take c.loop-to.to-index c.args.addresses.now ++ to ∷ []) (sym c.to-item.is) in
     let once = none_so (sent_startup c.loop-to.self c.to-item.result 0 c.args.plain.now) c.startup_packet.new.self c.startup_packet.result c.loop-to.out
-    c.startup_packet.ensures.state c.startup_packet.ensures.entry c.in_default-startup_packet.is in
+    c.startup_packet.ensures c.in_default-startup_packet.is in
     record {
       done =
           each_so c.args.self.now c.loop-to.self c.startup_packet.new.self c.args.plain.now c.args.addresses.now c.loop-to.to-index c.to-item.result c.args.out.now c.loop-to.out c.loop-to.out taken

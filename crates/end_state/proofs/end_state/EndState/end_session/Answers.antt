@@ -8,8 +8,8 @@ use Rattle.startup.specs.Attempts.{end_fact, after_end}
 use Rattle.endpoint_model.specs.State.{State}
 use Rattle.end_state.specs.Stored.{state_of}
 use Rattle.end_state.proofs.Confirms.{own_stays}
-use Rattle.end_state.proofs.Endings.{told_done, told_room, untold_done}
-use Rattle.end_state.proofs.end_state.EndState.tell_end.Goals as goal
+use Rattle.end_state.proofs.Endings.{told_gives, untold_gives}
+use Rattle.end_state.proofs.end_state.EndState.end_session.Goals as goal
 
 pub invariant_of-self : goal.invariant_of-self
 invariant_of-self c =
@@ -22,17 +22,14 @@ invariant_of-self c =
       few = c.self.invariant.few;
     }
 
-pub returns-in-Some-clause-done : goal.returns-in-Some-clause-done
-returns-in-Some-clause-done c =
+pub returns-in-Some : goal.returns-in-Some
+returns-in-Some c =
     let i = c.self.inside in
     let peer = ap (λ (j : Joined). j.peer) c.joined.ensures in
-    told_done (state_of i.settings i.moment i.sealed i.startup i.sessions.rows) c.args.self.now c.args.near c.args.why c.in-Some.row.now c.end-fact.new.self c.end-fact.result c.args.out.now c.add_fact.new.out
+    told_gives (state_of i.settings i.moment i.sealed i.startup i.sessions.rows) c.args.self.now c.args.near c.args.why c.in-Some.row.now c.end-fact.new.self c.end-fact.result c.fact_entry.result
     c.self.view_is (sym c.in-Some.ensures) (c.end-fact.ensures.after ∙ ap (λ p. after_end i.startup p c.args.why) peer) (c.end-fact.ensures.fact ∙ ap (λ p. end_fact i.startup p c.args.why) peer)
-    c.add_fact.ensures.entries c.add_fact.ensures.free c.add_fact.ensures.room
+    c.fact_entry.ensures.entries c.fact_entry.ensures.short
 
-pub returns-in-Some-clause-room : goal.returns-in-Some-clause-room
-returns-in-Some-clause-room c = told_room c.end-fact.result c.args.out.now.free c.add_fact.new.out.free c.add_fact.ensures.free
-
-pub returns-in-None-clause-done : goal.returns-in-None-clause-done
-returns-in-None-clause-done c =
-    untold_done c.args.self.now c.args.near c.args.why c.args.out.now (ap (λ (s : State). get s.sessions c.args.near) (sym c.self.view_is) ∙ sym c.in-None.ensures)
+pub returns-in-None : goal.returns-in-None
+returns-in-None c =
+    untold_gives c.args.self.now c.args.near c.args.why (ap (λ (s : State). get s.sessions c.args.near) (sym c.self.view_is) ∙ sym c.in-None.ensures)
