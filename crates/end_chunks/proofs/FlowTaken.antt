@@ -14,8 +14,8 @@ use Rattle.endpoint_model.specs.Admission.{sid_at}
 use Rattle.endpoint_model.specs.Causes.{chunk_cause}
 use Rattle.endpoint_model.specs.Effects.{IsQuiet, chunk_did, discarded, discarded_or, discards_for, effect, is_idle, is_idle_after, walked}
 use Rattle.endpoint_model.proofs.FlowChunks.{flows_cause, flows_effect, none_behind}
-use Rattle.std.proofs.Common.{ℕ, zero, suc, inl, inr, ◌≡◌, ◌≤◌, ◌+◌, ◌++◌, List, [], ◌∷◌, length, map, Option, Some, None, Result, Ok, Err, OnOk, IfErr, IsOk, IsSome, Bool, true, false, if◌then◌else◌, ◌<◌, refl, sym, ap, ◌∙◌, subst, arith}
-use Rattle.std.proofs.lemmas.List.{append-nil}
+use Rattle.std.proofs.Common.{ℕ, zero, suc, inl, inr, ◌≡◌, ◌≤◌, ◌+◌, ◌++◌, List, [], ◌∷◌, length, map, Option, Some, None, Result, Ok, Err, OnOk, IfErr, IsOk, IsSome, Bool, true, false, if◌then◌else◌, ◌<◌, refl, sym, ap, ◌∙◌, subst, arith, append_assoc, length-append}
+use Rattle.std.proofs.lemmas.List.{append-nil, length-map, map-append}
 use Rattle.std.specs.FinMap.{get, insert}
 use Rattle.rtmfp_base.proofs.Maps.{get_inserted, insert_twice}
 use Rattle.end_state.proofs.InSession.{insert_found}
@@ -28,8 +28,10 @@ use Rattle.flow_send.specs.Acks.{told}
 use Rattle.session_flows.specs.Keeping.{FlowsState, Stated, Abandoned, Did as FlowsDid, sending_at, with_flow, with_sending}
 use Rattle.session_flows.specs.Chunks.{data_taken, data_done, most_ready, rejecting_by, all_abandoned, without_messages, numbers_of, finished_at, last_by}
 use Rattle.session_flows.specs.Handing.{hands, hands_once}
+use Rattle.session_flows.specs.Judged.{IsJudged}
+use Rattle.session_flows.specs.declared.judged.JudgedData.{JudgedData}
 use Rattle.session_flows.proofs.Enough.{done_enough, nothing_more}
-use Rattle.session_table.specs.Chunks.{handed_in}
+use Rattle.session_table.specs.Chunks.{handed_in, rejected_in}
 use Rattle.endpoint_model.specs.declared.row.Row.{Row}
 use Rattle.endpoint_model.specs.Added.{Added}
 use Rattle.endpoint_model.specs.State.{State, Did, Done, nothing, after_entries, then_do, with_sessions, Sessions}
@@ -37,7 +39,7 @@ use Rattle.endpoint_model.specs.declared.entry.Entry.{Entry}
 use Rattle.endpoint_model.specs.OnFlows.{flow_entry, flows_done, with_flows}
 use Rattle.endpoint_model.specs.FlowChunks.{flow_taken, flow_taken_by, is_of_flows, states_nothing}
 use Rattle.endpoint_model.proofs.Steps.{done_nothing, joined}
-use Rattle.end_chunks.specs.FlowChunks.{ack_heard, probe_heard, rejected, rejected_by, data_kept, handed_by, handed_once_by, read_cause_at}
+use Rattle.end_chunks.specs.FlowChunks.{ack_heard, probe_heard, rejected, data_kept, handed_by, handed_once_by, read_cause_at}
 
 -- ---- acks, buffer probes and exceptions
 
@@ -179,13 +181,17 @@ module _ (s : FlowsState) (id : ℕ) where
       ap (λ (x : Sender). with_flow s id (with_sender f x)) left ∙ ap (with_sending s) (set_same s.sending id f found) in
       (λ i. record { flows = as_is i; stated = e i })
 
-pub rejected_nothing : (s : State) (near flow : ℕ) (o : Option Row) → get s.sessions near ≡ o → rejected_by o flow ≡ [] → rejected s near flow o ≡ nothing s
+pub rejected_nothing : (s : State) (near flow : ℕ) (o : Option Row) → get s.sessions near ≡ o → rejected_in flow o ≡ [] → rejected s near flow o ≡ nothing s
 rejected_nothing s near flow None found none = refl
 rejected_nothing s near flow (Some row) found none =
     ap (flows_done s near row) (rejects_nothing row.flows flow (sending_at row.flows flow) refl none)
     ∙ ap (λ (m : Sessions). record { state = with_sessions s m; entries = [] }) (insert_found s.sessions near row found)
 
 -- ---- data, by what is kept under the session ID
+
+pub most_judged : (o : Option Row) (judged : JudgedData) (user : UserParts) → IfSome o (λ row. IsJudged judged row.flows user) → IfSome o (λ row. judged.most ≡ most_ready row.flows user.flow)
+most_judged None judged user h = tt
+most_judged (Some row) judged user h = h.most
 
 pub data_by : (s t u : State) (near most : ℕ) (user : UserParts) (before after : Added) → IfSome (get s.sessions near) (λ row. most ≡ most_ready row.flows user.flow) →
     t ≡ data_kept s near user (get s.sessions near) → Done (handed_by t near user.flow most (get t.sessions near)) u before after → Done (flow_taken_by s near (Data user) (get s.sessions near)) u before after
@@ -222,9 +228,34 @@ no_length : {A : Type 0} (xs : List A) → length xs ≡ 0 → xs ≡ []
 no_length [] e = refl
 no_length (x ∷ xs) e = absurd (omega (arith, e))
 
-pub reject_done : (s : State) (near flow : ℕ) (out : Added) → length (rejected_by (get s.sessions near) flow) ≡ 0 → Done (rejected s near flow (get s.sessions near)) s out out
+pub reject_done : (s : State) (near flow : ℕ) (out : Added) → length (rejected_in flow (get s.sessions near)) ≡ 0 → Done (rejected s near flow (get s.sessions near)) s out out
 reject_done s near flow out none =
-    subst (λ (d : Did). Done d s out out) (sym (rejected_nothing s near flow (get s.sessions near) refl (no_length (rejected_by (get s.sessions near) flow) none))) (done_nothing s out)
+    subst (λ (d : Did). Done d s out out) (sym (rejected_nothing s near flow (get s.sessions near) refl (no_length (rejected_in flow (get s.sessions near)) none))) (done_nothing s out)
+
+-- what an exception states is told: the messages that it abandons, and then the end of the flow
+pub rejected_done : (s t : State) (near flow : ℕ) (numbers : List ℕ) (last : Option ℕ) (before between after : Added) → t ≡ (rejected s near flow (get s.sessions near)).state →
+    rejected_in flow (get s.sessions near) ≡ map (Abandoned flow) numbers ++ finished_at flow last → between.entries ≡ before.entries ++ map (flow_entry near) (map (Abandoned flow) numbers) →
+    after.entries ≡ between.entries ++ map (flow_entry near) (finished_at flow last) → before.free ≤ after.free + (length numbers + length (finished_at flow last)) → after.room ≡ before.room →
+    Done (rejected s near flow (get s.sessions near)) t before after
+rejected_done s t near flow numbers last before between after state stated first second free room =
+    let told : List Stated = map (Abandoned flow) numbers ++ finished_at flow last in
+    let entries : (rejected s near flow (get s.sessions near)).entries ≡ map (flow_entry near) told = of (get s.sessions near) ∙ ap (λ (xs : List Stated). map (flow_entry near) xs) stated in
+    let count : length (rejected s near flow (get s.sessions near)).entries ≡ length numbers + length (finished_at flow last) =
+    ap (λ (xs : List Entry). length xs) entries ∙ length-map told (flow_entry near) ∙ length-append (map (Abandoned flow) numbers) (finished_at flow last)
+    ∙ ap (λ (n : ℕ). n + length (finished_at flow last)) (length-map numbers (Abandoned flow)) in
+    record {
+      state = state;
+      entries =
+          second ∙ ap (λ (xs : List Entry). xs ++ map (flow_entry near) (finished_at flow last)) first
+          ∙ append_assoc before.entries (map (flow_entry near) (map (Abandoned flow) numbers)) (map (flow_entry near) (finished_at flow last))
+          ∙ ap (λ (xs : List Entry). before.entries ++ xs) (sym (entries ∙ map-append (flow_entry near) (map (Abandoned flow) numbers) (finished_at flow last)));
+      free = omega (arith, free, count);
+      room = room;
+    }
+  where
+    of : (o : Option Row) → (rejected s near flow o).entries ≡ map (flow_entry near) (rejected_in flow o)
+    of None = refl
+    of (Some row) = refl
 
 -- ---- why a chunk of flows isn't taken
 

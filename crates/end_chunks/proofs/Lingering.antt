@@ -6,13 +6,15 @@ use Rattle.rtmfp_chunks.specs.Writing.{chunk_bytes}
 use Rattle.glare_core.specs.declared.facts.Why.TheVariants.{Far}
 use Rattle.session_core.specs.Closing.{is_held, asked_to_close}
 use Rattle.endpoint_model.specs.declared.row.Row.{Row}
+use Rattle.endpoint_model.specs.declared.entry.Entry.{Entry}
 use Rattle.endpoint_model.specs.Added.{Added}
 use Rattle.endpoint_model.specs.State.{State, Did, Done, nothing, with_session}
 use Rattle.endpoint_model.specs.InSessions.{held_row, if_held, ended_as, lingering, close_taken_by, sent_home}
-use Rattle.endpoint_model.proofs.Steps.{done_nothing, joined}
-use Rattle.end_state.specs.Steps.{session_changed, end_told}
+use Rattle.endpoint_model.proofs.Steps.{joined}
+use Rattle.end_state.specs.Steps.{Gives, session_changed, end_told}
 use Rattle.end_chunks.specs.Steps.{lingering_by}
-use Rattle.end_state.proofs.Endings.{ended_done, held_is, none_home}
+use Rattle.end_state.proofs.Endings.{ended_gives, held_is, none_home}
+use Rattle.end_state.proofs.Giving.{gives_nothing}
 
 -- ---- its peer closes it
 
@@ -21,26 +23,26 @@ lingers_as : (s : State) (near : ℕ) (row : Row) (b : Bool) → is_held row.ses
 lingers_as s near row b e =
     ap (λ (x : Bool). if x then ended_as s near row Far (asked_to_close s.moment row.session) else nothing (with_session s near row (asked_to_close s.moment row.session))) (sym e)
 
-pub held_lingers : (s t u : State) (near : ℕ) (before after : Added) → is_some (held_row s near) ≡ true → Done (end_told s Far (get s.sessions near)) t before after →
-    u ≡ session_changed asked_to_close t near (get t.sessions near) → Done (lingering_by s near (get s.sessions near)) u before after
-held_lingers s t u near before after held told changed =
+pub held_lingers : (s t u : State) (near : ℕ) (entry : Option Entry) → is_some (held_row s near) ≡ true → Gives (end_told s Far (get s.sessions near)) t entry →
+    u ≡ session_changed asked_to_close t near (get t.sessions near) → Gives (lingering_by s near (get s.sessions near)) u entry
+held_lingers s t u near entry held told changed =
     let found = held_is (get s.sessions near) held in
-    let ended = ended_done s t u near Far asked_to_close found.row before after found.is told changed in
-    subst (λ (o : Option Row). Done (lingering_by s near o) u before after) (sym found.is) (subst (λ (d : Did). Done d u before after) (lingers_as s near found.row true found.stage) ended)
+    let ended = ended_gives s t u near Far asked_to_close found.row entry found.is told changed in
+    subst (λ (o : Option Row). Gives (lingering_by s near o) u entry) (sym found.is) (subst (λ (d : Did). Gives d u entry) (lingers_as s near found.row true found.stage) ended)
 
-pub other_lingers : (s u : State) (near : ℕ) (out : Added) → is_some (held_row s near) ≡ false → u ≡ session_changed asked_to_close s near (get s.sessions near) →
-    Done (lingering_by s near (get s.sessions near)) u out out
-other_lingers s u near out held changed = by (get s.sessions near) held changed refl
+pub other_lingers : (s u : State) (near : ℕ) → is_some (held_row s near) ≡ false → u ≡ session_changed asked_to_close s near (get s.sessions near) →
+    Gives (lingering_by s near (get s.sessions near)) u None
+other_lingers s u near held changed = by (get s.sessions near) held changed refl
   where
     stage : (row : Row) (b : Bool) → is_held row.session.stage ≡ b → is_some (if b then Some row else None) ≡ false → is_held row.session.stage ≡ false
     stage row true is e = absurd (cc)
     stage row false is e = is
 
-    by : (o : Option Row) → is_some (if_held o) ≡ false → u ≡ session_changed asked_to_close s near o → get s.sessions near ≡ o → Done (lingering_by s near o) u out out
-    by None e changed is = subst (λ (x : State). Done (nothing s) x out out) (sym changed) (done_nothing s out)
+    by : (o : Option Row) → is_some (if_held o) ≡ false → u ≡ session_changed asked_to_close s near o → get s.sessions near ≡ o → Gives (lingering_by s near o) u None
+    by None e changed is = subst (λ (x : State). Gives (nothing s) x None) (sym changed) (gives_nothing s)
     by (Some row) e changed is =
-        subst (λ (d : Did). Done d u out out) (lingers_as s near row false (stage row (is_held row.session.stage) refl e))
-        (subst (λ (x : State). Done (nothing (with_session s near row (asked_to_close s.moment row.session))) x out out) (sym changed) (done_nothing (with_session s near row (asked_to_close s.moment row.session)) out))
+        subst (λ (d : Did). Gives d u None) (lingers_as s near row false (stage row (is_held row.session.stage) refl e))
+        (subst (λ (x : State). Gives (nothing (with_session s near row (asked_to_close s.moment row.session))) x None) (sym changed) (gives_nothing (with_session s near row (asked_to_close s.moment row.session))))
 
 pub taken_close : (s t u : State) (near : ℕ) (before between after : Added) → Done (lingering_by s near (get s.sessions near)) t before between →
     Done (sent_home t near (chunk_bytes CloseAck)) u between after → Done (close_taken_by s near (get s.sessions near)) u before after

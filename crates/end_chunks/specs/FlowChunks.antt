@@ -1,5 +1,5 @@
 -- A chunk of flows, as it was read, at the place that it came at.
-use Rattle.std.specs.Prelude.{ℕ, not, List, [], ◌∷◌}
+use Rattle.std.specs.Prelude.{ℕ, not, [], ◌∷◌}
 use Rattle.std.specs.Prelude.{Option, Some, None, Result}
 use Rattle.std.specs.FinMap.{get}
 use Rattle.glare_core.specs.Calls.{where_true, first_that_stands}
@@ -10,8 +10,7 @@ use Rattle.startup.specs.declared.cause.Cause.TheVariants.{WrongPlace}
 use Rattle.session_flows.specs.declared.cause.FlowCause.{FlowCause}
 use Rattle.session_flows.specs.declared.cause.FlowCause.TheVariants.{WrongState}
 use Rattle.flow_send.specs.Acks.{Told}
-use Rattle.session_flows.specs.Keeping.{Stated}
-use Rattle.session_flows.specs.Causes.{chunk_cause, ack_cause, exception_cause}
+use Rattle.session_flows.specs.Causes.{ack_cause}
 use Rattle.session_flows.specs.Chunks.{data_taken, heard, session_heard, probed, rejecting}
 use Rattle.session_flows.specs.Handing.{hands, hands_once}
 use Rattle.endpoint_model.specs.declared.row.Row.{Row}
@@ -27,11 +26,6 @@ read_cause_at s place read = first_that_stands (data_fault read
     ∷ where_true (not (is_session place)) WrongPlace
     ∷ flow_cause (get s.sessions (sid_at place)) read
     ∷ [])
-
--- the cause in its session: one that isn't there takes none
-abbrev pub cause_in : Option Row → DataChunk → Option FlowCause
-cause_in None chunk = Some WrongState
-cause_in (Some row) chunk = chunk_cause row.session row.flows chunk
 
 -- a data chunk was taken, and nothing handed over yet
 abbrev pub data_kept : State → ℕ → UserParts → Option Row → State
@@ -66,15 +60,7 @@ abbrev pub probe_heard : State → ℕ → ℕ → Option Row → State
 probe_heard s near flow None = s
 probe_heard s near flow (Some row) = with_flows s near row (probed row.flows flow)
 
-abbrev pub exception_cause_in : Option Row → ℕ → Option FlowCause
-exception_cause_in None flow = Some WrongState
-exception_cause_in (Some row) flow = exception_cause row.session row.flows flow
-
--- what an exception states, and what it does
-abbrev pub rejected_by : Option Row → ℕ → List Stated
-rejected_by None flow = []
-rejected_by (Some row) flow = (rejecting row.flows flow).stated
-
+-- what an exception does
 abbrev pub rejected : State → ℕ → ℕ → Option Row → Did
 rejected s near flow None = nothing s
 rejected s near flow (Some row) = flows_done s near row (rejecting row.flows flow)

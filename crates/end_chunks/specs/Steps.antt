@@ -1,20 +1,10 @@
--- What a close of the peer and the test of an address leave, by the row that is kept under the
--- session ID.
-use Rattle.std.specs.Prelude.{ℕ, List, Option, Some, None}
-use Rattle.rtmfp_forms.specs.Address.{AddressParts}
-use Rattle.mobility.specs.Tests.{after_seen}
+-- What a close of the peer leaves, by the row that is kept under the session ID.
+use Rattle.std.specs.Prelude.{ℕ, Option, Some, None}
 use Rattle.endpoint_model.specs.declared.row.Row.{Row}
-use Rattle.endpoint_model.specs.State.{State, Did, nothing, with_row}
+use Rattle.endpoint_model.specs.State.{State, Did, nothing}
 use Rattle.endpoint_model.specs.InSessions.{lingering}
 
 -- It lingers from a close of the peer on.
 abbrev pub lingering_by : State → ℕ → Option Row → Did
 lingering_by s near None = nothing s
 lingering_by s near (Some row) = lingering s near row
-
--- a test of an address is pending
-abbrev pub test_pending : State → ℕ → AddressParts → List ℕ → Option Row → State
-test_pending s near from token None = s
-test_pending s near from token (Some row) = with_row s near (record row {
-  moves = after_seen row.moves row.session.address from token s.moment;
-})

@@ -19,7 +19,7 @@ ghost use Rattle.end_chunks.specs.Judging.{IsSo, verdict_did};
 
 use crate::closing::take_close;
 use crate::flows::{Untaken, is_of_flows, take_read};
-use crate::introducing::{introduce, take_redirect};
+use crate::introducing::{extend, introduce};
 use crate::judging::{Verdict, judge, sid_at};
 use crate::keyings::{initiator_keyed, responder_keyed};
 use crate::moving::take_ping_reply;
@@ -55,7 +55,16 @@ fn apply(
             near,
             row,
         } => introduce(end, *near, row, epd, tag, from, out),
-        Verdict::Redirect { extension } => take_redirect(end, extension, out),
+        Verdict::Redirect { extension } => {
+            let hellos = extend(end, extension, out)?;
+            end.send_each(
+                hellos.blanks,
+                hellos.spread.addresses(),
+                &hellos.spread.plain,
+                out,
+            );
+            Ok(())
+        }
         Verdict::ResponderHello { found, cookie } => take_hello(end, *found, cookie, from, out),
         Verdict::CookieChange { found, new } => change_cookie(end, *found, new, out),
         Verdict::InitiatorKeying { fields, hearing } => {
@@ -88,7 +97,7 @@ fn answer_hello(
     out.make_room(1)?;
     let blank = blank(end.alloc)?;
     let answer = end.startup.apply_hello(tag, to, end.moment);
-    end.send_answer(blank, &answer, out);
+    out.add_some(end.seal_answer(blank, &answer));
     Ok(())
 }
 
@@ -116,7 +125,7 @@ fn take_hello(
     let answer = end
         .startup
         .apply_responder_hello(found, cookie, from, end.moment);
-    end.send_answer(blank, &answer, out);
+    out.add_some(end.seal_answer(blank, &answer));
     Ok(())
 }
 
@@ -140,7 +149,7 @@ fn change_cookie(
     out.make_room(1)?;
     let blank = blank(end.alloc)?;
     let answer = end.startup.apply_cookie_change(found, new, end.moment);
-    end.send_answer(blank, &answer, out);
+    out.add_some(end.seal_answer(blank, &answer));
     Ok(())
 }
 
@@ -161,7 +170,7 @@ fn reply(
 {
     out.make_room(1)?;
     let blank = blank(end.alloc)?;
-    end.send_in_session(blank, near, to, chunk, out);
+    out.add_some(end.seal_in_session(blank, near, to, chunk));
     Ok(())
 }
 

@@ -1,12 +1,14 @@
 //! Closes of a session by its peer (RFC 7016 section 3.5.5; the times are own).
 
-ghost use Rattle.std.specs.Prelude.{◌<◌, ◌≤◌, ◌+◌, OnErr, OnOk};
+ghost use Rattle.std.specs.Prelude.{OnErr, OnOk};
 ghost use Rattle.std.specs.FinMap.{get};
 ghost use Rattle.endpoint_model.specs.InSessions.{close_taken_by};
-ghost use Rattle.end_chunks.specs.Steps.{lingering_by};
 ghost use Rattle.endpoint_model.specs.State.{Done, nothing};
+ghost use Rattle.end_state.specs.Steps.{Gives};
+ghost use Rattle.end_chunks.specs.Steps.{lingering_by};
 
 use end_state::{EndState, Outbox, blank};
+use endpoint_model::Entry;
 use glare_core::Why;
 use rtmfp_chunks::ChunkView;
 use std::alloc::AllocError;
@@ -19,22 +21,21 @@ pub(crate) fn take_close(end: &mut EndState, near: u32, out: &mut Outbox) -> Res
 {
     out.make_room(2)?;
     let blank = blank(end.alloc)?;
-    end_by_peer(end, near, out);
-    end.send_home(blank, near, &ChunkView::CloseAck, out);
+    out.add_some(end_by_peer(end, near));
+    out.add_some(end.seal_home(blank, near, &ChunkView::CloseAck));
     Ok(())
 }
 
-/// The session lingers; where it was held it ends, for which there is room.
-fn end_by_peer(end: &mut EndState, near: u32, out: &mut Outbox)
-    requires { 0 < out.old.free }
-    ensures done { Done (lingering_by end.old near (get end.old.sessions near)) end.new
-        out.old out.new }
-    ensures room { out.old.free ≤ out.new.free + 1 }
+/// The session lingers. Where it was held it ends, and the entry that tells this is given.
+fn end_by_peer(end: &mut EndState, near: u32) -> Option<Entry>
+    ensures { Gives (lingering_by end.old near (get end.old.sessions near)) end.new result }
 {
     if end.holds(near) {
-        end.tell_end(near, Why::Far, out);
+        let told = end.end_session(near, Why::Far);
         end.linger(near);
+        told
     } else {
         end.linger(near);
+        None
     }
 }

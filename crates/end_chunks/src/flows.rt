@@ -6,31 +6,31 @@ ghost use Rattle.std.specs.Prelude.{◌≡◌, ◌<◌, ◌≤◌, ◌+◌, ◌^
 ghost use Rattle.std.specs.Prelude.{IsOk, IsSome, MatchOption, None, Ok, OnErr, OnOk, Some, false};
 ghost use Rattle.std.specs.Prelude.{length, map, option_to_list, true};
 ghost use Rattle.std.specs.Option.{option_map};
-ghost use Rattle.session_table.specs.Chunks.{handed_in, waiting_in};
+ghost use Rattle.session_table.specs.Chunks.{cause_in, handed_in, rejected_in, waiting_in};
 ghost use Rattle.std.specs.FinMap.{get};
 ghost use Rattle.rtmfp_data_chunks.specs.Chunk.{Data, Probe, data_chunk, user_parts};
 ghost use Rattle.rtmfp_data_chunks.specs.Spelling.{IsBehind, shown};
 ghost use Rattle.rtmfp_data_chunks.specs.Writing.{IsDataChunk};
 ghost use Rattle.flow_send.specs.Acks.{told};
 ghost use Rattle.session_flows.specs.Keeping.{Abandoned};
-ghost use Rattle.session_flows.specs.Chunks.{finished_at, most_ready};
+ghost use Rattle.session_flows.specs.Causes.{exception_cause};
+ghost use Rattle.session_flows.specs.Chunks.{finished_at};
+ghost use Rattle.session_flows.specs.Judged.{IsJudged};
 ghost use Rattle.endpoint_model.specs.Added.{IsShort};
-ghost use Rattle.endpoint_model.specs.OnFlows.{flow_entry};
 ghost use Rattle.endpoint_model.specs.FlowChunks.{data_fault, flow_taken, flow_taken_by};
 ghost use Rattle.endpoint_model.specs.FlowChunks.{is_of_flows, states_nothing, taking_cause};
 ghost use Rattle.endpoint_model.specs.FlowChunks.{told_cause};
 ghost use Rattle.endpoint_model.specs.State.{Done, nothing};
 ghost use Rattle.endpoint_model.specs.Admission.{sid_at};
-ghost use Rattle.end_chunks.specs.FlowChunks.{ack_cause_in, ack_heard, cause_in};
-ghost use Rattle.end_chunks.specs.FlowChunks.{data_kept, exception_cause_in};
+ghost use Rattle.end_chunks.specs.FlowChunks.{ack_cause_in, ack_heard, data_kept};
 ghost use Rattle.end_chunks.specs.FlowChunks.{handed_once_by, probe_heard};
-ghost use Rattle.end_chunks.specs.FlowChunks.{read_cause_at, rejected, rejected_by};
+ghost use Rattle.end_chunks.specs.FlowChunks.{read_cause_at, rejected};
 
 use end_state::{EndState, Outbox};
 use endpoint_model::{Entry, Place};
 use rtmfp_data_chunks::kinds::*;
 use rtmfp_data_chunks::{AckedSpans, DataFault, DataView, UserData};
-use session_flows::FlowCause;
+use session_flows::{FlowCause, JudgedData};
 use startup::Cause;
 use std::alloc::AllocError;
 
@@ -122,25 +122,6 @@ pub(crate) fn take_read(
     }
 }
 
-/// Why a data or next chunk is discarded; or how many messages are handed over at most, if it is
-/// taken.
-fn judge_data(end: &EndState, near: u32, user: &UserData<'_>) -> Result<usize, FlowCause>
-    ensures none { OnOk result (cause_in (get end.now.sessions near) (Data (user_parts user.now))
-        ≡ None) }
-    ensures most { IfOk result (λ most. IfSome (get end.now.sessions near)
-        (λ row. most ≡ most_ready row.flows user.now.flow)) }
-    ensures refused { IfErr result (λ cause. cause_in (get end.now.sessions near)
-        (Data (user_parts user.now)) ≡ Some cause) }
-{
-    let Some(row) = end.sessions.row(near) else {
-        return Err(FlowCause::WrongState);
-    };
-    match row.flows.data_cause(&row.session, user) {
-        Some(cause) => Err(cause),
-        None => Ok(row.flows.most_ready(user.flow)),
-    }
-}
-
 /// Takes a data or next chunk, and hands over the messages that are ready then. Room for them is
 /// found before, so that none is left.
 fn take_data(
@@ -157,15 +138,16 @@ fn take_data(
         (λ c. result ≡ Err (Untaken.Cause c)) }
     ensures err { OnErr result (Done (nothing end.old) end.new out.old out.new) }
 {
-    let most = match judge_data(end, near, user) {
-        Ok(most) => most,
+    let judged = match end.sessions.judge_data(near, user) {
+        Ok(judged) => judged,
         Err(cause) => return Err(Untaken::Cause(told_cause(cause))),
     };
+    let most = judged.most;
     match out.make_room(most) {
         Ok(()) => {}
         Err(_) => return Err(Untaken::Memory),
     }
-    match keep_data(end, near, user) {
+    match keep_data(end, near, judged, user) {
         Ok(()) => {}
         Err(_) => return Err(Untaken::Memory),
     }
@@ -178,18 +160,22 @@ fn take_data(
     Ok(())
 }
 
-/// Takes a data or next chunk that nothing refuses, and hands nothing over yet.
-fn keep_data(end: &mut EndState, near: u32, user: &UserData<'_>) -> Result<(), AllocError>
+/// Takes a data or next chunk that was judged and that nothing refuses, and hands nothing over yet.
+fn keep_data(
+    end: &mut EndState,
+    near: u32,
+    judged: JudgedData,
+    user: &UserData<'_>,
+) -> Result<(), AllocError>
     requires low { user.now.forward ≤ user.now.seq }
     requires below { user.now.abandon ≡ false → user.now.forward < user.now.seq }
+    requires judged { IfSome (get end.old.sessions near)
+        (λ row. IsJudged judged row.flows (user_parts user.now)) }
     ensures ok { OnOk result (end.new ≡ data_kept end.old near (user_parts user.now)
         (get end.old.sessions near)) }
     ensures err { OnErr result (end.new ≡ end.old) }
 {
-    match end.sessions.take_data(near, user) {
-        Ok(()) => Ok(()),
-        Err(_) => Err(AllocError),
-    }
+    end.sessions.apply_data(near, judged, user)
 }
 
 /// The entry of the next message of a flow, which counts as handed over from now on; none where
@@ -249,23 +235,13 @@ fn take_probe(end: &mut EndState, near: u32, flow: u64) -> Result<(), Untaken>
     }
 }
 
-/// Why an exception is discarded; or how many entries it adds, if it is taken.
-fn judge_exception(end: &EndState, near: u32, flow: u64) -> Result<usize, FlowCause>
-    ensures taken { OnOk result (exception_cause_in (get end.now.sessions near) flow ≡ None) }
-    ensures count { IfOk result (λ count. count < 2 ^ 63 →
-        length (rejected_by (get end.now.sessions near) flow) ≡ count) }
-    ensures none { rejected_by (get end.now.sessions near) flow ≡ [] →
-        IfOk result (λ count. count ≡ 0) }
-    ensures refused { IfErr result (λ cause. exception_cause_in (get end.now.sessions near) flow
-        ≡ Some cause) }
-{
-    let Some(row) = end.sessions.row(near) else {
-        return Err(FlowCause::WrongState);
-    };
-    match row.flows.exception_cause(&row.session, flow) {
-        Some(cause) => Err(cause),
-        None => Ok(row.flows.most_rejected(flow)),
-    }
+/// What an exception states.
+#[derive(Drop)]
+struct Rejection {
+    /// The numbers of the messages that it abandons.
+    numbers: Vec<u64>,
+    /// The last number of the flow, if it wasn't finished before.
+    last: Option<u64>,
 }
 
 /// Takes an exception, by which the other end rejects a flow: its messages that wait are
@@ -274,77 +250,19 @@ fn reject(end: &mut EndState, near: u32, flow: u64, out: &mut Outbox) -> Result<
     ensures ok { OnOk result (Done (rejected end.old near flow (get end.old.sessions near)) end.new
         out.old out.new) }
     ensures cause { MatchOption (option_map told_cause
-        (exception_cause_in (get end.old.sessions near) flow))
+        (cause_in (λ s f. exception_cause s f flow) (get end.old.sessions near)))
         (IfErr result (λ e. e ≡ Untaken.Memory)) (λ c. result ≡ Err (Untaken.Cause c)) }
     ensures err { OnErr result (Done (nothing end.old) end.new out.old out.new) }
-    ensures quiet { rejected_by (get end.old.sessions near) flow ≡ [] →
-        exception_cause_in (get end.old.sessions near) flow ≡ None → IsOk result }
+    ensures quiet { rejected_in flow (get end.old.sessions near) ≡ [] →
+        cause_in (λ s f. exception_cause s f flow) (get end.old.sessions near) ≡ None →
+        IsOk result }
 {
-    let count = match judge_exception(end, near, flow) {
-        Ok(count) => count,
-        Err(cause) => return Err(Untaken::Cause(told_cause(cause))),
+    let rejection = match take_exception(end, near, flow, out) {
+        Ok(rejection) => rejection,
+        Err(untaken) => return Err(untaken),
     };
-    if count == 0 {
-        return Ok(());
-    }
-    match out.make_room(count) {
-        Ok(()) => {}
-        Err(_) => return Err(Untaken::Memory),
-    }
-    let mut numbers = Vec::new(end.alloc);
-    match take_exception(end, near, flow, &mut numbers) {
-        Ok(last) => tell_rejected(near, flow, &numbers, last, out),
-        Err(_) => return Err(Untaken::Memory),
-    }
-    Ok(())
-}
-
-/// Takes an exception that nothing refuses, and puts the numbers of the messages that it abandons
-/// at the end of a list.
-fn take_exception(
-    end: &mut EndState,
-    near: u32,
-    flow: u64,
-    numbers: &mut Vec<u64>,
-) -> Result<Option<u64>, AllocError>
-    ensures state { OnOk result (end.new ≡ (rejected end.old near flow
-        (get end.old.sessions near)).state) }
-    ensures numbers { OnOk result (numbers.new.items ≡ numbers.old.items
-        ++ waiting_in flow (get end.old.sessions near)) }
-    ensures stated { IfOk result (λ last. rejected_by (get end.old.sessions near) flow
-        ≡ map (Abandoned flow) (waiting_in flow (get end.old.sessions near))
-        ++ finished_at flow last) }
-    ensures err { OnErr result (end.new ≡ end.old) }
-{
-    let Ok(last) = end.sessions.take_exception(near, flow, numbers) else {
-        return Err(AllocError);
-    };
-    Ok(last)
-}
-
-/// Tells that the messages of a flow with these numbers are abandoned, and that it is finished, if
-/// it wasn't; there is room for that.
-fn tell_rejected(near: u32, flow: u64, numbers: &[u64], last: Option<u64>, out: &mut Outbox)
-    requires { length numbers.now + length (finished_at flow last) ≤ out.old.free }
-    ensures entries { out.new.entries ≡ out.old.entries ++ map (flow_entry near)
-        (map (Abandoned flow) numbers.now ++ finished_at flow last) }
-    ensures free { out.old.free ≤ out.new.free + (length numbers.now
-        + length (finished_at flow last)) }
-    ensures room { out.new.room ≡ out.old.room }
-{
-    tell_abandoned(near, flow, numbers, out);
-    if let Some(seq) = last {
-        out.add(Entry::Finished { near, flow, seq });
-    }
-}
-
-fn tell_abandoned(near: u32, flow: u64, numbers: &[u64], out: &mut Outbox)
-    requires { length numbers.now ≤ out.old.free }
-    ensures entries { out.new.entries ≡ out.old.entries ++ map (flow_entry near)
-        (map (Abandoned flow) numbers.now) }
-    ensures free { out.old.free ≤ out.new.free + length numbers.now }
-    ensures room { out.new.room ≡ out.old.room }
-{
+    let last = rejection.last;
+    let numbers = rejection.numbers.as_slice();
     for index in 0..numbers.len() {
         out.add(Entry::Abandoned {
             near,
@@ -352,4 +270,74 @@ fn tell_abandoned(near: u32, flow: u64, numbers: &[u64], out: &mut Outbox)
             seq: numbers[index],
         });
     }
+    if let Some(seq) = last {
+        out.add(Entry::Finished { near, flow, seq });
+    }
+    Ok(())
+}
+
+/// Takes an exception, or says why it is discarded, and finds room for what it states.
+fn take_exception(
+    end: &mut EndState,
+    near: u32,
+    flow: u64,
+    out: &mut Outbox,
+) -> Result<Rejection, Untaken>
+    ensures state { OnOk result (end.new ≡ (rejected end.old near flow
+        (get end.old.sessions near)).state) }
+    ensures stated { IfOk result (λ rejection. rejected_in flow (get end.old.sessions near)
+        ≡ map (Abandoned flow) rejection.numbers.items ++ finished_at flow rejection.last) }
+    ensures space { IfOk result (λ rejection. length rejection.numbers.items
+        + length (finished_at flow rejection.last) ≤ out.new.free) }
+    ensures entries { out.new.entries ≡ out.old.entries }
+    ensures free { out.old.free ≤ out.new.free }
+    ensures room { out.new.room ≡ out.old.room }
+    ensures cause { MatchOption (option_map told_cause
+        (cause_in (λ s f. exception_cause s f flow) (get end.old.sessions near)))
+        (IfErr result (λ e. e ≡ Untaken.Memory)) (λ c. result ≡ Err (Untaken.Cause c)) }
+    ensures err { OnErr result (end.new ≡ end.old) }
+    ensures quiet { rejected_in flow (get end.old.sessions near) ≡ [] →
+        cause_in (λ s f. exception_cause s f flow) (get end.old.sessions near) ≡ None →
+        IsOk result }
+{
+    let count = match end.sessions.judge_exception(near, flow) {
+        Ok(count) => count,
+        Err(cause) => return Err(Untaken::Cause(told_cause(cause))),
+    };
+    let mut numbers = Vec::new(end.alloc);
+    if count == 0 {
+        return Ok(Rejection {
+            numbers,
+            last: None,
+        });
+    }
+    match out.make_room(count) {
+        Ok(()) => {}
+        Err(_) => return Err(Untaken::Memory),
+    }
+    match keep_exception(end, near, flow, &mut numbers) {
+        Ok(last) => Ok(Rejection { numbers, last }),
+        Err(_) => Err(Untaken::Memory),
+    }
+}
+
+/// Takes an exception that nothing refuses, and puts the numbers of the messages that it abandons
+/// at the end of a list. The flow's last number is given, if it wasn't finished before.
+fn keep_exception(
+    end: &mut EndState,
+    near: u32,
+    flow: u64,
+    numbers: &mut Vec<u64>,
+) -> Result<Option<u64>, AllocError>
+    requires { IfSome (get end.old.sessions near) (λ row. flow < length row.flows.sending) }
+    ensures state { OnOk result (end.new ≡ (rejected end.old near flow
+        (get end.old.sessions near)).state) }
+    ensures numbers { OnOk result (numbers.new.items ≡ numbers.old.items
+        ++ waiting_in flow (get end.old.sessions near)) }
+    ensures stated { IfOk result (λ last. rejected_in flow (get end.old.sessions near)
+        ≡ map (Abandoned flow) (waiting_in flow (get end.old.sessions near))
+        ++ finished_at flow last) }
+    ensures err { OnErr result (end.new ≡ end.old) }
+{
+    end.sessions.apply_exception(near, flow, numbers)
 }

@@ -1,6 +1,6 @@
 //! What an end does for others as an introducer, and redirects of its own attempts.
 
-ghost use Rattle.std.specs.Prelude.{◌≡◌, ◌<◌, ◌≤◌, ◌+◌, IfErr, IfOk, None, Ok, OnErr, OnOk};
+ghost use Rattle.std.specs.Prelude.{◌≡◌, ◌≤◌, All, IfErr, IfOk, None, Ok, OnErr, OnOk};
 ghost use Rattle.std.specs.Prelude.{Some, length};
 ghost use Rattle.identity.specs.declared.discriminator.Epd.{Epd};
 ghost use Rattle.identity.specs.Discriminators.{discriminator_of};
@@ -11,19 +11,19 @@ ghost use Rattle.startup.specs.Attempts.{wide};
 ghost use Rattle.startup.specs.Redirects.{adds, redirect_cause};
 ghost use Rattle.startup.specs.Judging.{after_extension_of, extension_spread, Extends, found_in};
 ghost use Rattle.endpoint_model.specs.Effects.{forwarded, hello_reply, read_done, replied};
-ghost use Rattle.endpoint_model.specs.Effects.{sent_spread_if};
 ghost use Rattle.endpoint_model.specs.Introducing.{hello_cause, redirect_of};
 ghost use Rattle.endpoint_model.specs.Sending.{sent_if};
 ghost use Rattle.endpoint_model.specs.State.{Done, nothing, then_do, with_startup};
+ghost use Rattle.end_state.specs.Steps.{Gives};
 ghost use Rattle.end_chunks.specs.Judging.{Stands};
 
 use crate::judging::Verdict;
 use end_state::{EndState, Outbox, RowAddresses, blank, blanks};
-use endpoint_model::Place;
+use endpoint_model::{Entry, Place};
 use identity::Epd;
 use rtmfp_chunks::ChunkView;
 use rtmfp_forms::Address;
-use startup::{Cause, Extension, redirect_answer, wide};
+use startup::{Cause, Extension, Spread, redirect_answer, wide};
 use std::alloc::AllocError;
 
 /// The origin of an address that an end observed.
@@ -108,7 +108,8 @@ pub(crate) fn judge_redirect<'a>(
     }
 }
 
-/// Forwards a hello, with the address that it came from, where there is a session to forward it in.
+/// The entry of a hello that is forwarded, with the address that it came from, where there is a
+/// session to forward it in.
 fn forward(
     end: &mut EndState,
     blank: Vec<u8>,
@@ -116,25 +117,22 @@ fn forward(
     epd: &[u8],
     tag: &[u8],
     from: &Address,
-    out: &mut Outbox,
-)
+) -> Option<Entry>
     requires blank { length blank.items ≡ 1200 }
-    requires room { 0 < out.old.free }
     requires tag { wide tag.now ≡ None }
     requires selected { (selected : Epd) × (discriminator_of epd.now ≡ Some selected) }
-    ensures done { Done (forwarded end.old near
-        (chunk_bytes (FIHello epd.now (observed from.now) tag.now))) end.new out.old out.new }
-    ensures room { out.old.free ≤ out.new.free + 1 }
+    ensures { Gives (forwarded end.old near
+        (chunk_bytes (FIHello epd.now (observed from.now) tag.now))) end.new result }
 {
     let Some(near) = near else {
-        return;
+        return None;
     };
     let chunk = ChunkView::FIHello {
         epd,
         reply: observed(from),
         tag,
     };
-    end.send_home(blank, near, &chunk, out);
+    end.seal_home(blank, near, &chunk)
 }
 
 /// Does what a hello asks that came from an address and selects another end: it is forwarded in
@@ -158,33 +156,47 @@ pub(crate) fn introduce(
     out.make_room(2)?;
     let first = blank(end.alloc)?;
     let second = blank(end.alloc)?;
-    forward(end, first, near, epd, tag, from, out);
+    out.add_some(forward(end, first, near, epd, tag, from));
     if let Some(row) = row {
         let answer = redirect_answer(tag, row.addresses(), from);
-        end.send_answer(second, &answer, out);
+        out.add_some(end.seal_answer(second, &answer));
     }
     Ok(())
 }
 
-/// Takes a redirect, which adds this to the attempt that was found.
-pub(crate) fn take_redirect(
+/// The hellos that go out for a redirect, and memory for each of them.
+#[derive(Drop)]
+pub(crate) struct Hellos {
+    pub(crate) blanks: Vec<Vec<u8>>,
+    pub(crate) spread: Spread,
+}
+
+/// Takes a redirect, which adds this to the attempt that was found, and gives the hellos that go
+/// out for it, for which it finds room.
+pub(crate) fn extend(
     end: &mut EndState,
     extension: &Extension,
     out: &mut Outbox,
-) -> Result<(), AllocError>
+) -> Result<Hellos, AllocError>
     requires { Extends end.old.startup extension.now }
-    ensures ok { OnOk result
-        (Done (sent_spread_if (with_startup end.old
+    ensures state { OnOk result (end.new ≡ with_startup end.old
         (after_extension_of end.old.startup (found_in end.old.startup extension.now.found)
-        extension.now.new end.old.moment))
-        (extension_spread (found_in end.old.startup extension.now.found) extension.now.new))
-        end.new out.old out.new) }
-    ensures err { OnErr result (Done (nothing end.old) end.new out.old out.new) }
+        extension.now.new end.old.moment)) }
+    ensures spread { IfOk result (λ hellos. extension_spread
+        (found_in end.old.startup extension.now.found) extension.now.new ≡ Some hellos.spread) }
+    ensures blanks { IfOk result (λ hellos. All (λ bytes. length bytes.items ≡ 1200)
+        hellos.blanks.items) }
+    ensures enough { IfOk result (λ hellos. length hellos.spread.to
+        ≤ length hellos.blanks.items) }
+    ensures space { IfOk result (λ hellos. length hellos.spread.to ≤ out.new.free) }
+    ensures entries { out.new.entries ≡ out.old.entries }
+    ensures free { out.old.free ≤ out.new.free }
+    ensures room { out.new.room ≡ out.old.room }
+    ensures err { OnErr result (end.new ≡ end.old) }
 {
     let count = extension.count();
     out.make_room(count)?;
     let blanks = blanks(end.alloc, count)?;
     let spread = end.startup.apply_redirect(extension, end.moment);
-    end.send_each(blanks, spread.addresses(), &spread.plain, out);
-    Ok(())
+    Ok(Hellos { blanks, spread })
 }

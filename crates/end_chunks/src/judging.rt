@@ -351,11 +351,7 @@ fn judge_responder<'a>(
     if !takes(place, RIKEYING) {
         return Err(Cause::WrongPlace);
     }
-    let near = sid_at(place);
-    if !end.startup.has_attempt(near) {
-        return Err(Cause::NoAttempt);
-    }
-    match end.startup.judge_responder_keying(near, &fields) {
+    match end.startup.judge_opening(sid_at(place), &fields) {
         Ok(peer) => Ok(Verdict::ResponderKeying { fields, peer }),
         Err(cause) => Err(cause),
     }

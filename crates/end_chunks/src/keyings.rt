@@ -11,7 +11,7 @@ ghost use Rattle.endpoint_model.specs.Effects.{sessions_opened, without_ended};
 ghost use Rattle.endpoint_model.specs.State.{Done, full, nothing};
 
 use crypto_profile::HmacKey;
-use end_state::{EndState, Outbox, add_fact, blank};
+use end_state::{EndState, Outbox, blank, fact_entry};
 use endpoint_model::{Draws, Entry};
 use glare_core::Fact;
 use rtmfp_chunks::ChunkView;
@@ -46,11 +46,11 @@ pub(crate) fn initiator_keyed(
         .apply_initiator_keying(fields, hearing, from, end.moment, near, draws.nonce)
     {
         Ok(Keyed::Change(answer)) => {
-            end.send_answer(blank, &answer, out);
+            out.add_some(end.seal_answer(blank, &answer));
             Ok(())
         }
         Ok(Keyed::Again(answer)) => {
-            end.send_answer(blank, &answer, out);
+            out.add_some(end.seal_answer(blank, &answer));
             Ok(())
         }
         Ok(
@@ -69,9 +69,9 @@ pub(crate) fn initiator_keyed(
                 &end.secret,
                 end.moment,
             );
-            add_fact(ended, out);
+            out.add_some(fact_entry(ended));
             out.add(Entry::Fact(born));
-            end.send_answer(blank, &answer, out);
+            out.add_some(end.seal_answer(blank, &answer));
             Ok(())
         }
         Err(_) => Err(AllocError),
@@ -107,7 +107,7 @@ pub(crate) fn responder_keyed(
         end.moment,
     );
     out.add(Entry::Fact(fact));
-    end.send_in_session(blank, near, from, &ChunkView::Ping { bytes: &[] }, out);
+    out.add_some(end.seal_in_session(blank, near, from, &ChunkView::Ping { bytes: &[] }));
     Ok(())
 }
 

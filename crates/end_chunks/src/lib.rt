@@ -1,5 +1,5 @@
 //! What one chunk of a datagram does at an end: it is read once, and discarded for its cause or
-//! applied; and the test of the address that the datagram came from.
+//! applied.
 #![tactic(auto)]
 
 mod chunks;
@@ -11,4 +11,3 @@ mod keyings;
 mod moving;
 
 pub use chunks::take_chunk;
-pub use moving::test;

@@ -6,11 +6,12 @@ use Rattle.cookies.specs.Cookie.{observed}
 use Rattle.startup.specs.declared.answer.Answer.{Answer}
 use Rattle.startup.specs.Redirects.{redirect_answer}
 use Rattle.endpoint_model.specs.State.{State, Did, Done, then_do}
-use Rattle.endpoint_model.specs.Sending.{sent_if}
+use Rattle.endpoint_model.specs.Sending.{sent_answer, sent_if}
 use Rattle.endpoint_model.specs.Introducing.{redirect_of}
 use Rattle.endpoint_model.specs.Effects.{forwarded}
 use Rattle.endpoint_model.proofs.Steps.{joined}
 use Rattle.end_state.proofs.Endings.{made_room}
+use Rattle.end_state.proofs.Giving.{given_done}
 use Rattle.end_chunks.proofs.Introduced.{narrow_tag}
 use Rattle.end_chunks.proofs.introducing.introduce.Goals as goal
 
@@ -27,6 +28,10 @@ returns-in-Some-clause-ok c =
     let told : Some c.redirect_answer-answer.result ≡ redirect =
     ap (λ (a : Answer). Some a) (c.redirect_answer-answer.ensures ∙ ap (λ (l : List AddressParts). redirect_answer tag l from) c.addresses.ensures.addresses)
     ∙ ap (λ (o : Option (List AddressParts)). redirect_of tag from o) (sym c.in-Some.is) in
-    made_room (then_do first (λ t. sent_if t redirect)) c.send_answer.new.self c.args.out.now c.make_room.new.self c.send_answer.new.out c.make_room.ensures.entries c.make_room.ensures.free c.make_room.ensures.room
-    (joined first (λ t. sent_if t redirect) c.forward.new.end c.send_answer.new.self c.make_room.new.self c.forward.new.out c.send_answer.new.out c.forward.ensures.done
-    (subst (λ (o : Option Answer). Done (sent_if c.forward.new.end o) c.send_answer.new.self c.forward.new.out c.send_answer.new.out) told c.send_answer.ensures))
+    let forwards = given_done first c.forward.new.end c.forward.result c.make_room.new.self c.add_some.new.self
+    c.forward.ensures c.add_some.ensures.entries c.add_some.ensures.free c.add_some.ensures.room in
+    let answers = given_done (sent_answer c.forward.new.end c.redirect_answer-answer.result) c.seal_answer.new.self c.seal_answer.result c.add_some.new.self c.add_some-in-Some.new.self
+    c.seal_answer.ensures c.add_some-in-Some.ensures.entries c.add_some-in-Some.ensures.free c.add_some-in-Some.ensures.room in
+    made_room (then_do first (λ t. sent_if t redirect)) c.seal_answer.new.self c.args.out.now c.make_room.new.self c.add_some-in-Some.new.self c.make_room.ensures.entries c.make_room.ensures.free c.make_room.ensures.room
+    (joined first (λ t. sent_if t redirect) c.forward.new.end c.seal_answer.new.self c.make_room.new.self c.add_some.new.self c.add_some-in-Some.new.self forwards
+    (subst (λ (o : Option Answer). Done (sent_if c.forward.new.end o) c.seal_answer.new.self c.add_some.new.self c.add_some-in-Some.new.self) told answers))

@@ -5,6 +5,7 @@ use Rattle.startup.specs.Keyings.{opened, after_opening}
 use Rattle.endpoint_model.specs.declared.entry.Entry.TheVariants.{Fact as FactEntry}
 use Rattle.endpoint_model.specs.Effects.{responder_keyed, with_opened}
 use Rattle.end_state.specs.Stored.{IsEnd, state_of}
+use Rattle.end_state.proofs.Giving.{given_done}
 use Rattle.endpoint_model.specs.Sending.{sent_in_session}
 use Rattle.endpoint_model.specs.State.{State, Done, with_startup}
 use Rattle.end_chunks.proofs.Keyed.{kept_opening, startup_put, opened_state, opened_so, added_first, IsAdded}
@@ -29,7 +30,9 @@ returns-clause-ok c =
     c.apply_responder_keying-fact.result c.args.from.now c.end.inside.print c.end.inside.secret kept.print_is kept.secret_is c.keep_opened.ensures in
     let added : IsAdded c.args.out.now c.add.new.self (FactEntry c.apply_responder_keying-fact.result ∷ []) =
     record { entries_are = c.add.ensures.entries ∙ ap (λ xs. xs ++ FactEntry c.apply_responder_keying-fact.result ∷ []) c.make_room.ensures.entries; free = omega (arith, c.add.ensures.free, c.make_room.ensures.free); room = c.add.ensures.room ∙ c.make_room.ensures.room } in
-    subst (λ (s : State). Done (responder_keyed s c.args.near c.args.from.now c.args.fields.now.payload.now) c.send_in_session.new.self c.args.out.now c.send_in_session.new.out) c.end.view_is
-    (opened_so v t c.args.near c.args.from.now c.args.fields.now.payload.now c.apply_responder_keying-fact.result c.send_in_session.new.self c.args.out.now c.send_in_session.new.out h.0
+    let sent = given_done (sent_in_session t c.args.near c.args.from.now (chunk_bytes (Ping []))) c.seal_in_session.new.self c.seal_in_session.result c.add.new.self c.add_some.new.self
+    c.seal_in_session.ensures c.add_some.ensures.entries c.add_some.ensures.free c.add_some.ensures.room in
+    subst (λ (s : State). Done (responder_keyed s c.args.near c.args.from.now c.args.fields.now.payload.now) c.seal_in_session.new.self c.args.out.now c.add_some.new.self) c.end.view_is
+    (opened_so v t c.args.near c.args.from.now c.args.fields.now.payload.now c.apply_responder_keying-fact.result c.seal_in_session.new.self c.args.out.now c.add_some.new.self h.0
     (opens ∙ ap (λ (s : State). with_opened s c.apply_responder_keying-fact.result c.args.from.now) put)
-    (added_first (FactEntry c.apply_responder_keying-fact.result ∷ []) (sent_in_session t c.args.near c.args.from.now (chunk_bytes (Ping []))) c.send_in_session.new.self c.args.out.now c.add.new.self c.send_in_session.new.out added c.send_in_session.ensures))
+    (added_first (FactEntry c.apply_responder_keying-fact.result ∷ []) (sent_in_session t c.args.near c.args.from.now (chunk_bytes (Ping []))) c.seal_in_session.new.self c.args.out.now c.add.new.self c.add_some.new.self added sent))
