@@ -1,5 +1,5 @@
--- Attempts that begin, and what is done of what is due.
-use Rattle.std.proofs.Common.{if◌then◌else◌, ◌^◌, zero, suc, nat_le, is_some, ◌≡◌, ◌≤◌, ◌<◌, ◌+◌, ◌++◌, ◌==◌, ◌&&◌, ◌||◌, not, ℕ, Bool, true, false, List, [], ◌∷◌, length, Option, Some, None, refl, sym, ap, ◌∙◌, subst, arith, length-append}
+-- Attempts that begin.
+use Rattle.std.proofs.Common.{if◌then◌else◌, ◌^◌, nat_le, is_some, ◌≡◌, ◌≤◌, ◌<◌, ◌+◌, ◌++◌, ◌==◌, ◌&&◌, ◌||◌, not, ℕ, Bool, true, false, List, [], ◌∷◌, length, Option, Some, None, refl, ap, ◌∙◌, subst, arith, length-append}
 use Rattle.std.specs.FinMap.{get, contains_key}
 use Rattle.std.specs.List.{fold, list_any}
 use Rattle.std.proofs.lemmas.Bool.Decides.{nat_tests}
@@ -8,11 +8,9 @@ use Rattle.startup.specs.Attempts.{joined, distinct_candidates}
 use Rattle.endpoint_model.specs.declared.answers.OpenRefusal.{OpenRefusal}
 use Rattle.rtmfp_forms.specs.Address.{AddressParts, is_same_place}
 use Rattle.startup.specs.State.{AttemptState}
-use Rattle.endpoint_model.specs.Added.{Added}
-use Rattle.endpoint_model.specs.Effects.{candidates_refusal, start_refused, full_refused, open_refusal, tick_once, ticks}
-use Rattle.endpoint_model.specs.State.{State, Did, Done, then_do, after_entries, uses, is_used, is_free, full, free_from}
+use Rattle.endpoint_model.specs.Effects.{candidates_refusal, start_refused, full_refused, open_refusal}
+use Rattle.endpoint_model.specs.State.{State, uses, is_used, is_free, full, free_from}
 use Rattle.endpoint_model.proofs.Ids.{free_from_is_free}
-use Rattle.endpoint_model.proofs.Steps.{done_nothing, then_nothing, then_then, joined as steps_joined}
 
 -- ---- what isn't refused
 
@@ -78,22 +76,3 @@ places_from places (address ∷ candidates) =
 
 pub few_places : (candidates : List AddressParts) → length (distinct_candidates candidates) ≤ length candidates
 few_places candidates = omega (arith, places_from [] candidates)
-
--- ---- time
-
-pub ticks_more : (count : ℕ) (s : State) → ticks (suc count) s ≡ then_do (ticks count s) tick_once
-ticks_more zero s = then_nothing (tick_once s)
-ticks_more (suc count) s =
-    let first : Did = tick_once s in
-    ap (after_entries first.entries) (ticks_more count first.state) ∙ sym (then_then first (ticks count) tick_once)
-
--- some things of a tick
-abbrev pub SomeDone : State → State → Added → Added → Type 0
-SomeDone s t before after = (count : ℕ) × Done (ticks count s) t before after
-
-pub none_done : (s t : State) (out : Added) → t ≡ s → SomeDone s t out out
-none_done s t out is = (0, record { state = is; entries = (done_nothing s out).entries; free = (done_nothing s out).free; room = refl })
-
-pub one_done : (s t new : State) (before between after : Added) → SomeDone s t before between → Done (tick_once t) new between after → SomeDone s new before after
-one_done s t new before between after some done =
-    (suc some.0, subst (λ d. Done d new before after) (sym (ticks_more some.0 s)) (steps_joined (ticks some.0 s) tick_once t new before between after some.1 done))

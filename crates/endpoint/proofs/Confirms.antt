@@ -1,11 +1,9 @@
--- Whether a datagram confirms a session isn't changed by counting it.
+-- What was taken of a datagram that confirms a session, and of one that confirms none.
 use Rattle.std.proofs.Common.{if◌then◌else◌, ℕ, ◌≡◌, ◌≤◌, ◌+◌, length, List, Bool, true, false, arith, Option, None, Some, refl, sym, ap, subst, ◌∙◌}
 use Rattle.std.specs.FinMap.{get}
-use Rattle.rtmfp_base.proofs.Maps.{get_inserted}
 use Rattle.rtmfp_packet.specs.declared.head.PacketHead.{PacketHead}
 use Rattle.startup.specs.Attempts.{after_confirm, confirm_fact}
-use Rattle.session_core.specs.Session.{with_stamps, confirmed}
-use Rattle.session_core.specs.Hearing.{counted}
+use Rattle.session_core.specs.Session.{confirmed}
 use Rattle.endpoint_model.specs.declared.row.Row.{Row}
 use Rattle.endpoint_model.specs.declared.place.Place.{Place}
 use Rattle.endpoint_model.specs.declared.place.Place.TheVariants.{Startup, Attempt, Session}
@@ -18,25 +16,8 @@ use Rattle.rtmfp_packet.specs.Walk.{Placed}
 use Rattle.endpoint_model.specs.declared.config.Draws.{Draws}
 use Rattle.endpoint_model.specs.Effects.{AreQuiet, EndsQuietly, AddsDiscards, chunks_did, discards, discards_among, outset}
 use Rattle.endpoint_model.specs.Log.{StopsSo, not_taken}
-use Rattle.endpoint_model.specs.Admission.{confirms, confirms_by, confirming, confirming_by, taken_packet, counted_at, counted_by, timed_at, timed_by}
-
-counted_still : (s : State) (near : ℕ) (part : List ℕ) (o : Option Row) → get s.sessions near ≡ o → confirms_by (get (counted_by s near part o).sessions near) ≡ confirms_by o
-counted_still s near part None e = ap confirms_by e
-counted_still s near part (Some row) e = ap confirms_by (get_inserted s.sessions near (record row { session = counted row.session part }))
-
-timed_still : (s : State) (near : ℕ) (head : PacketHead) (o : Option Row) → get s.sessions near ≡ o → confirms_by (get (timed_by s near head o).sessions near) ≡ confirms_by o
-timed_still s near head None e = ap confirms_by e
-timed_still s near head (Some row) e = ap confirms_by (get_inserted s.sessions near (record row { session = with_stamps head s.moment row.session }))
-
-pub confirms_counted : (s : State) (place : Place) (part : List ℕ) → confirms (counted_at s place part) place ≡ confirms s place
-confirms_counted s Startup part = refl
-confirms_counted s (Attempt near) part = refl
-confirms_counted s (Session near) part = counted_still s near part (get s.sessions near) refl
-
-pub confirms_timed : (s : State) (place : Place) (head : PacketHead) → confirms (timed_at s place head) place ≡ confirms s place
-confirms_timed s Startup head = refl
-confirms_timed s (Attempt near) head = refl
-confirms_timed s (Session near) head = timed_still s near head (get s.sessions near) refl
+use Rattle.endpoint_model.specs.Admission.{confirms, confirms_by, confirming, confirming_by, taken_packet, counted_at, timed_at}
+use Rattle.end_loops.proofs.Confirms.{confirms_counted, confirms_timed}
 
 -- where nothing is confirmed, nothing is done
 unconfirmed_by : (s : State) (near : ℕ) (o : Option Row) → confirms_by o ≡ false → confirming_by s near o ≡ nothing s

@@ -18,10 +18,10 @@ use Rattle.endpoint_model.specs.declared.config.Config.{Config}
 use Rattle.endpoint_model.specs.State.{State, uses}
 use Rattle.endpoint_laws.specs.Past.{Past, facts_of, past_of, last_moment}
 use Rattle.endpoint_laws.specs.OfTheLog.{IsThing, SessionStands, IsClosingStage, IsOfTheLog, TheStateIsOfTheLog}
-use Rattle.endpoint_laws.specs.Within.{FlowsAreWithin, FlowsHoldFew}
+use Rattle.endpoint_laws.specs.Within.{FlowsAreWithin, FlowsHoldFew, NoAckIsOwed}
 use Rattle.endpoint_laws.proofs.Logged.{tied_to_log}
 use Rattle.endpoint.specs.Reached.{IsReached}
-use Rattle.endpoint.specs.Holding.{SessionIsHeld, SessionIsThere, HoldsWhatIsThere, AllFlowsAreWithin, AllFlowsHoldFew}
+use Rattle.endpoint.specs.Holding.{SessionIsHeld, SessionIsThere, HoldsWhatIsThere, AllFlowsAreWithin, AllFlowsHoldFew, NoneOwesAcks}
 
 -- ---- how many there are
 
@@ -40,6 +40,9 @@ flows_within law s is near row there = law is.setup is.log s near row is.stands 
 
 pub flows_few : FlowsHoldFew → (s : State) → IsReached s → AllFlowsHoldFew s
 flows_few law s is near row there = law is.setup is.log s near row is.stands there
+
+pub none_owed : NoAckIsOwed → (s : State) → IsReached s → NoneOwesAcks s
+none_owed law s is near = law is.setup is.log s near is.stands
 
 -- ---- a session is held with its own peer
 

@@ -23,7 +23,7 @@ use Rattle.endpoint_model.specs.State.{State, Done, nothing, with_session}
 use Rattle.endpoint_model.specs.Admission.{Admission, Rejected, Admitted, admission, admitted, admitted_packet, opened_datagram, counted_at, counted_by, timed_at, taken_packet, mode_at, mode_by, has_mode, fault_number, packet_in}
 use Rattle.endpoint_model.specs.Effects.{discarded}
 use Rattle.endpoint_model.specs.Log.{IsTaken, StopsSo, not_taken}
-use Rattle.endpoint.specs.Walks.{packet_at}
+use Rattle.end_loops.specs.Walks.{packet_at}
 
 -- ---- one admission for another
 

@@ -1,5 +1,5 @@
 -- What an end holds with its peers, and the attempts and the sessions that are there.
-use Rattle.std.specs.Prelude.{ℕ, ◌≡◌, ◌⊎◌, List, Some, None}
+use Rattle.std.specs.Prelude.{ℕ, ◌≡◌, ◌⊎◌, false, List, Some, None}
 use Rattle.std.specs.FinMap.{get}
 use Rattle.glare_core.specs.declared.facts.Held.{Held}
 use Rattle.glare_core.specs.declared.facts.Held.TheVariants.{Opening as AttemptHeld}
@@ -9,6 +9,7 @@ use Rattle.startup.specs.State.{AttemptState}
 use Rattle.session_core.specs.Session.{SessionState}
 use Rattle.session_flows.specs.Laws.{IsSound}
 use Rattle.endpoint_model.specs.declared.row.Row.{Row}
+use Rattle.endpoint_model.specs.FlowChunks.{owes_by}
 use Rattle.endpoint_model.specs.State.{State}
 use Rattle.endpoint_laws.specs.OfTheLog.{IsThing, IsClosingStage, AttemptIsThere}
 use Rattle.endpoint_laws.specs.Within.{HoldFew}
@@ -55,3 +56,7 @@ AllFlowsAreWithin s = (near : ℕ) (row : Row) → get s.sessions near ≡ Some 
 -- No flow of a session holds more bytes, fragments and numbers than it may.
 abbrev pub AllFlowsHoldFew : State → Type 0
 AllFlowsHoldFew s = (near : ℕ) (row : Row) → get s.sessions near ≡ Some row → HoldFew row.flows
+
+-- Between calls no session owes an ack.
+abbrev pub NoneOwesAcks : State → Type 0
+NoneOwesAcks s = (near : ℕ) → owes_by (get s.sessions near) ≡ false

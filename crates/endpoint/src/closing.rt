@@ -53,8 +53,8 @@ fn close_held(end: &mut EndState, near: u32, out: &mut Outbox) -> Result<(), All
 {
     out.make_room(2)?;
     let blank = blank(end.alloc)?;
-    end.tell_end(near, Why::Near, out);
+    out.add_some(end.end_session(near, Why::Near));
     end.begin_closing(near);
-    end.send_home(blank, near, &ChunkView::Close, out);
+    out.add_some(end.seal_home(blank, near, &ChunkView::Close));
     Ok(())
 }

@@ -5,6 +5,7 @@ ghost use Rattle.std.specs.Prelude.{◌≤◌};
 ghost use Rattle.glare_core.specs.Ledger.{row_count};
 ghost use Rattle.endpoint_model.specs.State.{uses};
 ghost use Rattle.endpoint.specs.Holding.{AllFlowsAreWithin, AllFlowsHoldFew, HoldsWhatIsThere};
+ghost use Rattle.endpoint.specs.Holding.{NoneOwesAcks};
 
 use crate::endpoint::Endpoint;
 use crate::laws;
@@ -37,5 +38,13 @@ impl Endpoint {
         let _end = &self.end;
         laws::flows_are_within();
         laws::flows_hold_few();
+    }
+
+    /// No session owes an ack: those that a call owes go out in it, or are given up.
+    pub fn owes_no_ack(&self)
+        ensures { NoneOwesAcks self.now }
+    {
+        let _end = &self.end;
+        laws::no_ack_is_owed();
     }
 }

@@ -1,7 +1,6 @@
 //! One end of the protocol: its calls bring it from state to state, and add entries to an outbox.
 #![tactic(auto)]
 
-mod admission;
 mod attempts;
 mod closing;
 mod contexts;
@@ -12,7 +11,6 @@ mod introducing;
 mod kinds;
 pub mod laws;
 mod receiving;
-mod session_ticking;
 pub mod sizes;
 mod ticking;
 

@@ -1,7 +1,7 @@
 use Rattle.std.proofs.Common.{rules, ap, ◌∙◌, subst}
 use Rattle.endpoint_model.specs.State.{State, at_moment}
 use Rattle.endpoint_model.specs.FlowTimes.{all_late}
-use Rattle.endpoint.proofs.Begun.{SomeDone}
+use Rattle.end_loops.proofs.Ticks.{SomeDone}
 use Rattle.endpoint.proofs.Extending.{tick_extends}
 use Rattle.endpoint.proofs.Reaching.{reached_more}
 use Rattle.endpoint.proofs.endpoint.Endpoint.tick.Goals as goal

@@ -1,0 +1,11 @@
+mod Acking
+mod Chunks
+mod DueItems
+mod Endings
+mod Falling
+mod Near
+mod Opening
+mod Refusals
+mod Tested
+pub mod Confirms
+pub mod Ticks

@@ -1,0 +1,3 @@
+pub mod DueItems
+pub mod Pending
+pub mod Walks

@@ -1,0 +1,155 @@
+//! How a datagram is taken, or refused as a whole (own rules over RFC 7016 section 3.5).
+
+ghost use Rattle.std.specs.Prelude.{◌≡◌, ◌≤◌, IfOk, IfErr, OnOk, Ok, Err, drop, length, take};
+ghost use Rattle.std.specs.FinMap.{get};
+ghost use Rattle.rtmfp_packet.specs.Head.{mode_number};
+ghost use Rattle.endpoint_model.specs.Admission.{fault_number, has_mode, heard_in, mode_at};
+ghost use Rattle.endpoint_model.specs.Admission.{opened_datagram, opened_in_startup, packet_in};
+ghost use Rattle.endpoint_model.specs.Admission.{peers_mode};
+ghost use Rattle.endpoint_model.specs.Keying.{AreNear};
+ghost use Rattle.end_loops.specs.Walks.{packet_at};
+
+use crypto_profile::open_in_place;
+use end_state::{EndState, PLAIN_AT, word_of};
+use endpoint_model::Place;
+use packet_scramble::{SEALED_AT, unscramble};
+use rtmfp_packet::{Mode, Packet, PacketFault, PacketHead, read_packet};
+use session_core::{Role, Unheard};
+use startup::Cause;
+
+/// Opens a sealed part in the startup context, in place.
+fn open_in_startup(end: &EndState, sid: u32, part: &mut [u8]) -> Result<(), Cause>
+    ensures ok { OnOk result (opened_in_startup end.now sid part.old ≡ Ok (drop 32 part.new)) }
+    ensures err { IfErr result (λ cause. opened_in_startup end.now sid part.old ≡ Err cause) }
+    ensures front { OnOk result (take 32 part.new ≡ take 32 part.old) }
+    ensures length { length part.new ≡ length part.old }
+{
+    match open_in_place(&end.keys, sid, part) {
+        Ok(_) => Ok(()),
+        Err(_) => Err(Cause::BadTag),
+    }
+}
+
+/// Opens a sealed part in a session, in place. It takes no number yet.
+fn open_in_session(end: &EndState, near: u32, part: &mut [u8]) -> Result<(), Cause>
+    ensures ok { OnOk result (heard_in (get end.now.sessions near) part.old
+        ≡ Ok (drop 32 part.new)) }
+    ensures err { IfErr result (λ cause. heard_in (get end.now.sessions near) part.old
+        ≡ Err cause) }
+    ensures front { OnOk result (take 32 part.new ≡ take 32 part.old) }
+    ensures length { length part.new ≡ length part.old }
+{
+    match end.sessions.row(near) {
+        Some(row) => match row.session.open(part) {
+            Ok(_) => Ok(()),
+            Err(Unheard::Short) => Err(Cause::Short),
+            Err(Unheard::BadTag) => Err(Cause::BadTag),
+            Err(Unheard::Repeated) => Err(Cause::Repeated),
+        },
+        None => Err(Cause::UnknownSession),
+    }
+}
+
+/// Opens a datagram in place, and says where it belongs, or why it is refused. Nothing of it
+/// counts as taken yet.
+pub fn open_datagram(end: &EndState, datagram: &mut [u8]) -> Result<Place, Cause>
+    ensures ok { IfOk result (λ place. opened_datagram end.now datagram.old
+        ≡ Ok (place, drop 36 datagram.new)) }
+    ensures err { IfErr result (λ cause. opened_datagram end.now datagram.old ≡ Err cause) }
+    ensures front { OnOk result (take 36 datagram.new ≡ take 36 datagram.old) }
+    ensures length { length datagram.new ≡ length datagram.old }
+{
+    if datagram.len() < PLAIN_AT {
+        return Err(Cause::Short);
+    }
+    let (head, part) = datagram.split_at_mut(SEALED_AT);
+    let sid = unscramble(word_of(head), part);
+    match end.place_of(sid) {
+        Some(Place::Startup) => match open_in_startup(end, 0, part) {
+            Ok(()) => Ok(Place::Startup),
+            Err(cause) => Err(cause),
+        },
+        Some(Place::Attempt(near)) => match open_in_startup(end, near, part) {
+            Ok(()) => Ok(Place::Attempt(near)),
+            Err(cause) => Err(cause),
+        },
+        Some(Place::Session(near)) => match open_in_session(end, near, part) {
+            Ok(()) => Ok(Place::Session(near)),
+            Err(cause) => Err(cause),
+        },
+        None => Err(Cause::UnknownSession),
+    }
+}
+
+/// Reads a plain packet that came at a place, or says why it is refused.
+pub fn packet_at<'a>(end: &EndState, place: Place, plain: &'a [u8]) -> Result<Packet<'a>, Cause>
+    requires { length plain.now ≤ 2048 }
+    ensures ok { IfOk result (λ packet. packet_at end.now place (packet_in plain.now)
+        ≡ Ok packet) }
+    ensures near { IfOk result (λ packet. AreNear packet) }
+    ensures err { IfErr result (λ cause. packet_at end.now place (packet_in plain.now)
+        ≡ Err cause) }
+{
+    match read_packet(plain) {
+        Ok(packet) => {
+            if has_mode(packet.head(), mode_at(end, place)) {
+                Ok(packet)
+            } else {
+                Err(Cause::WrongPlace)
+            }
+        }
+        Err(fault) => Err(Cause::BadPacket(fault_number(fault))),
+    }
+}
+
+/// The mode that packets have at a place.
+fn mode_at(end: &EndState, place: Place) -> Mode
+    ensures { result ≡ mode_at end.now place }
+{
+    match place {
+        Place::Startup => Mode::Startup,
+        Place::Attempt(_) => Mode::Startup,
+        Place::Session(near) => match end.sessions.row(near) {
+            Some(row) => peers_mode(row.session.role()),
+            None => Mode::Startup,
+        },
+    }
+}
+
+/// The mode of the packets of the peer of an end with this role.
+fn peers_mode(role: Role) -> Mode
+    ensures { result ≡ peers_mode role }
+{
+    match role {
+        Role::Initiator => Mode::Responder,
+        Role::Responder => Mode::Initiator,
+    }
+}
+
+/// Whether a head has this mode.
+fn has_mode(head: &PacketHead, mode: Mode) -> bool
+    ensures { result ≡ has_mode head.now mode }
+{
+    mode_number(head.mode) == mode_number(mode)
+}
+
+fn mode_number(mode: Mode) -> u8
+    ensures { result ≡ mode_number mode }
+{
+    match mode {
+        Mode::Initiator => 1,
+        Mode::Responder => 2,
+        Mode::Startup => 3,
+    }
+}
+
+/// The number that a fault of a packet has in the cause of its discard.
+fn fault_number(fault: PacketFault) -> u8
+    ensures { result ≡ fault_number fault }
+{
+    match fault {
+        PacketFault::Empty => 1,
+        PacketFault::ModeZero => 2,
+        PacketFault::ShortStamp => 3,
+    }
+}

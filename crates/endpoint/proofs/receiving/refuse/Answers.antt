@@ -1,6 +1,0 @@
-use Rattle.std.proofs.Common.{rules}
-use Rattle.endpoint.proofs.receiving.refuse.Goals as goal
-
--- so that a wrong body is refused fast
-pub returns-in-Err-clause-enough : goal.returns-in-Err-clause-enough
-returns-in-Err-clause-enough c = search rules
