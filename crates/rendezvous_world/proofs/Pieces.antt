@@ -1,5 +1,5 @@
 -- Parts of lists, and ends among ends.
-use Rattle.std.proofs.Common.{◌≡◌, ℕ, zero, suc, ◌-◌, ◌<◌, ◌≤◌, true, false, List, [], ◌∷◌, ◌++◌, map, length, drop, get_or, Option, Some, None, not, refl, sym, ap, ◌∙◌, subst, arith}
+use Rattle.std.proofs.Common.{◌≡◌, ℕ, zero, suc, ◌-◌, ◌<◌, ◌≤◌, true, false, List, [], ◌∷◌, ◌++◌, map, length, get_or, Option, Some, None, not, refl, sym, ap, ◌∙◌, subst, arith}
 use Rattle.std.specs.List.{list_any}
 use Rattle.sha2.specs.Sha256.{sha256}
 use Rattle.identity.specs.Certificates.{IsCertificate}
@@ -20,13 +20,6 @@ use Rattle.rendezvous_world.specs.Inside.{end_seen, world_seen, named_of, IsKept
 use Rattle.rendezvous_world.specs.Kept.{IsWorld}
 use Rattle.rendezvous_world.proofs.Finding.{test_other}
 use Rattle.rendezvous_world.proofs.Keeping.{with_moment_is_world, with_end_is_world}
-
-pub past_front : (n : ℕ) (xs ys : List ℕ) → length xs ≡ n → drop n (xs ++ ys) ≡ ys
-past_front n xs ys is = subst (λ (k : ℕ). drop k (xs ++ ys) ≡ ys) is (behind xs ys)
-  where
-    behind : (xs ys : List ℕ) → drop (length xs) (xs ++ ys) ≡ ys
-    behind [] ys = refl
-    behind (x ∷ xs) ys = behind xs ys
 
 -- ---- forged at an end
 

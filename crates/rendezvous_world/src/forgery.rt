@@ -3,7 +3,6 @@
 ghost use Rattle.std.specs.Prelude.{◌≡◌, ◌+◌, length};
 ghost use Rattle.std.specs.List.{list_any};
 ghost use Rattle.crypto_profile.specs.Keys.{keys_of};
-ghost use Rattle.crypto_profile.specs.Sealing.{sealed};
 ghost use Rattle.rendezvous_world.specs.Datagrams.{forged, nth};
 ghost use Rattle.rendezvous_world.specs.Seen.{group_secret};
 ghost use Rattle.rendezvous_world.specs.Faults.{is_sent};
@@ -15,7 +14,7 @@ use crate::journal::JournalLine;
 use crate::keyed::Keyed;
 use crate::sent::find;
 use crate::world::World;
-use crypto_profile::{CIPHERED_AT, Context, Keys, seal_in_place};
+use crypto_profile::{CIPHERED_AT, Context, Keys, seal_into};
 use endpoint::Entry;
 use packet_scramble::{SEALED_AT, scramble};
 
@@ -181,17 +180,7 @@ pub(crate) fn forge(buffer: &mut [u8], plain: &[u8])
     ensures { buffer.new ≡ forged plain.now }
 {
     let (head, part) = buffer.split_at_mut(SEALED_AT);
-    seal_part(part, &forgers_keys(), [0xff; 16], plain);
+    seal_into(&forgers_keys(), 0, [0xff; 16], plain, part);
     let scrambled = scramble(0, part);
     head.copy_from_slice(&scrambled.to_be_bytes());
-}
-
-/// Fills a buffer, which is as long as the sealed part, with it.
-fn seal_part(part: &mut [u8], keys: &Keys, number: [u8; 16], plain: &[u8])
-    requires { length part.old ≡ 32 + length plain.now }
-    ensures { part.new ≡ sealed keys.now 0 number plain.now }
-{
-    let (_, packet) = part.split_at_mut(CIPHERED_AT);
-    packet.copy_from_slice(plain);
-    seal_in_place(keys, 0, number, part);
 }

@@ -1,9 +1,0 @@
-use Rattle.std.proofs.Common.{ap, ◌∙◌}
-use Rattle.crypto_profile.specs.Sealing.{sealed}
-use Rattle.rendezvous_world.proofs.Pieces.{past_front}
-use Rattle.rendezvous_world.proofs.forgery.seal_part.Goals as goal
-
-pub returns : goal.returns
-returns c =
-    c.seal_in_place.ensures
-    ∙ ap (sealed c.args.keys.now 0 c.args.number) (past_front 32 _ c.copy_from_slice.new.self c.split_at_mut-packet.ensures.front_len ∙ c.copy_from_slice.ensures.after)
