@@ -1,0 +1,6 @@
+pub mod Choices
+pub mod Using
+pub mod Stems
+pub mod Index
+pub mod Alike
+pub mod Called
