@@ -1,0 +1,13 @@
+pub mod Cutting
+pub mod Stretches
+pub mod Joining
+pub mod Placing
+pub mod Answering
+pub mod Spelling
+pub mod Histories
+pub mod Once
+pub mod Complete
+pub mod Limits
+pub mod Kept
+pub mod Agreeing
+pub mod Weighing
