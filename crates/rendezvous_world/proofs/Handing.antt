@@ -7,6 +7,7 @@ use Rattle.endpoint_laws.specs.History.{log_of}
 use Rattle.endpoint_handing.specs.Laws.{IsOfEnds}
 use Rattle.endpoint_handing.proofs.AllFlows.{all_flows_hand}
 use Rattle.endpoint_handing.proofs.HandsOver.{every_history_hands_over, every_history_hands_once}
+use Rattle.endpoint_handing.proofs.HandsOver.{every_flow_has_an_order, every_message_is_told}
 use Rattle.rendezvous_world.specs.Seen.{Seen, setup_at}
 use Rattle.rendezvous_world.specs.History.{history_of}
 use Rattle.rendezvous_world.specs.Sound.{IsSound}
@@ -41,4 +42,6 @@ hands_over w is =
     record {
       in_order = λ later early e n ordered. every_history_hands_over all_flows_hand ends later early (subst (IsOfEnds ends) e all) n ordered;
       as_they_arrive = λ later early e n ordered. every_history_hands_once all_flows_hand ends later early (subst (IsOfEnds ends) e all) n ordered;
+      has_an_order = λ later early e n. every_flow_has_an_order all_flows_hand ends later early (subst (IsOfEnds ends) e all) n;
+      each_is_told = λ later early e. every_message_is_told all_flows_hand ends later early (subst (IsOfEnds ends) e all);
     }

@@ -1,6 +1,10 @@
 -- What lines leave holds.
-use Rattle.std.proofs.Common.{◌≡◌, ℕ, ◌+◌, List, [], ◌∷◌, inl, inr, sym, subst}
-use Rattle.rendezvous_world.specs.Seen.{Seen}
+use Rattle.std.proofs.Common.{◌≡◌, ℕ, ◌+◌, List, [], ◌∷◌, ◌++◌, inl, inr, sym, subst}
+use Rattle.flow_history.specs.Deeds.{Name}
+use Rattle.endpoint_laws.specs.History.{History}
+use Rattle.rendezvous_world.specs.Seen.{Seen, setup_at}
+use Rattle.rendezvous_world.specs.History.{history_of}
+use Rattle.rendezvous_world.specs.Handing.{MessagesGoOver}
 use Rattle.rendezvous_world.specs.Laws.{empty_world}
 use Rattle.rendezvous_world.proofs.Calling.{seen_is}
 use Rattle.rendezvous_world.proofs.Keeping.{new_world}
@@ -10,7 +14,8 @@ use Rattle.rendezvous_world.proofs.Handing.{hands_over}
 use Rattle.rtmfp_play.specs.Play.{HistoryHolds, Plays}
 use Rattle.rtmfp_cli.specs.declared.doing.Doing.{Doing}
 use Rattle.rtmfp_cli.specs.declared.doing.Doing.TheVariants.{Showing, Playing}
-use Rattle.rtmfp_cli.specs.Doing.{Does, Holds}
+use Rattle.rtmfp_cli.specs.Doing.{Does, Holds, playing}
+use Rattle.rtmfp_cli.specs.Laws.{EveryRunIsAgreed, EveryRunHandsOver, HandsInItsOrder}
 use Rattle.rtmfp_cli.specs.Script.{Runs}
 
 -- a run begins with a world that holds
@@ -38,3 +43,20 @@ does_hold (Playing w) n line (Playing t) text holds does = plays_holds w n line 
 pub runs_hold : (n : ℕ) (doing left : Doing) (lines : List (List ℕ)) (text : List ℕ) → Holds doing → Runs n doing lines left text → Holds left
 runs_hold n doing left [] text holds ran = subst Holds (sym ran.0) holds
 runs_hold n doing left (line ∷ lines) text holds ran = runs_hold (n + 1) ran.0 left lines ran.2 (does_hold doing n line ran.0 ran.1 holds ran.3) ran.4
+
+-- ---- the two sentences of the headline
+
+pub run_is_agreed : EveryRunIsAgreed
+run_is_agreed lines w text ran = (runs_hold 1 playing (Playing w) lines text empty_holds ran).agreed
+
+in_its_order : (w : Seen) (later early : History) → history_of w ≡ later ++ early → MessagesGoOver (setup_at w.ends) (history_of w) → (n : Name) → HandsInItsOrder (setup_at w.ends) early n
+in_its_order w later early e over n =
+    elim (over.has_an_order later early e n) [
+      | inl order ↦ inl (order, over.in_order later early e n order)
+      | inr order ↦ inr (order, over.as_they_arrive later early e n order)
+    ]
+
+pub run_hands_over : EveryRunHandsOver
+run_hands_over lines w text ran later early e =
+    let over : MessagesGoOver (setup_at w.ends) (history_of w) = (runs_hold 1 playing (Playing w) lines text empty_holds ran).go_over in
+    (in_its_order w later early e over, over.each_is_told later early e)

@@ -1,13 +1,25 @@
 -- What holds of all runs over lines, and their limits a second time.
-use Rattle.std.specs.Prelude.{◌≡◌, ℕ, ◌+◌, ◌<◌, ◌≤◌, List, [], ◌∷◌, ◌++◌, length, take}
+use Rattle.std.specs.Prelude.{◌≡◌, ◌⊎◌, ℕ, ◌+◌, ◌<◌, ◌≤◌, true, false, List, [], ◌∷◌, ◌++◌, length, take}
+use Rattle.rtmfp_data_chunks.specs.HandsOver.{HandsOver, HandsOnce}
+use Rattle.flow_history.specs.Deeds.{Name}
+use Rattle.flow_history.specs.Log.{queued_of, abandoned_of, handed_of}
+use Rattle.endpoint_model.specs.Event.{Setup}
+use Rattle.endpoint_laws.specs.History.{History}
+use Rattle.endpoint_laws.specs.Agreed.{IsAgreed}
+use Rattle.endpoint_handing.specs.Orders.{HasOrder}
+use Rattle.endpoint_handing.specs.Told.{told, AllTold}
 use Rattle.rtmfp_text.specs.declared.names.Named.{Named}
 use Rattle.rendezvous_world.specs.declared.journal.JournalLine.{JournalLine}
 use Rattle.rendezvous_world.specs.Inside.{count_in}
 use Rattle.rendezvous_world.specs.Same.{AreSameWorlds}
-use Rattle.rendezvous_world.specs.Seen.{Seen}
+use Rattle.rendezvous_world.specs.Seen.{Seen, setup_at}
+use Rattle.rendezvous_world.specs.History.{history_of}
+use Rattle.rtmfp_lines.specs.Status.{status_code}
+use Rattle.rtmfp_node.specs.declared.served.Served.TheVariants as served
 use Rattle.rtmfp_play.specs.Play.{names_of, told_of}
 use Rattle.rtmfp_cli.specs.declared.doing.Doing.{Doing}
 use Rattle.rtmfp_cli.specs.declared.doing.Doing.TheVariants.{Playing, Showing}
+use Rattle.rtmfp_cli.specs.Commands.{status_of}
 use Rattle.rtmfp_cli.specs.Doing.{Holds, limit_of, playing, showing}
 use Rattle.rtmfp_cli.specs.Script.{Runs, max_lines}
 
@@ -16,6 +28,30 @@ use Rattle.rtmfp_cli.specs.Script.{Runs, max_lines}
 abbrev pub EveryRunHolds : Type 0
 EveryRunHolds = (lines : List (List ℕ)) (left : Doing) (text : List ℕ) →
     Runs 1 playing lines left text → Holds left
+
+-- The first sentence of the headline: no run of a script leaves two ends that keep different
+-- sessions with each other, and each attempt that opened has one session at its responder.
+abbrev pub EveryRunIsAgreed : Type 0
+EveryRunIsAgreed = (lines : List (List ℕ)) (w : Seen) (text : List ℕ) →
+    Runs 1 playing lines (Playing w) text → IsAgreed (setup_at w.ends) (history_of w)
+
+-- A flow in queueing order has handed over what was queued on it whole, none twice, in the order of
+-- queueing, and skipping only abandoned messages; one in arrival order whole, and none twice.
+abbrev pub HandsInItsOrder : (ℕ → Setup) → History → Name → Type 0
+HandsInItsOrder ends history n =
+    (HasOrder false n ends history ×
+    HandsOver (queued_of n (told ends history)) (abandoned_of n (told ends history))
+    (handed_of n (told ends history))) ⊎
+    (HasOrder true n ends history ×
+    HandsOnce (queued_of n (told ends history)) (handed_of n (told ends history)))
+
+-- The second: at each moment of a run each flow hands over in its order, and whatever an end states
+-- of a message is told of a flow.
+abbrev pub EveryRunHandsOver : Type 0
+EveryRunHandsOver = (lines : List (List ℕ)) (w : Seen) (text : List ℕ) →
+    Runs 1 playing lines (Playing w) text → (later early : History) →
+    history_of w ≡ later ++ early →
+    ((n : Name) → HandsInItsOrder (setup_at w.ends) early n) × AllTold (setup_at w.ends) early
 
 -- These lines of a journal tell this text: what is told of each, one after another from the oldest
 -- on. Of all ends, so many at least were there before the first, and so many datagrams were sent. A
@@ -53,3 +89,11 @@ pub record Limits : Type 0 where
   pub lines : max_lines ≡ 1000000
   pub show : limit_of showing ≡ 4096
   pub replay : limit_of playing ≡ 2097664
+
+-- the number with which the program ends for each way in which a node does
+pub record NodeStatuses : Type 0 where
+  pub done : status_code (status_of served.Done) ≡ 0
+  pub memory : status_code (status_of served.Memory) ≡ 1
+  pub link : status_code (status_of served.LinkFault) ≡ 5
+  pub sink : status_code (status_of served.SinkFault) ≡ 6
+  pub entropy : status_code (status_of served.EntropyFault) ≡ 8

@@ -1,11 +1,14 @@
 //! What holds of all runs over lines. The functions do nothing: the contract of each is its law.
-ghost use Rattle.rtmfp_cli.specs.Laws.{EachScriptHasOneRun, EachTextIsTheReport, EveryRunHolds, Limits};
+ghost use Rattle.rtmfp_cli.specs.Laws.{EachScriptHasOneRun, EachTextIsTheReport, EveryRunHandsOver};
+ghost use Rattle.rtmfp_cli.specs.Laws.{EveryRunHolds, EveryRunIsAgreed, Limits, NodeStatuses};
 
 /// No run of a script leaves two ends that keep different sessions with each other, or a flow that
 /// handed over what wasn't queued on it, a part of a message, or a message twice or out of order: its
 /// history is lawful, honest and fresh, and so it is agreed, and messages go over.
 pub fn every_run_holds()
-    ensures { EveryRunHolds }
+    ensures holds { EveryRunHolds }
+    ensures agreed { EveryRunIsAgreed }
+    ensures hands_over { EveryRunHandsOver }
 {}
 
 /// What is written of a script is the report of its journal: the text of each of its lines, from
@@ -24,4 +27,9 @@ pub fn each_script_has_one_run()
 /// The most lines of a source, and the longest line of each command in bytes without its LF (own).
 pub fn limits()
     ensures { Limits }
+{}
+
+/// The number with which the program ends for each way in which a node ends (own).
+pub fn node_statuses()
+    ensures { NodeStatuses }
 {}
