@@ -2,6 +2,7 @@ pub mod Told
 pub mod Acts
 pub mod Openings
 pub mod Calling
+pub mod Called
 pub mod Sends
 pub mod Turning
 pub mod Running

@@ -19,9 +19,9 @@ use Rattle.rtmfp_node.specs.declared.served.Served.TheVariants.{Done, Memory, Li
 use Rattle.rtmfp_node.specs.Outside.{Counted, Outside, PassesOn, outside, Told, Leaves}
 use Rattle.rtmfp_node.specs.Events.{ExtendsBy, entries_of}
 use Rattle.rtmfp_node.specs.Turn.{Turn, TurnZero, Turns, after_bind}
-use Rattle.rtmfp_node.specs.Cut.{CutAtZero, CutBy, Untouched}
-use Rattle.rtmfp_node.specs.Whole.{CutAtStart, CutRun, Ends, OnlyBound, Ran, instance_in, setup_of}
-use Rattle.rtmfp_node.specs.Acting.{Drew, Follows, TurnDone, TurnEnds, TurnsCut, TurnsDone, TurnsEnd, ZeroDone, ZeroEnds}
+use Rattle.rtmfp_node.specs.Cut.{CutAtZero, CutBy}
+use Rattle.rtmfp_node.specs.Whole.{CutAtStart, CutRun, Ends, Ran, instance_in, setup_of}
+use Rattle.rtmfp_node.specs.Acting.{Drew, DrewSome, TurnDone, TurnEnds, TurnsCut, TurnsDone, TurnsEnd, ZeroDone, ZeroEnds}
 use Rattle.rtmfp_node.proofs.Acts.{calls_sized, counted_more, extends_more, extends_none}
 use Rattle.rtmfp_node.proofs.Told.{by_after, by_call, by_draw, by_leaves, by_none, by_then, leaves_map}
 use Rattle.rtmfp_node.proofs.Turning.{undrawn}
@@ -110,23 +110,18 @@ begins_with : (P : Told → Told → Type 0) (v : Serving) (block : List ℕ) (l
 begins_with P v block l l1 c b b1 k o drew bound rest =
     leaves_map (by_after (by_then (by_draw block l c b b1 k drew) (by_call (Bind v.bind) l l1 c b1 k bound)) rest) (λ x y f. (f.0.0, f.1))
 
-pub only_bound : (v : Serving) (block : List ℕ) (l l1 : LinkSeen) (c : Option Clock) (b b1 : EntropySeen) (k : SinkSeen) → Drew b.blocks b1.blocks block → Calls l.line l1.line (Bind v.bind) →
-    Leaves (OnlyBound v) (outside l c b k) (outside l1 c b1 k)
+only_bound : (v : Serving) (block : List ℕ) (l l1 : LinkSeen) (c : Option Clock) (b b1 : EntropySeen) (k : SinkSeen) → Drew b.blocks b1.blocks block → Calls l.line l1.line (Bind v.bind) →
+    Leaves (λ x y. y ≡ after_bind v x) (outside l c b k) (outside l1 c b1 k)
 only_bound v block l l1 c b b1 k drew bound =
-    by_leaves (OnlyBound v) (by_then (by_draw block l c b b1 k drew) (by_call (Bind v.bind) l l1 c b1 k bound)) (λ x f. record { calls = refl; text = refl })
+    by_leaves (λ x y. y ≡ after_bind v x) (by_then (by_draw block l c b b1 k drew) (by_call (Bind v.bind) l l1 c b1 k bound)) (λ x f. refl)
 
 -- turn 0 was cut
-bound_then : (v : Serving) (x y : Told) → Untouched (after_bind v x) y → OnlyBound v x y
-bound_then v x y h = record { calls = ap (λ l. l.calls) h.line; text = h.text }
-
 start_cut : (r : Served) (v : Serving) (block : List ℕ) (x y : Told) → block ≡ next_block x.blocks → CutAtZero r v (fresh (setup_of v block)) (after_bind v x) y → CutAtStart r v x y
 start_cut Done v block x y same cut = absurd cut
-start_cut Memory v block x y same (inl cut) = inl (bound_then v x y cut)
-start_cut Memory v block x y same (inr cut) =
-    inr (subst (λ k. CutAtZero Memory v (fresh (setup_of v k)) (after_bind v x) y) same (inr cut))
+start_cut Memory v block x y same cut = inr (subst (λ k. CutAtZero Memory v (fresh (setup_of v k)) (after_bind v x) y) same cut)
 start_cut LinkFault v block x y same cut = absurd cut
 start_cut SinkFault v block x y same cut = subst (λ k. CutAtZero SinkFault v (fresh (setup_of v k)) (after_bind v x) y) same cut
-start_cut EntropyFault v block x y same cut = inr (bound_then v x y cut)
+start_cut EntropyFault v block x y same cut = inr cut
 
 zero_cut_run : (r : Served) (v : Serving) (block : List ℕ) (l l1 : LinkSeen) (c : Option Clock) (b b1 : EntropySeen) (k : SinkSeen) (o : Outside) → Drew b.blocks b1.blocks block → Calls l.line l1.line (Bind v.bind) →
     Leaves (CutAtZero r v (fresh (setup_of v block))) (outside l1 c b1 k) o → Leaves (CutRun r v) (outside l c b k) o
@@ -198,8 +193,8 @@ module _ (v : Serving) (block : List ℕ) (count : ℕ) (s t : State) (l l1 : Li
 
 -- ---- runs that ended before turn 0
 
-pub undrawn_run : (v : Serving) (l : LinkSeen) (c : Option Clock) (b a : EntropySeen) (t : SinkSeen) → Follows b.blocks a.blocks → Ends EntropyFault v (outside l c b t) (outside l c a t)
-undrawn_run v l c b a t follows = leaves_map (undrawn l c b a t follows) (λ x y h. inl (inl h))
+pub undrawn_run : (v : Serving) (l : LinkSeen) (c : Option Clock) (b a : EntropySeen) (t : SinkSeen) → DrewSome 0 b.blocks a.blocks → Ends EntropyFault v (outside l c b t) (outside l c a t)
+undrawn_run v l c b a t none = leaves_map (undrawn l c b a t none) (λ x y h. inl (inl h))
 
 pub unbound_run : (v : Serving) (block : List ℕ) (l l1 : LinkSeen) (c : Option Clock) (b b1 : EntropySeen) (k : SinkSeen) → Drew b.blocks b1.blocks block → Calls l.line l1.line (Bind v.bind) →
     Ends LinkFault v (outside l c b k) (outside l1 c b1 k)

@@ -1,15 +1,17 @@
 -- What was told is traced back, call by call.
-use Rattle.std.proofs.Common.{◌≡◌, ℕ, List, [], ◌∷◌, ◌++◌, drop, refl, sym, ap, ◌∙◌, subst, Option, Some, None}
-use Rattle.rtmfp_host.specs.Linking.{Line, LinkSeen, next_given, after_call, Calls, Receives}
+use Rattle.std.proofs.Common.{◌≡◌, ℕ, ◌+◌, List, [], ◌∷◌, ◌++◌, drop, refl, sym, ap, ◌∙◌, subst, Option, Some, None, arith}
+use Rattle.std.proofs.lemmas.List.{drop-drop}
+use Rattle.rtmfp_host.specs.Linking.{Line, LinkSeen, next_given, after_call, after_receive, Calls, Receives}
 use Rattle.rtmfp_host.specs.Ticking.{Clock, next_moment, after_moment, Ticks}
-use Rattle.rtmfp_host.specs.Drawing.{EntropySeen, next_block}
+use Rattle.rtmfp_host.specs.Drawing.{DrawsFrom, EntropySeen, next_block}
+use Rattle.rtmfp_host.specs.declared.entropy.Drawn.TheVariants.{Failed}
 use Rattle.rtmfp_host.specs.Seen.{SinkSeen}
 use Rattle.rtmfp_host.specs.Writing.{Appends}
 use Rattle.rtmfp_host.specs.declared.link.Given.{Given}
 use Rattle.rtmfp_host.specs.declared.link.LinkCall.{LinkCall}
 use Rattle.rtmfp_host.specs.declared.link.LinkCall.TheVariants.{Receive}
 use Rattle.rtmfp_node.specs.Outside.{Outside, outside, Told, Tells, Leaves}
-use Rattle.rtmfp_node.specs.Acting.{Drew, Follows, CallsAll}
+use Rattle.rtmfp_node.specs.Acting.{Drew, DrewSome, CallsAll}
 
 -- What is told in the end is this function of what was told, of which this holds.
 pub record By (f : Told → Told) (F : Told → Type 0) (before after : Outside) : Type 0 where
@@ -115,20 +117,21 @@ by_receive given until l m c b t receives = record {
       );
 }
 
-heard_back : (b c : Option Line) (until : ℕ) (given : Option Given) (now : Line) → Receives b c until given → c ≡ Some now → (was : Line) × (b ≡ Some was) × (now.calls ≡ was.calls ++ Receive until ∷ [])
+heard_back : (b c : Option Line) (until : ℕ) (given : Option Given) (now : Line) → Receives b c until given → c ≡ Some now → (was : Line) × (b ≡ Some was) × (now ≡ after_receive was given until)
 heard_back b None until given now h e = absurd (cc)
 heard_back None (Some x) until given now h e = absurd h
-heard_back (Some was) (Some x) until given now h e = let same : x ≡ now = cc (e) in (was, refl, ap (λ (l : Line). l.calls) (sym same ∙ h.1))
+heard_back (Some was) (Some x) until given now h e = let same : x ≡ now = cc (e) in (was, refl, sym same ∙ h.1)
 
 -- a receive, whatever it gave
-pub leaves_wait : (given : Option Given) (until : ℕ) (l m : LinkSeen) (c : Option Clock) (b : EntropySeen) (t : SinkSeen) → Receives l.line m.line until given →
-    Leaves (λ x y. (y.line.calls ≡ x.line.calls ++ Receive until ∷ []) × (y.text ≡ x.text)) (outside l c b t) (outside m c b t)
-leaves_wait given until l m c b t receives = record {
-  back = λ now tells.
+pub by_heard : (given : Option Given) (until : ℕ) (l m : LinkSeen) (c : Option Clock) (b : EntropySeen) (t : SinkSeen) → Receives l.line m.line until given →
+    By (λ x. with_line x (after_receive x.line given until)) (λ x. Unit {0}) (outside l c b t) (outside m c b t)
+by_heard given until l m c b t receives = record {
+  trace = λ now tells.
       let p = heard_back l.line m.line until given now.line receives tells.line in (
         with_line now p.0,
         record { line = p.1; clock = tells.clock; blocks = tells.blocks; text = tells.text },
-        (p.2, refl),
+        ap (with_line now) p.2,
+        tt,
       );
 }
 
@@ -176,19 +179,46 @@ by_call call l m c b t called = record {
       );
 }
 
--- blocks that were drawn one after another, or none any more
-told_before : (b a : Option (List (List ℕ))) (now : List (List ℕ)) → Follows b a → a ≡ Some now → (was : List (List ℕ)) × (b ≡ Some was)
-told_before (Some was) a now follows e = (was, refl)
-told_before None (Some x) now follows e = absurd (cc (follows refl))
-told_before None None now follows e = absurd (cc)
+-- so many draws
+some_back : (drawn : ℕ) (b c : Option (List (List ℕ))) (now : List (List ℕ)) → DrewSome drawn b c → c ≡ Some now → (was : List (List ℕ)) × (b ≡ Some was) × (now ≡ drop drawn was)
+some_back drawn b None now h e = absurd (cc)
+some_back drawn None (Some x) now h e = absurd h
+some_back drawn (Some was) (Some x) now h e = let same : x ≡ now = cc (e) in (was, refl, sym same ∙ h)
 
-pub leaves_drawing : (l : LinkSeen) (c : Option Clock) (b a : EntropySeen) (t : SinkSeen) → Follows b.blocks a.blocks →
-    Leaves (λ x y. (y.line ≡ x.line) × (y.text ≡ x.text)) (outside l c b t) (outside l c a t)
-leaves_drawing l c b a t follows = record {
-  back = λ now tells.
-      let p = told_before b.blocks a.blocks now.blocks follows tells.blocks in (
+pub by_drew : (drawn : ℕ) (l : LinkSeen) (c : Option Clock) (b a : EntropySeen) (t : SinkSeen) → DrewSome drawn b.blocks a.blocks →
+    By (λ x. with_blocks x (drop drawn x.blocks)) (λ x. Unit {0}) (outside l c b t) (outside l c a t)
+by_drew drawn l c b a t drew = record {
+  trace = λ now tells.
+      let p = some_back drawn b.blocks a.blocks now.blocks drew tells.blocks in (
         with_blocks now p.0,
         record { line = tells.line; clock = tells.clock; blocks = p.1; text = tells.text },
-        (refl, refl),
+        ap (with_blocks now) p.2,
+        tt,
       );
 }
+
+pub drew_none : (b : Option (List (List ℕ))) → DrewSome 0 b b
+drew_none None = tt
+drew_none (Some was) = refl
+
+pub drew_failed : (b a : Option (List (List ℕ))) (block : List ℕ) → DrawsFrom b a Failed block → DrewSome 0 b a
+drew_failed b None block h = tt
+drew_failed None (Some now) block h = absurd h
+drew_failed (Some was) (Some now) block h = h
+
+drew_one : (b a : Option (List (List ℕ))) (block : List ℕ) → Drew b a block → DrewSome 1 b a
+drew_one b None block h = tt
+drew_one None (Some now) block h = absurd h
+drew_one (Some was) (Some now) block h = h.1
+
+drew_then : (j k : ℕ) (b c d : Option (List (List ℕ))) → DrewSome j b c → DrewSome k c d → DrewSome (j + k) b d
+drew_then j k b c None p q = tt
+drew_then j k b None (Some d) p q = absurd q
+drew_then j k None (Some c) (Some d) p q = absurd p
+drew_then j k (Some b) (Some c) (Some d) p q = q ∙ ap (drop k) p ∙ drop-drop k j b
+
+pub drew_next : (n : ℕ) (b c d : Option (List (List ℕ))) (block : List ℕ) → DrewSome n b c → Drew c d block → DrewSome (n + 1) b d
+drew_next n b c d block some drew = drew_then n 1 b c d some (drew_one c d block drew)
+
+pub drew_no_more : (n : ℕ) (b c d : Option (List (List ℕ))) → DrewSome n b c → DrewSome 0 c d → DrewSome n b d
+drew_no_more n b c d some none = let same : n + 0 ≡ n = omega arith in subst (λ k. DrewSome k b d) same (drew_then n 0 b c d some none)

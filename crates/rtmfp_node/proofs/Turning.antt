@@ -1,5 +1,5 @@
 -- Turns, from what their parts did.
-use Rattle.std.proofs.Common.{◌≡◌, ◌≢◌, inl, inr, ℕ, List, [], ◌∷◌, ◌++◌, drop, length, refl, sym, ap, ◌∙◌, append_assoc, append-nil, subst, Option, Some, None}
+use Rattle.std.proofs.Common.{◌≡◌, ◌≢◌, inl, inr, ℕ, ◌+◌, List, [], ◌∷◌, ◌++◌, drop, length, refl, sym, ap, ◌∙◌, append_assoc, subst, Option, Some, None, IsSome}
 use Rattle.rtmfp_host.specs.Linking.{LinkSeen, next_given, Receives}
 use Rattle.rtmfp_host.specs.Ticking.{Clock, next_moment, after_moment, Ticks}
 use Rattle.rtmfp_host.specs.Drawing.{EntropySeen, next_block}
@@ -18,11 +18,11 @@ use Rattle.rtmfp_node.specs.declared.served.Served.TheVariants.{Done, Memory, Li
 use Rattle.rtmfp_node.specs.Outside.{outside, Told, Leaves}
 use Rattle.rtmfp_node.specs.Report.{events_text, unsent_text}
 use Rattle.rtmfp_node.specs.Events.{AreOpened, AreTurnEvents, draws_of, entries_of}
-use Rattle.rtmfp_node.specs.Turn.{AreSends, outs_in, until_of}
-use Rattle.rtmfp_node.specs.Cut.{AreFirstSends, Broken, BrokenAtZero, IsPart, Untouched, Waited}
-use Rattle.rtmfp_node.specs.Acting.{Acted, ActedOn, Acts, Drew, EmitEnds, EmittedAll, EmittedSome, Follows, Noted, OpensAll, OpensEnd, TurnDone, TurnEnds, ZeroDone, ZeroEnds}
+use Rattle.rtmfp_node.specs.Turn.{AreSends, after_draws, after_wait, outs_in, until_of}
+use Rattle.rtmfp_node.specs.Cut.{AreFirstSends, Broken, BrokenAtZero, IsPart, after_fault}
+use Rattle.rtmfp_node.specs.Acting.{Acted, ActedOn, Acts, Drew, DrewSome, EmitEnds, EmittedAll, EmittedSome, Noted, OpensAll, OpensEnd, TurnDone, TurnEnds, ZeroDone, ZeroEnds}
 use Rattle.rtmfp_node.proofs.Openings.{by_opens}
-use Rattle.rtmfp_node.proofs.Told.{By, by_draw, by_emit, by_leaves, by_moment, by_receive, by_then, emitted, leaves_drawing, leaves_map, leaves_wait, by_after}
+use Rattle.rtmfp_node.proofs.Told.{By, by_draw, by_drew, by_emit, by_heard, by_leaves, by_moment, by_receive, by_then, emitted, leaves_map}
 
 -- ---- what was noted
 
@@ -118,9 +118,12 @@ module _ (v : Serving) (turn count : ℕ) (block : List ℕ) (first moment : ℕ
         breaks = record {
           sends = some.sends;
           sent = subst (λ es. AreFirstSends (outs_in es) some.sends) acted.whole some.sent;
+          left = ap (λ (z : Told). z.line.left) f.1;
           calls =
               ap (λ (z : Told). z.line.calls) f.1
               ∙ ap (λ j. (x.line.calls ++ Receive (until_of j) ∷ []) ++ some.sends) f.0.first_is;
+          clock = ap (λ (z : Told). z.clock) f.1;
+          blocks = ap (λ (z : Told). z.blocks) f.1;
           part = some.part;
           text = ap (λ (z : Told). z.text) f.1;
           is_part = subst (λ xs. IsPart xs (unsent_text turn count some.sends) some.sends some.part) (text_is v.group turn count s t m n acted.log is acted.acts) some.is_part;
@@ -144,38 +147,44 @@ turn_ends_on result v turn count block first moment None s t entries m n l l1 l2
 turn_ends_on result v turn count block first moment (Some given) s t entries m n l l1 l2 c c1 c2 b b1 k k1 drew ticks receives again acted is ends =
     turn_ends v turn count block first moment given s t entries m n l l1 l2 c c1 c2 b b1 k k1 drew ticks receives again acted is result ends
 
--- a turn that waited, and did nothing more
-pub waited : (block : List ℕ) (first : ℕ) (given : Option Given) (l l1 : LinkSeen) (c c1 : Option Clock) (b b1 : EntropySeen) (k : SinkSeen) →
-    Drew b.blocks b1.blocks block → Ticks c c1 first → Receives l.line l1.line (until_of first) given → Leaves Waited (outside l c b k) (outside l1 c1 b1 k)
-waited block first given l l1 c c1 b b1 k drew ticks receives =
-    leaves_map
-    (by_after (by_then (by_draw block l c b b1 k drew) (by_moment first l c c1 b1 k ticks)) (leaves_wait given (until_of first) l l1 c1 b1 k receives))
-    (λ x y f. record {
-      calls = f.1.0 ∙ ap (λ j. x.line.calls ++ Receive (until_of j) ∷ []) f.0.1;
-      text = f.1.1;
-    })
+abbrev failed_from : ℕ → Told → Told
+failed_from first x = record {
+  line = record { left = x.line.left; calls = x.line.calls ++ Receive (until_of first) ∷ [] };
+  clock = after_moment x.clock;
+  blocks = drop 1 x.blocks;
+  text = x.text;
+}
 
--- the same with a second moment
-pub waited_twice : (block : List ℕ) (first moment : ℕ) (given : Option Given) (l l1 : LinkSeen) (c c1 c2 : Option Clock) (b b1 : EntropySeen) (k : SinkSeen) →
-    Drew b.blocks b1.blocks block → Ticks c c1 first → Receives l.line l1.line (until_of first) given → Ticks c1 c2 moment → Leaves Waited (outside l c b k) (outside l1 c2 b1 k)
-waited_twice block first moment given l l1 c c1 c2 b b1 k drew ticks receives again =
-    let later = by_moment moment l1 c1 c2 b1 k again in
-    let sooner = waited block first given l l1 c c1 b b1 k drew ticks receives in record {
-      back = λ now tells.
-          let two = later.trace now tells in
-          let one = sooner.back two.0 two.1 in (
-            one.0,
-            one.1,
-            record {
-              calls = ap (λ (z : Told). z.line.calls) two.2 ∙ one.2.calls;
-              text = ap (λ (z : Told). z.text) two.2 ∙ one.2.text;
-            },
-          );
-    }
+abbrev waited_from : ℕ → Told → Told
+waited_from first x = record {
+  line = record { left = drop 1 x.line.left; calls = x.line.calls ++ Receive (until_of first) ∷ [] };
+  clock = after_moment (after_moment x.clock);
+  blocks = drop 1 x.blocks;
+  text = x.text;
+}
+
+-- a turn whose receive failed
+pub wait_failed : (block : List ℕ) (first : ℕ) (given : Option Given) (l l1 : LinkSeen) (c c1 : Option Clock) (b b1 : EntropySeen) (k : SinkSeen) → given ≡ None →
+    Drew b.blocks b1.blocks block → Ticks c c1 first → Receives l.line l1.line (until_of first) given → Leaves (λ x y. y ≡ after_fault x) (outside l c b k) (outside l1 c1 b1 k)
+wait_failed block first (Some given) l l1 c c1 b b1 k none drew ticks receives = absurd (cc (none))
+wait_failed block first None l l1 c c1 b b1 k none drew ticks receives =
+    by_leaves (λ x y. y ≡ after_fault x)
+    (by_then (by_then (by_draw block l c b b1 k drew) (by_moment first l c c1 b1 k ticks)) (by_heard None (until_of first) l l1 c1 b1 k receives))
+    (λ x f. ap (λ j. failed_from j x) f.0.1)
+
+-- a turn that waited, and did nothing more
+pub waited : (block : List ℕ) (first moment : ℕ) (given : Option Given) (l l1 : LinkSeen) (c c1 c2 : Option Clock) (b b1 : EntropySeen) (k : SinkSeen) → IsSome given →
+    Drew b.blocks b1.blocks block → Ticks c c1 first → Receives l.line l1.line (until_of first) given → Ticks c1 c2 moment → Leaves (λ x y. y ≡ after_wait x) (outside l c b k) (outside l1 c2 b1 k)
+waited block first moment None l l1 c c1 c2 b b1 k some drew ticks receives again = absurd (cc (some))
+waited block first moment (Some given) l l1 c c1 c2 b b1 k some drew ticks receives again =
+    by_leaves (λ x y. y ≡ after_wait x)
+    (by_then (by_then (by_then (by_draw block l c b b1 k drew) (by_moment first l c c1 b1 k ticks)) (by_heard (Some given) (until_of first) l l1 c1 b1 k receives))
+    (by_moment moment l1 c1 c2 b1 k again))
+    (λ x f. ap (λ j. waited_from j x) f.0.0.1)
 
 -- a draw that failed
-pub undrawn : (l : LinkSeen) (c : Option Clock) (b a : EntropySeen) (t : SinkSeen) → Follows b.blocks a.blocks → Leaves Untouched (outside l c b t) (outside l c a t)
-undrawn l c b a t follows = leaves_map (leaves_drawing l c b a t follows) (λ x y f. record { line = f.0; text = f.1 })
+pub undrawn : (l : LinkSeen) (c : Option Clock) (b a : EntropySeen) (t : SinkSeen) → DrewSome 0 b.blocks a.blocks → Leaves (λ x y. y ≡ x) (outside l c b t) (outside l c a t)
+undrawn l c b a t none = by_leaves (λ x y. y ≡ x) (by_drew 0 l c b a t none) (λ x f. refl)
 
 -- ---- turn 0
 
@@ -236,7 +245,10 @@ module _ (v : Serving) (moment : ℕ) (s t : State) (heard out before : List Ent
         breaks = record {
           sends = some.sends;
           sent = subst (λ es. AreFirstSends (outs_in es) some.sends) zero_whole some.sent;
-          calls = ap (λ (z : Told). z.line.calls) f.2 ∙ ap (λ xs. xs ++ some.sends) (sym (append-nil x.line.calls));
+          left = ap (λ (z : Told). z.line.left) f.2;
+          calls = ap (λ (z : Told). z.line.calls) f.2;
+          clock = ap (λ (z : Told). z.clock) f.2;
+          blocks = ap (λ (z : Told). z.blocks) f.2;
           part = some.part;
           text = ap (λ (z : Told). z.text) f.2;
           is_part = subst (λ xs. IsPart xs (unsent_text 0 0 some.sends) some.sends some.part) (text_is v.group 0 0 s t m n opens.log is opens.acts.acts) some.is_part;
@@ -251,16 +263,18 @@ module _ (v : Serving) (moment : ℕ) (s t : State) (heard out before : List Ent
   zero_ends EntropyFault none = absurd none
 
 -- turn 0 isn't gone beyond its openings
-zero_untouched : (moment : ℕ) (l : LinkSeen) (c c1 : Option Clock) (b b1 : EntropySeen) (k : SinkSeen) → Ticks c c1 moment → Follows b.blocks b1.blocks → Leaves Untouched (outside l c b k) (outside l c1 b1 k)
-zero_untouched moment l c c1 b b1 k ticks follows =
-    leaves_map (by_after (by_moment moment l c c1 b k ticks) (undrawn l c1 b b1 k follows)) (λ x y f. record { line = f.1.line; text = f.1.text })
+zero_drawn : (moment drawn : ℕ) (l : LinkSeen) (c c1 : Option Clock) (b b1 : EntropySeen) (k : SinkSeen) → Ticks c c1 moment → DrewSome drawn b.blocks b1.blocks →
+    Leaves (λ x y. y ≡ after_draws drawn x) (outside l c b k) (outside l c1 b1 k)
+zero_drawn moment drawn l c c1 b b1 k ticks drew =
+    by_leaves (λ x y. y ≡ after_draws drawn x) (by_then (by_moment moment l c c1 b k ticks) (by_drew drawn l c1 b b1 k drew)) (λ x f. refl)
 
 pub zero_cut : (result : Served) (v : Serving) (moment later : ℕ) (s t u : State) (before out : List Entry) (m n : Noted) (l : LinkSeen) (c c1 : Option Clock) (b b1 : EntropySeen) (k : SinkSeen) → result ≢ Done →
     Ticks c c1 moment → OpensEnd result v.openings moment b.blocks b1.blocks s t before out m n → ZeroEnds result v s u later (outside l c b k) (outside l c1 b1 k)
 zero_cut Done v moment later s t u before out m n l c c1 b b1 k other ticks opens = absurd (other refl)
 zero_cut Memory v moment later s t u before out m n l c c1 b b1 k other ticks opens =
-    leaves_map (zero_untouched moment l c c1 b b1 k ticks opens) (λ x y h. inl h)
-zero_cut EntropyFault v moment later s t u before out m n l c c1 b b1 k other ticks opens = zero_untouched moment l c c1 b b1 k ticks opens
+    leaves_map (zero_drawn moment (opens.0 + 1) l c c1 b b1 k ticks opens.2) (λ x y h. inl (opens.0, opens.1, h))
+zero_cut EntropyFault v moment later s t u before out m n l c c1 b b1 k other ticks opens =
+    leaves_map (zero_drawn moment opens.0 l c c1 b b1 k ticks opens.2) (λ x y h. (opens.0, opens.1, h))
 zero_cut LinkFault v moment later s t u before out m n l c c1 b b1 k other ticks opens = absurd opens
 zero_cut SinkFault v moment later s t u before out m n l c c1 b b1 k other ticks opens = absurd opens
 

@@ -1,5 +1,5 @@
 -- What the parts of a turn do.
-use Rattle.std.specs.Prelude.{◌≡◌, ◌⊎◌, ℕ, ◌+◌, ◌<◌, List, [], ◌∷◌, ◌++◌, drop, length, take, Option, Some, None, IsSome}
+use Rattle.std.specs.Prelude.{◌≡◌, ◌⊎◌, ℕ, ◌+◌, ◌<◌, List, [], ◌∷◌, ◌++◌, drop, length, take, Option, Some, None}
 use Rattle.rtmfp_host.specs.Faults.{Rose}
 use Rattle.rtmfp_host.specs.Linking.{Line}
 use Rattle.rtmfp_host.specs.Writing.{Appends}
@@ -89,9 +89,11 @@ Drew before None block = Unit {0}
 Drew None (Some now) block = ⊥
 Drew (Some before) (Some now) block = (block ≡ next_block before) × (now ≡ drop 1 before)
 
--- One that tells has told before.
-abbrev pub Follows : Option (List (List ℕ)) → Option (List (List ℕ)) → Type 0
-Follows before now = IsSome now → IsSome before
+-- so many draws that were done, and no more; one that fails takes no block
+abbrev pub DrewSome : ℕ → Option (List (List ℕ)) → Option (List (List ℕ)) → Type 0
+DrewSome drawn before None = Unit {0}
+DrewSome drawn None (Some now) = ⊥
+DrewSome drawn (Some before) (Some now) = now ≡ drop drawn before
 
 -- ---- openings
 
@@ -119,13 +121,16 @@ pub record OpensAll (openings : List OpeningWords) (moment : ℕ)
   pub opened : AreOpenedBy openings moment blocks now log
   pub acts : ActsIn 0 s t before after m n log
 
--- so far as openings go that aren't all made, nothing is asked but of the random source
+-- Where they aren't all made, so many blocks were drawn as were made, and one more where there was no
+-- memory.
 abbrev pub OpensEnd : Served → List OpeningWords → ℕ → Option (List (List ℕ)) →
     Option (List (List ℕ)) → State → State → List Entry → List Entry → Noted → Noted → Type 0
 OpensEnd Done openings moment blocks now s t before after m n =
     OpensAll openings moment blocks now s t before after m n
-OpensEnd Memory openings moment blocks now s t before after m n = Follows blocks now
-OpensEnd EntropyFault openings moment blocks now s t before after m n = Follows blocks now
+OpensEnd Memory openings moment blocks now s t before after m n =
+    (made : ℕ) × (made < length openings) × DrewSome (made + 1) blocks now
+OpensEnd EntropyFault openings moment blocks now s t before after m n =
+    (made : ℕ) × (made < length openings) × DrewSome made blocks now
 OpensEnd LinkFault openings moment blocks now s t before after m n = ⊥
 OpensEnd SinkFault openings moment blocks now s t before after m n = ⊥
 

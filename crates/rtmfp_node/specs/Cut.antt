@@ -1,5 +1,5 @@
 -- What a turn leaves that isn't taken whole.
-use Rattle.std.specs.Prelude.{◌≡◌, ◌⊎◌, ℕ, List, [], ◌∷◌, ◌++◌, take}
+use Rattle.std.specs.Prelude.{◌≡◌, ◌⊎◌, ℕ, ◌+◌, ◌<◌, List, [], ◌∷◌, ◌++◌, drop, length, take}
 use Rattle.rtmfp_host.specs.Linking.{next_given}
 use Rattle.rtmfp_host.specs.Ticking.{next_moment, after_moment}
 use Rattle.rtmfp_host.specs.Drawing.{next_block}
@@ -14,18 +14,19 @@ use Rattle.rtmfp_node.specs.declared.served.Served.TheVariants.{Done, Memory, Li
 use Rattle.rtmfp_node.specs.Outside.{Told}
 use Rattle.rtmfp_node.specs.Events.{AreOpened, AreTurnEvents, ExtendsBy, draws_of, entries_of}
 use Rattle.rtmfp_node.specs.Report.{events_text, unsent_text}
-use Rattle.rtmfp_node.specs.Turn.{AreSends, outs_in, until_of}
+use Rattle.rtmfp_node.specs.Turn.{AreSends, after_draws, after_wait, outs_in, until_of}
 
--- The link wasn't called, and nothing was written.
-pub record Untouched (before after : Told) : Type 0 where
-  pub line : after.line ≡ before.line
-  pub text : after.text ≡ before.text
-
--- The link was asked for a datagram, and nothing was written.
-pub record Waited (before after : Told) : Type 0 where
-  pub calls : after.line.calls
-      ≡ before.line.calls ++ Receive (until_of (next_moment before.clock)) ∷ []
-  pub text : after.text ≡ before.text
+-- A draw and a moment were had, and the receive failed: it took no place. Nothing was written.
+abbrev pub after_fault : Told → Told
+after_fault before = record {
+  line = record {
+    left = before.line.left;
+    calls = before.line.calls ++ Receive (until_of (next_moment before.clock)) ∷ [];
+  };
+  clock = after_moment before.clock;
+  blocks = drop 1 before.blocks;
+  text = before.text;
+}
 
 -- sends of the first of these datagrams
 abbrev pub AreFirstSends : List Sending → List LinkCall → Type 0
@@ -39,13 +40,15 @@ IsPart report lost sends part =
     ((sends ≡ []) × (k : ℕ) × (part ≡ take k report)) ⊎
     ((k : ℕ) × (part ≡ report ++ take k lost))
 
--- Behind these calls of the link, the writing or the sending of a turn with these events was broken
--- off.
-pub record Breaks (v : Serving) (turn count : ℕ) (waits : List LinkCall) (before after : Told)
-    (log : List Event) : Type 0 where
+-- After what was had before, the writing or the sending of a turn with these events was broken off.
+pub record Breaks (v : Serving) (turn count : ℕ) (before after : Told) (log : List Event)
+    : Type 0 where
   pub sends : List LinkCall
   pub sent : AreFirstSends (outs_in (entries_of log)) sends
-  pub calls : after.line.calls ≡ before.line.calls ++ waits ++ sends
+  pub left : after.line.left ≡ before.line.left
+  pub calls : after.line.calls ≡ before.line.calls ++ sends
+  pub clock : after.clock ≡ before.clock
+  pub blocks : after.blocks ≡ before.blocks
   pub part : List ℕ
   pub text : after.text ≡ before.text ++ part
   pub is_part : IsPart (events_text v.group turn count log) (unsent_text turn count sends) sends
@@ -58,8 +61,7 @@ pub record Broken (v : Serving) (turn count : ℕ) (s : State) (before after : T
   pub events : AreTurnEvents v.send (next_given before.line.left)
       (next_moment (after_moment before.clock)) (draws_of (next_block before.blocks)) log
   pub stands : ExtendsBy s left log
-  pub breaks : Breaks v turn count (Receive (until_of (next_moment before.clock)) ∷ []) before after
-      log
+  pub breaks : Breaks v turn count (after_wait before) after log
 
 -- the same of turn 0, which waits for nothing
 pub record BrokenAtZero (v : Serving) (s : State) (before after : Told) : Type 0 where
@@ -67,21 +69,32 @@ pub record BrokenAtZero (v : Serving) (s : State) (before after : Told) : Type 0
   pub left : State
   pub events : AreOpened v.openings (next_moment before.clock) before.blocks log
   pub stands : ExtendsBy s left log
-  pub breaks : Breaks v 0 0 [] before after log
+  pub breaks : Breaks v 0 0 (after_draws (length v.openings) before) after log
 
--- how a turn, which an end began in s, ends with each fault, and for want of memory
+-- How a turn, which an end began in s, ends with each fault, and for want of memory. A draw that
+-- fails is the first thing of a turn, so all is as it was then.
 abbrev pub CutBy : Served → Serving → ℕ → ℕ → State → Told → Told → Type 0
 CutBy Done v turn count s before after = ⊥
 CutBy Memory v turn count s before after =
-    Waited before after ⊎ Broken v turn count s before after
-CutBy LinkFault v turn count s before after = Waited before after
-CutBy EntropyFault v turn count s before after = Untouched before after
+    (after ≡ after_wait before) ⊎ Broken v turn count s before after
+CutBy LinkFault v turn count s before after = after ≡ after_fault before
+CutBy EntropyFault v turn count s before after = after ≡ before
 CutBy SinkFault v turn count s before after = Broken v turn count s before after
+
+-- Turn 0 made some of its openings, and then a draw failed: it took no block.
+abbrev pub DrawFails : Serving → Told → Told → Type 0
+DrawFails v before after =
+    (made : ℕ) × (made < length v.openings) × (after ≡ after_draws made before)
+
+-- Turn 0 made some of its openings, and found no memory for the next one, whose block was drawn.
+abbrev pub OpenFails : Serving → Told → Told → Type 0
+OpenFails v before after =
+    (made : ℕ) × (made < length v.openings) × (after ≡ after_draws (made + 1) before)
 
 -- how turn 0 ends; it waits for nothing
 abbrev pub CutAtZero : Served → Serving → State → Told → Told → Type 0
 CutAtZero Done v s before after = ⊥
-CutAtZero Memory v s before after = Untouched before after ⊎ BrokenAtZero v s before after
+CutAtZero Memory v s before after = OpenFails v before after ⊎ BrokenAtZero v s before after
 CutAtZero LinkFault v s before after = ⊥
-CutAtZero EntropyFault v s before after = Untouched before after
+CutAtZero EntropyFault v s before after = DrawFails v before after
 CutAtZero SinkFault v s before after = BrokenAtZero v s before after

@@ -49,6 +49,27 @@ pub record TurnZero (v : Serving) (before after : Told) (log : List Event) : Typ
 abbrev pub until_of : ℕ → ℕ
 until_of first = min (first + 50) (2 ^ 64 - 1)
 
+-- after the draw, the first moment, the receive and the second moment of a turn
+abbrev pub after_wait : Told → Told
+after_wait before = record {
+  line = record {
+    left = drop 1 before.line.left;
+    calls = before.line.calls ++ Receive (until_of (next_moment before.clock)) ∷ [];
+  };
+  clock = after_moment (after_moment before.clock);
+  blocks = drop 1 before.blocks;
+  text = before.text;
+}
+
+-- after so many of the draws of turn 0, which come after its moment
+abbrev pub after_draws : ℕ → Told → Told
+after_draws drawn before = record {
+  line = before.line;
+  clock = after_moment before.clock;
+  blocks = drop drawn before.blocks;
+  text = before.text;
+}
+
 -- A turn with this number, before which so many datagrams went out, with its events: a draw, a
 -- moment, a receive, a second moment; the calls of the end at that; their report; a send for each
 -- datagram.

@@ -1,7 +1,6 @@
 -- How a run of a node ends.
-use Rattle.std.specs.Prelude.{◌≡◌, ◌⊎◌, ℕ, ◌+◌, ◌<◌, List, [], ◌∷◌, ◌++◌, drop, take, Option, Some, None}
+use Rattle.std.specs.Prelude.{◌≡◌, ◌⊎◌, ℕ, ◌+◌, ◌<◌, List, ◌++◌, drop, take, Option, Some, None}
 use Rattle.rtmfp_host.specs.Drawing.{next_block}
-use Rattle.rtmfp_host.specs.declared.link.LinkCall.TheVariants.{Bind}
 use Rattle.endpoint_model.specs.declared.config.Config.{Config}
 use Rattle.endpoint_model.specs.Event.{Setup, Event}
 use Rattle.endpoint_model.specs.State.{State, fresh}
@@ -14,7 +13,7 @@ use Rattle.rtmfp_node.specs.declared.served.Served.TheVariants.{Done, Memory, Li
 use Rattle.rtmfp_node.specs.Outside.{Outside, Told, Leaves}
 use Rattle.rtmfp_node.specs.Events.{entries_of}
 use Rattle.rtmfp_node.specs.Turn.{Run, after_bind}
-use Rattle.rtmfp_node.specs.Cut.{CutAtZero, CutBy, Untouched}
+use Rattle.rtmfp_node.specs.Cut.{CutAtZero, CutBy}
 
 -- ---- what the end is given
 
@@ -45,17 +44,17 @@ pub record Ran (v : Serving) (turns : ℕ) (before after : Told) : Type 0 where
   pub stands : StandsFor (setup_of v (next_block before.blocks)) log state
   pub lawful : IsLawful (setup_of v (next_block before.blocks)) log
 
--- Nothing but the bind was done of the link, and nothing was written.
-pub record OnlyBound (v : Serving) (before after : Told) : Type 0 where
-  pub calls : after.line.calls ≡ before.line.calls ++ Bind v.bind ∷ []
-  pub text : after.text ≡ before.text
-
--- How a run ends before turn 0 is done: at the first draw, at the bind, or in turn 0.
+-- How a run ends before turn 0 is done. A random source that fails has failed at the first draw, and
+-- then all is as it was, or at that of an opening, after the bind. A bind that fails comes after the
+-- first draw, and nothing comes after it; the same is so where no memory is found to begin an end.
+-- Else turn 0 was cut, after the first draw and the bind.
 abbrev pub CutAtStart : Served → Serving → Told → Told → Type 0
 CutAtStart Done v before after = ⊥
-CutAtStart LinkFault v before after = OnlyBound v before after
-CutAtStart EntropyFault v before after = Untouched before after ⊎ OnlyBound v before after
-CutAtStart Memory v before after = OnlyBound v before after ⊎
+CutAtStart LinkFault v before after = after ≡ after_bind v before
+CutAtStart EntropyFault v before after = (after ≡ before) ⊎
+    CutAtZero EntropyFault v (fresh (setup_of v (next_block before.blocks))) (after_bind v before)
+    after
+CutAtStart Memory v before after = (after ≡ after_bind v before) ⊎
     CutAtZero Memory v (fresh (setup_of v (next_block before.blocks))) (after_bind v before) after
 CutAtStart SinkFault v before after =
     CutAtZero SinkFault v (fresh (setup_of v (next_block before.blocks))) (after_bind v before)

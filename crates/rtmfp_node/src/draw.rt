@@ -3,7 +3,7 @@ ghost use Rattle.std.specs.Prelude.{◌≡◌, ◌++◌, IfOk, IfSome, None, dro
 ghost use Rattle.rtmfp_host.specs.Faults.{Rose};
 ghost use Rattle.identity.specs.Certificates.{IsCertificate};
 ghost use Rattle.rtmfp_words.specs.Node.{IsNodeName};
-ghost use Rattle.rtmfp_node.specs.Acting.{Drew, Follows};
+ghost use Rattle.rtmfp_node.specs.Acting.{Drew, DrewSome};
 ghost use Rattle.rtmfp_node.specs.Events.{draws_of};
 ghost use Rattle.rtmfp_node.specs.Outside.{Stays};
 ghost use Rattle.rtmfp_node.specs.Whole.{instance_in};
@@ -21,7 +21,8 @@ pub(crate) fn draw<E: Entropy>(entropy: &mut E) -> Option<[u8; 64]>
         (E.seen entropy.new).faults) }
     ensures failed { result ≡ None → Rose (E.seen entropy.old).faults
         (E.seen entropy.new).faults }
-    ensures follows { Follows (E.seen entropy.old).blocks (E.seen entropy.new).blocks }
+    ensures undrawn { result ≡ None → DrewSome 0 (E.seen entropy.old).blocks
+        (E.seen entropy.new).blocks }
 {
     let mut block = [0; 64];
     match entropy.draw(&mut block) {

@@ -2,21 +2,27 @@
 //! contract of each states what the definitions that the contract of `serve` cites are there. All
 //! of it is own.
 
-ghost use Rattle.std.specs.Prelude.{◌≡◌, ◌∷◌, ◌++◌, ◌+◌, ◌-◌, ◌^◌, ℕ, List, [], true, false, None, Some, codes, decimal, replicate};
+ghost use Rattle.std.specs.Prelude.{◌≡◌, ◌∷◌, ◌++◌, ◌+◌, ◌-◌, ◌^◌, ◌<◌, ℕ, List, [], true, false, Option, None, Some, codes, decimal, drop, length};
 ghost use Rattle.glare_core.specs.declared.facts.Joined.{Joined};
 ghost use Rattle.glare_core.specs.declared.facts.Fact.TheVariants.{Born, Opened};
 ghost use Rattle.rtmfp_forms.specs.Address.{AddressParts};
-ghost use Rattle.rtmfp_host.specs.declared.link.LinkCall.TheVariants.{Send};
+ghost use Rattle.rtmfp_host.specs.declared.link.Given.TheVariants.{Datagram, Quiet};
+ghost use Rattle.rtmfp_host.specs.declared.link.LinkCall.TheVariants.{Bind, Send};
 ghost use Rattle.endpoint_model.specs.declared.answers.OpenRefusal.TheVariants.{Start};
 ghost use Rattle.glare_core.specs.declared.answers.StartRefusal.TheVariants.{AttemptsSpent};
 ghost use Rattle.endpoint_model.specs.declared.entry.Entry.TheVariants.{Closed, Fact as FactEntry};
-ghost use Rattle.endpoint_model.specs.Event.{NotOpened};
+ghost use Rattle.endpoint_model.specs.declared.config.Draws.{Draws};
+ghost use Rattle.endpoint_model.specs.Event.{Event, NotOpened, Receive, Tick};
 ghost use Rattle.endpoint_model.specs.FlowCall.{OpenFlow, Queue};
 ghost use Rattle.rtmfp_words.specs.Node.{Serving};
-ghost use Rattle.rtmfp_node.specs.Events.{draws_of, opened_in, opens_flow, queues};
+ghost use Rattle.rtmfp_words.specs.declared.opening_words.OpeningWords.{OpeningWords};
+ghost use Rattle.rtmfp_node.specs.declared.served.Served.TheVariants.{EntropyFault, LinkFault};
+ghost use Rattle.rtmfp_node.specs.Calls.{calls_in, first_added, message_calls, opening_calls};
+ghost use Rattle.rtmfp_node.specs.Events.{AreOpened, AreTurnEvents, draws_of, opened_in, opens_flow, queues};
+ghost use Rattle.rtmfp_node.specs.Outside.{Told};
 ghost use Rattle.rtmfp_node.specs.Report.{refused_text, unsent_line, unsent_text};
 ghost use Rattle.rtmfp_node.specs.Turn.{until_of};
-ghost use Rattle.rtmfp_node.specs.Whole.{config_of, instance_in, setup_of};
+ghost use Rattle.rtmfp_node.specs.Whole.{CutAtStart, setup_of};
 
 /// A receive waits 50 ms, and not beyond the last moment.
 pub fn a_receive_waits_50_ms()
@@ -30,26 +36,79 @@ pub fn a_receive_waits_50_ms()
 /// Of a drawn block the nonce is 16 bytes, then come a tag of 16 and a token of 16, and a word of 4
 /// that is read with its most significant byte first. The other 12 are nothing.
 pub fn a_block_has_its_parts()
-    ensures { draws_of (replicate 16 1 ++ replicate 16 2 ++ replicate 16 3 ++ (4 ∷ 5 ∷ 6 ∷ 7 ∷ [])
-        ++ replicate 12 8)
+    ensures { draws_of (codes "ABCDEFGHIJKLMNOPQRSTUVWXYZabcdefghijklmnopqrstuvwxyz0123456789+/")
         ≡ record {
-          nonce = replicate 16 1;
-          tag = replicate 16 2;
-          token = replicate 16 3;
-          word = 67438087;
+          nonce = codes "ABCDEFGHIJKLMNOP";
+          tag = codes "QRSTUVWXYZabcdef";
+          token = codes "ghijklmnopqrstuv";
+          word = 2004384122;
         } }
 {}
 
-/// The first block begins the certificate, unless the words do, and its bytes 16 to 47 are the
-/// cookie secret. A node knows 65,536 peers and has 4,096 attempts and sessions at most.
+/// The first block begins the certificate, unless the words do, and the name stands behind it; its
+/// bytes 16 to 47 are the cookie secret. The group's secret is that of the words. A node knows
+/// 65,536 peers and has 4,096 attempts and sessions at most.
 pub fn an_end_is_made_of_the_first_block()
-    ensures drawn { instance_in None (replicate 16 1 ++ replicate 48 2) ≡ replicate 16 1 }
-    ensures told { instance_in (Some (replicate 16 3)) (replicate 64 1) ≡ replicate 16 3 }
-    ensures secret { (v : Serving) → (setup_of v (replicate 16 1 ++ replicate 32 2
-        ++ replicate 16 3)).cookie_secret ≡ replicate 32 2 }
-    ensures peers { (v : Serving) → (config_of v).max_peers ≡ 65536 }
-    ensures sessions { (v : Serving) → (config_of v).max_sessions ≡ 4096 }
-    ensures introduces { (v : Serving) → (config_of v).introduces ≡ v.introduce }
+    ensures drawn { (v : Serving) → setup_of (record v {
+      group = codes "0123456789+/abcdefghijklmnopqrst";
+      name = codes "node";
+      instance = None;
+      introduce = true;
+    }) (codes "ABCDEFGHIJKLMNOPQRSTUVWXYZabcdefghijklmnopqrstuvwxyz0123456789+/")
+        ≡ record {
+          config = record { max_peers = 65536; max_sessions = 4096; introduces = true };
+          cert = codes "ABCDEFGHIJKLMNOPnode";
+          secret = codes "0123456789+/abcdefghijklmnopqrst";
+          cookie_secret = codes "QRSTUVWXYZabcdefghijklmnopqrstuv";
+        } }
+    ensures told { (v : Serving) → setup_of (record v {
+      group = codes "0123456789+/abcdefghijklmnopqrst";
+      name = codes "node";
+      instance = Some (codes "fedcba9876543210");
+      introduce = false;
+    }) (codes "ABCDEFGHIJKLMNOPQRSTUVWXYZabcdefghijklmnopqrstuvwxyz0123456789+/")
+        ≡ record {
+          config = record { max_peers = 65536; max_sessions = 4096; introduces = false };
+          cert = codes "fedcba9876543210node";
+          secret = codes "0123456789+/abcdefghijklmnopqrst";
+          cookie_secret = codes "QRSTUVWXYZabcdefghijklmnopqrstuv";
+        } }
+{}
+
+/// In turn 0 each opening is a call with the draws of a block of its own, in their order.
+pub fn turn_zero_makes_its_openings()
+    ensures { (openings : List OpeningWords) (moment : ℕ) (blocks : List (List ℕ))
+        (log : List Event) → AreOpened openings moment blocks log →
+        calls_in log ≡ opening_calls openings blocks }
+{}
+
+/// A turn with a datagram takes it, then opens a flow and queues the message in each session that
+/// it opened, in their order, and then ticks; with no message, and with no datagram, nothing else
+/// is called.
+pub fn a_turn_receives_then_sends_then_ticks()
+    ensures all { (message : List ℕ) (from : AddressParts) (datagram : List ℕ) (moment : ℕ)
+        (draws : Draws) (log : List Event) →
+        AreTurnEvents (Some message) (Datagram from datagram) moment draws log →
+        calls_in log ≡ Receive from datagram draws
+        ∷ (message_calls message (opened_in (first_added log)) ++ Tick draws ∷ []) }
+    ensures silent { (from : AddressParts) (datagram : List ℕ) (moment : ℕ) (draws : Draws)
+        (log : List Event) → AreTurnEvents None (Datagram from datagram) moment draws log →
+        calls_in log ≡ Receive from datagram draws ∷ Tick draws ∷ [] }
+    ensures quiet { (message : Option (List ℕ)) (moment : ℕ) (draws : Draws) (log : List Event) →
+        AreTurnEvents message Quiet moment draws log → calls_in log ≡ Tick draws ∷ [] }
+{}
+
+/// A random source that fails before turn 0 is done, and gives nothing, leaves the node's link
+/// alone: the first draw comes before the bind. One that fails behind the bind has given the first
+/// block. A bind comes after one block, and openings take at most one more each.
+pub fn a_node_draws_before_it_binds()
+    ensures untouched { (v : Serving) (x y : Told) → CutAtStart EntropyFault v x y →
+        0 < length x.blocks → length y.blocks ≡ length x.blocks → y ≡ x }
+    ensures bound { (v : Serving) (x y : Told) → CutAtStart EntropyFault v x y →
+        0 < length x.blocks → y.line.calls ≡ x.line.calls ++ Bind v.bind ∷ [] →
+        length y.blocks < length x.blocks }
+    ensures failed { (v : Serving) (x y : Told) → CutAtStart LinkFault v x y →
+        y.blocks ≡ drop 1 x.blocks }
 {}
 
 /// A flow for a message has priority 4 and the one byte 0x6d as metadata; the message goes into

@@ -1,5 +1,5 @@
 //! A turn of a node.
-ghost use Rattle.std.specs.Prelude.{◌≡◌, ℕ, ◌++◌, OnOk, true, false};
+ghost use Rattle.std.specs.Prelude.{◌≡◌, ℕ, List, ◌++◌, IsSome, OnOk, true, false};
 ghost use Rattle.rtmfp_host.specs.Faults.{CountsGot};
 ghost use Rattle.rtmfp_host.specs.Linking.{Fits, given_by};
 ghost use Rattle.rtmfp_node.specs.Acting.{ActedOn, TurnEnds, begun};
@@ -120,6 +120,7 @@ fn act_anew(
 /// Whether a receive failed.
 fn is_failed(got: &Got) -> bool
     ensures yes { result ≡ true → got.now ≡ Got.Failed }
+    ensures given { result ≡ false → (buf : List ℕ) → IsSome (given_by got.now buf) }
     ensures no { result ≡ false → (before now : ℕ) → CountsGot got.now before now → now ≡ before }
 {
     match got {

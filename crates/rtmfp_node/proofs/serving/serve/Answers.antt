@@ -9,7 +9,7 @@ returns-clause-ends g c =
 pub returns-in_default-clause-ends : goal.returns-in_default-clause-ends
 returns-in_default-clause-ends g c =
     undrawn_run c.args.words.now (g.L.Link.seen c.args.link.now) (g.C.Moments.seen c.args.clock.now) (g.E.Entropy.seen c.args.entropy.now) (g.E.Entropy.seen c.draw.new.entropy)
-    (g.K.Sink.seen c.args.sink.now) c.draw.ensures.follows
+    (g.K.Sink.seen c.args.sink.now) (c.draw.ensures.undrawn (search rules))
 
 pub returns-in-Failed-clause-ends : goal.returns-in-Failed-clause-ends
 returns-in-Failed-clause-ends g c =

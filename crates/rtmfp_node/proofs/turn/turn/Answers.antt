@@ -4,7 +4,7 @@ use Rattle.rtmfp_node.specs.Outside.{outside}
 use Rattle.rtmfp_node.specs.Acting.{begun}
 use Rattle.rtmfp_node.proofs.Sends.{counted_all, emit_as, passes_all}
 use Rattle.rtmfp_node.proofs.Told.{leaves_map}
-use Rattle.rtmfp_node.proofs.Turning.{turn_ends_on, undrawn, waited, waited_twice}
+use Rattle.rtmfp_node.proofs.Turning.{turn_ends_on, undrawn, wait_failed, waited}
 use Rattle.rtmfp_node.proofs.turn.turn.Goals as goal
 
 pub returns-clause-ends : goal.returns-clause-ends
@@ -37,19 +37,19 @@ returns-clause-passed g c =
 
 pub returns-then-is_failed-clause-ends : goal.returns-then-is_failed-clause-ends
 returns-then-is_failed-clause-ends g c =
-    waited c.in-Some.block c.now-first.result (given_by c.receive-got.result c.receive-got.new.buf) (g.L.Link.seen c.args.link.now) (g.L.Link.seen c.receive-got.new.self)
+    wait_failed c.in-Some.block c.now-first.result (given_by c.receive-got.result c.receive-got.new.buf) (g.L.Link.seen c.args.link.now) (g.L.Link.seen c.receive-got.new.self)
     (g.C.Moments.seen c.args.clock.now) (g.C.Moments.seen c.now-first.new.self) (g.E.Entropy.seen c.args.entropy.now) (g.E.Entropy.seen c.draw.new.entropy) (g.K.Sink.seen c.args.sink.now)
-    (search rules) (search rules) (search rules)
+    (ap (λ x. given_by x c.receive-got.new.buf) (c.is_failed.ensures.yes (search rules))) (search rules) (search rules) (search rules)
 
 pub returns-in_default-act_anew-clause-ends : goal.returns-in_default-act_anew-clause-ends
 returns-in_default-act_anew-clause-ends g c =
     leaves_map
-    (waited_twice c.in-Some.block c.now-first.result c.now-moment.result (given_by c.receive-got.result c.receive-got.new.buf) (g.L.Link.seen c.args.link.now) (g.L.Link.seen c.receive-got.new.self)
+    (waited c.in-Some.block c.now-first.result c.now-moment.result (given_by c.receive-got.result c.receive-got.new.buf) (g.L.Link.seen c.args.link.now) (g.L.Link.seen c.receive-got.new.self)
     (g.C.Moments.seen c.args.clock.now) (g.C.Moments.seen c.now-first.new.self) (g.C.Moments.seen c.now-moment.new.self) (g.E.Entropy.seen c.args.entropy.now) (g.E.Entropy.seen c.draw.new.entropy)
-    (g.K.Sink.seen c.args.sink.now) (search rules) (search rules) (search rules) (search rules))
+    (g.K.Sink.seen c.args.sink.now) (c.is_failed.ensures.given (search rules) c.receive-got.new.buf) (search rules) (search rules) (search rules) (search rules))
     (λ x y h. inl h)
 
 pub returns-in_default-clause-ends : goal.returns-in_default-clause-ends
 returns-in_default-clause-ends g c =
     undrawn (g.L.Link.seen c.args.link.now) (g.C.Moments.seen c.args.clock.now) (g.E.Entropy.seen c.args.entropy.now) (g.E.Entropy.seen c.draw.new.entropy) (g.K.Sink.seen c.args.sink.now)
-    c.draw.ensures.follows
+    (c.draw.ensures.undrawn (search rules))
