@@ -11,3 +11,4 @@ mod SessionEnding
 mod Closing
 mod Stories
 mod Quarrels
+mod Stopping

@@ -9,3 +9,4 @@ pub mod Ends
 pub mod SessionEnds
 pub mod Closings
 pub mod Histories
+pub mod Stops

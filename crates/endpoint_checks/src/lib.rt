@@ -13,6 +13,7 @@ ghost use Rattle.endpoint_checks.specs.Opens.{TheTableRefusesAnswers, TheTableRe
 ghost use Rattle.endpoint_checks.specs.Sends.{TheTableRefusesAnswersSent, TheTableRefusesKeyingsSent, TheTableRefusesNumbers, TheTableRefusesSends, TheTableRefusesSendsInSessions};
 ghost use Rattle.endpoint_checks.specs.SessionEnds.{TheTableRefusesFars, TheTableRefusesIdles, TheTableRefusesNears, TheTableRefusesUnconfirmed};
 ghost use Rattle.endpoint_checks.specs.Starts.{TheTableRefusesStarts};
+ghost use Rattle.endpoint_checks.specs.Stops.{StopsAreInOrder};
 
 /// Attempts that start without an open towards their peer, with another nonce, another number, or a
 /// session ID that is 0 or in use.
@@ -139,4 +140,10 @@ pub fn stale()
 /// otherwise than agreed histories allow.
 pub fn disagreed()
     ensures { HistoriesRefuseDisagreed }
+{}
+
+/// Where a datagram that finds no memory can stop: acks behind a chunk that found none, and more
+/// chunks than there are, aren't among it.
+pub fn stops()
+    ensures { StopsAreInOrder }
 {}
