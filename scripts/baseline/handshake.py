@@ -2,7 +2,7 @@
 """The six datagrams of a handshake of two ends, in hexadecimal.
 
 It is written after RFC 7016 and docs/PROTOCOL.md, apart from the code of this repository, with Python's
-hashlib and hmac alone. The test `crates/tests_ends/src/handshake.rt` holds what it prints.
+hashlib and hmac alone. The table `bytes-of-a-handshake` of `crates/examples/data/ends.tables` holds what it prints.
 
   scripts/baseline/handshake.py
 """

@@ -1,5 +1,6 @@
 #!/usr/bin/env python3
-"""Startup chunks that a member of the group makes, of which the last values are wrong, too: rows of crates/tests_ends.
+"""Startup chunks that a member of the group makes, of which the last values are wrong, too: rows of crates/examples/data, of
+the tables of places and stages of crates/examples, and of crates/tests_crypto.
 
 It is written after RFC 7016 and docs/PROTOCOL.md, apart from the code of this repository, with Python's hashlib and hmac
 alone. It prints a row a chunk: the end that takes it (a called, b answers), under which session ID, and the packet in
@@ -93,6 +94,20 @@ def main():
     show("a", 3, answer(RIGHT, stranger, bytes([6]) * 16))
     show("a", 3, answer(RIGHT, PRINT_A, bytes([6]) * 16))
     show("a", 3, answer(RIGHT, PRINT_A, NONCE))
+    # where two causes stand: a signature alone, a stale number beside glare and beside limits, and answers alike
+    show("b", 0, keying(WRONG, cookie(), CALLER, 1, PRINT_A))
+    show("a", 0, keying(RIGHT, cookie(), ANSWERER, 0, PRINT_C))
+    show("b", 0, keying(RIGHT, cookie(), OTHER, 0, PRINT_A))
+    show("b", 0, keying(RIGHT, cookie(), CALLER, 0, stranger))
+    show("a", 3, answer(WRONG, PRINT_A, NONCE))
+    show("a", 3, answer(WRONG, PRINT_A, bytes([6]) * 16))
+    show("a", 3, answer(WRONG, hashlib.sha256(OTHER).digest(), NONCE))
+    # what is asked of an end and not given to it: a keying with its cookie, and answers to an attempt with another nonce
+    show("b", 0, keying(RIGHT, cookie(), CALLER, 0, PRINT_C))
+    show("b", 0, keying(WRONG, cookie(), CALLER, 0, PRINT_C))
+    show("b", 0, keying(RIGHT, b"\x02", CALLER, 1, PRINT_A))
+    for key, nonce in ((RIGHT, bytes([3]) * 16), (RIGHT, bytes(16)), (WRONG, bytes([3]) * 16)):
+        show("a", 6, answer(key, PRINT_A, nonce))
 
 
 main()

@@ -67,23 +67,37 @@ impl Job {
 fn main(rt: HostRuntime) -> io::Result<()> {
     for line in rt.lines(rt.alloc()) {
         let line = line?;
-        let mut words = line.split_whitespace();
-        let word = words.next().unwrap_or("");
-        let mut numbers = [0u32; 3];
-        for number in numbers.iter_mut() {
-            *number = words.next().unwrap_or("").parse().unwrap_or(0);
-        }
-        let [size, count, timed] = numbers;
-        let job = Job {
-            size,
-            count,
-            timed: timed != 0,
-            alike: word == "alike",
-        };
-        println!(rt; "{word} {size}")?;
-        if do_job(&rt, word, job).is_none() {
-            println!(rt; "stopped")?;
-        }
+        answer(&rt, line.as_str())?;
+    }
+    Ok(())
+}
+
+/// The word of a line at this place.
+fn word(line: &str, index: usize) -> &str {
+    line.split_whitespace().nth(index).unwrap_or("")
+}
+
+/// The number of a line at this place, 0 where there is none.
+fn number(line: &str, index: usize) -> u32 {
+    word(line, index).parse().unwrap_or(0)
+}
+
+/// What a line asks for.
+fn job_of(line: &str) -> Job {
+    Job {
+        size: number(line, 1),
+        count: number(line, 2),
+        timed: number(line, 3) != 0,
+        alike: word(line, 0) == "alike",
+    }
+}
+
+/// Answers a line.
+fn answer(rt: &HostRuntime, line: &str) -> io::Result<()> {
+    let (word, job) = (word(line, 0), job_of(line));
+    println!(rt; "{word} {}", job.size)?;
+    if do_job(rt, word, job).is_none() {
+        println!(rt; "stopped")?;
     }
     Ok(())
 }

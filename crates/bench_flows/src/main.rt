@@ -100,88 +100,90 @@ fn main(rt: HostRuntime) -> io::Result<()> {
     }
     for line in rt.lines(rt.alloc()) {
         let line = line?;
-        let mut words = line.split_whitespace();
-        let word = words.next().unwrap_or("");
-        let mut numbers = [0u64; 5];
-        for number in numbers.iter_mut() {
-            *number = words.next().unwrap_or("").parse().unwrap_or(0);
-        }
-        if let Ok(moved) = moved_by(&rt, word, numbers, bytes.as_slice()) {
-            let chunks = moved.chunks;
-            let handed = moved.handed;
-            println!(rt; "{word} {chunks} {handed}")?;
-        }
+        answer(&rt, line.as_str(), bytes.as_slice())?;
     }
     Ok(())
 }
 
-/// Does what a line tells.
-fn moved_by(
+/// The word of a line at this place.
+fn word(line: &str, index: usize) -> &str {
+    line.split_whitespace().nth(index).unwrap_or("")
+}
+
+/// The number of a line at this place, 0 where there is none.
+fn number(line: &str, index: usize) -> u64 {
+    word(line, index).parse().unwrap_or(0)
+}
+
+/// Answers a line.
+fn answer(rt: &HostRuntime, line: &str, bytes: &[u8]) -> io::Result<()> {
+    let word = word(line, 0);
+    match by_receiver(rt, word, line, bytes) {
+        Ok(moved) => println!(rt; "{word} {} {}", moved.chunks, moved.handed),
+        Err(_) => Ok(()),
+    }
+}
+
+/// Does what a line tells, if it is of a receiver.
+fn by_receiver(
     rt: &impl AllocGlobal,
     word: &str,
-    numbers: [u64; 5],
+    line: &str,
     bytes: &[u8],
 ) -> Result<Moved, Memory> {
-    let [size, count, waiting, lost, window] = numbers;
-    if word == "holes" {
-        return holes(rt, size);
+    let size = number(line, 1);
+    match word {
+        "holes" => holes(rt, size),
+        "halves" => halves(rt, size),
+        "passed" => passed(rt, size),
+        "descending" => descending(rt, size),
+        "joined" => joined(rt, size),
+        "full" => full(rt, size),
+        _ => by_sender(rt, word, line, bytes),
     }
-    if word == "halves" {
-        return halves(rt, size);
+}
+
+/// Does what a line tells, if it is of a sender whose messages are given up or told.
+fn by_sender(rt: &impl AllocGlobal, word: &str, line: &str, bytes: &[u8]) -> Result<Moved, Memory> {
+    let size = number(line, 1);
+    match word {
+        "wide" => wide(rt, size),
+        "abandons" => abandons(rt, size),
+        "limits" => limits(rt, size),
+        "deadlines" => deadlines(rt, size),
+        "unsent" => unsent(rt, size),
+        _ => by_late_sender(rt, word, line, bytes),
     }
-    if word == "passed" {
-        return passed(rt, size);
+}
+
+/// Does what a line tells, if it is of a sender whose messages are sent again, or moves messages.
+fn by_late_sender(
+    rt: &impl AllocGlobal,
+    word: &str,
+    line: &str,
+    bytes: &[u8],
+) -> Result<Moved, Memory> {
+    let size = number(line, 1);
+    match word {
+        "late" => late(rt, size),
+        "early" => early(rt, size),
+        "renewed" => renewed(rt, size),
+        "beyond" => beyond(rt, size),
+        "stale" => stale(rt, size),
+        "cut" => cut(rt, size, bytes),
+        _ => move_all(rt, bytes, job_of(line)),
     }
-    if word == "descending" {
-        return descending(rt, size);
+}
+
+/// What a line tells to move.
+fn job_of(line: &str) -> Job {
+    Job {
+        size: number(line, 1).min(1_048_576) as usize,
+        count: number(line, 2),
+        waiting: number(line, 3),
+        lost: number(line, 4),
+        window: number(line, 5),
     }
-    if word == "joined" {
-        return joined(rt, size);
-    }
-    if word == "late" {
-        return late(rt, size);
-    }
-    if word == "wide" {
-        return wide(rt, size);
-    }
-    if word == "abandons" {
-        return abandons(rt, size);
-    }
-    if word == "limits" {
-        return limits(rt, size);
-    }
-    if word == "deadlines" {
-        return deadlines(rt, size);
-    }
-    if word == "full" {
-        return full(rt, size);
-    }
-    if word == "unsent" {
-        return unsent(rt, size);
-    }
-    if word == "early" {
-        return early(rt, size);
-    }
-    if word == "renewed" {
-        return renewed(rt, size);
-    }
-    if word == "beyond" {
-        return beyond(rt, size);
-    }
-    if word == "stale" {
-        return stale(rt, size);
-    }
-    if word == "cut" {
-        return cut(rt, size, bytes);
-    }
-    let job = Job {
-        size: size.min(1_048_576) as usize,
-        count,
-        waiting,
-        lost,
-        window,
-    };
-    move_all(rt, bytes, job)
 }
 
 /// Moves the messages of a job, in turns of a millisecond.

@@ -33,8 +33,8 @@ fn failing(alloc: Global, row: &str, kind: &str) -> Result<Vec<u64>, AllocError>
 }
 
 fn source_of(alloc: Global, row: &str, script: &str) -> Result<FaultySource, AllocError> {
-    let bytes = String::from_str(alloc, script)?.into_bytes();
     let failing = failing(alloc, row, "read")?;
+    let bytes = String::from_str(alloc, script)?.into_bytes();
     Ok(FaultySource::new(MemorySource::in_pieces(bytes, PIECE), failing))
 }
 
@@ -74,12 +74,30 @@ fn says_written(row: &str, report: &str, status: Status, sink: &FaultySink) -> b
     }
 }
 
+/// How a run of a script ends, of which a call fails as a row says.
+fn status_of(
+    alloc: Global,
+    row: &str,
+    script: &str,
+    sink: &mut FaultySink,
+) -> Result<Status, AllocError> {
+    let mut source = source_of(alloc, row, script)?;
+    run_over(alloc, "replay", &mut source, sink)
+}
+
 /// Whether a run of a script ends as a row says.
 fn is_row_so(alloc: Global, row: &str, script: &str, report: &str) -> Result<bool, AllocError> {
-    let mut source = source_of(alloc, row, script)?;
     let mut sink = sink_of(alloc, row)?;
-    let status = run_over(alloc, "replay", &mut source, &mut sink)?;
+    let status = status_of(alloc, row, script, &mut sink)?;
     Ok(says_status(row, status) && says_written(row, report, status, &sink))
+}
+
+/// Whether a line of a table is so.
+fn is_line_so(alloc: Global, line: &str, script: &str, report: &str) -> Result<bool, AllocError> {
+    if line.starts_with('#') {
+        return Ok(true);
+    }
+    is_row_so(alloc, line, script, report)
 }
 
 /// The first row of a table that isn't so.
@@ -89,9 +107,9 @@ fn first_wrong<'a>(
     script: &str,
     report: &str,
 ) -> Result<Option<&'a str>, AllocError> {
-    for row in table.lines() {
-        if !row.starts_with('#') && !is_row_so(alloc, row, script, report)? {
-            return Ok(Some(row));
+    for line in table.lines() {
+        if !is_line_so(alloc, line, script, report)? {
+            return Ok(Some(line));
         }
     }
     Ok(None)

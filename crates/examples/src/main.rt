@@ -10,8 +10,7 @@ mod rows;
 mod running;
 mod tables;
 
-use crate::running::run_over;
-use rtmfp_host::{MemorySink, MemorySource};
+use crate::running::played;
 use std::test::Fail;
 use std::{env, fs, io};
 
@@ -25,17 +24,42 @@ fn main(rt: HostRuntime) -> Result<(), Fail> {
 /// Plays the examples of a name, by what the name ends with.
 fn play(rt: &HostRuntime, name: &str) -> Result<(), Fail> {
     if name.ends_with(".rows") {
-        let text = fs::read_to_string(rt, name)?;
-        return Ok(rows::tell_rows(rt, text.as_str())?);
+        return Ok(play_rows(rt, name)?);
     }
     if name.ends_with(".tables") {
-        let text = fs::read_to_string(rt, name)?;
-        return tables::tell_tables(rt, text.as_str());
+        return play_tables(rt, name);
     }
     if let Some(front) = name.strip_suffix(".faults") {
-        return Ok(tell_faults(rt, front)?);
+        return Ok(play_faults(rt, front)?);
     }
-    Ok(tell(rt, name, is_so(rt, name)?)?)
+    Ok(play_script(rt, name)?)
+}
+
+fn play_rows(rt: &HostRuntime, name: &str) -> io::Result<()> {
+    let text = fs::read_to_string(rt, name)?;
+    rows::tell_rows(rt, text.as_str())
+}
+
+fn play_tables(rt: &HostRuntime, name: &str) -> Result<(), Fail> {
+    let text = fs::read_to_string(rt, name)?;
+    tables::tell_tables(rt, text.as_str())
+}
+
+fn play_script(rt: &HostRuntime, name: &str) -> io::Result<()> {
+    let is_so = is_so(rt, name)?;
+    tell(rt, name, is_so)
+}
+
+/// Tells of the table of the faults of a script whether it is so.
+fn play_faults(rt: &HostRuntime, name: &str) -> io::Result<()> {
+    let table = read(rt, name, "faults")?;
+    tell_faults(rt, name, table.as_str())
+}
+
+fn tell_faults(rt: &HostRuntime, name: &str, table: &str) -> io::Result<()> {
+    let script = read(rt, name, "txt")?;
+    let report = read(rt, name, "report")?;
+    faults::tell_faults(rt, name, table, script.as_str(), report.as_str())
 }
 
 /// Tells of a script whether it has its report.
@@ -59,16 +83,6 @@ fn is_so(rt: &HostRuntime, name: &str) -> io::Result<bool> {
     let script = read(rt, name, "txt")?;
     let report = read(rt, name, "report")?;
     let command = if name == "packets" { "show" } else { "replay" };
-    let mut source = MemorySource::new(script.into_bytes());
-    let mut sink = MemorySink::new(rt.alloc());
-    let _ = run_over(rt.alloc(), command, &mut source, &mut sink)?;
-    Ok(sink.written() == Some(report.as_bytes()))
-}
-
-/// Tells of the table of the faults of a script whether it is so.
-fn tell_faults(rt: &HostRuntime, name: &str) -> io::Result<()> {
-    let table = read(rt, name, "faults")?;
-    let script = read(rt, name, "txt")?;
-    let report = read(rt, name, "report")?;
-    faults::tell_faults(rt, name, table.as_str(), script.as_str(), report.as_str())
+    let (_, written) = played(rt.alloc(), command, script, report.as_str())?;
+    Ok(written)
 }

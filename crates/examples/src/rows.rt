@@ -1,10 +1,9 @@
 //! Rows of scripts, each with its report, as texts in the crate's `data`. How such a text is
 //! written stands at its head.
 
-use crate::running::run_over;
+use crate::running::played;
 use crate::tell;
 use rtmfp_cli::Status;
-use rtmfp_host::{MemorySink, MemorySource};
 use std::alloc::{AllocError, Global};
 use std::io;
 use tests_base::rows::lines_of;
@@ -18,14 +17,23 @@ fn digits(alloc: Global, length: u64) -> Result<String, AllocError> {
     hex::encode(alloc, bytes.as_slice())
 }
 
+/// Adds a line, without its end, whose last word is a message of so many bytes.
+fn push_message(
+    alloc: Global,
+    front: &str,
+    length: &str,
+    report: &mut String,
+) -> Result<(), AllocError> {
+    let digits = digits(alloc, length.parse::<u64>().unwrap_or(0))?;
+    report.push_str(front)?;
+    report.push_str(" ")?;
+    report.push_str(digits.as_str())
+}
+
 /// Adds a line of a report, in which a last word `*7` is a message of 7 bytes.
 fn push_report(alloc: Global, line: &str, report: &mut String) -> Result<(), AllocError> {
     match line.rsplit_once(" *") {
-        Some((front, length)) => {
-            report.push_str(front)?;
-            report.push_str(" ")?;
-            report.push_str(digits(alloc, length.parse::<u64>().unwrap_or(0))?.as_str())?;
-        }
+        Some((front, length)) => push_message(alloc, front, length, report)?,
         None => report.push_str(line)?,
     }
     report.push_str("\n")
@@ -54,16 +62,22 @@ impl Transcript {
         }
     }
 
+    /// Adds a line of the script or of the report.
+    fn push_one(&mut self, alloc: Global, line: &str, is_step: bool) -> Result<(), AllocError> {
+        if is_step {
+            self.steps = self.steps.saturating_add(1);
+            push_step(line, &mut self.script)
+        } else {
+            push_report(alloc, line, &mut self.report)
+        }
+    }
+
     /// Adds the lines that a line of a row stands for, of the script or of the report.
     fn push_line(&mut self, alloc: Global, line: &str) -> Result<(), AllocError> {
         let step = line.strip_prefix("> ");
-        for text in lines_of(alloc, step.unwrap_or(line))? {
-            if step.is_some() {
-                self.steps = self.steps.saturating_add(1);
-                push_step(text.as_str(), &mut self.script)?;
-            } else {
-                push_report(alloc, text.as_str(), &mut self.report)?;
-            }
+        let lines = lines_of(alloc, step.unwrap_or(line))?;
+        for text in lines.iter() {
+            self.push_one(alloc, text.as_str(), step.is_some())?;
         }
         Ok(())
     }
@@ -82,10 +96,15 @@ impl Transcript {
     }
 }
 
+/// The title of a row, and its lines.
+pub(crate) fn parts_of(row: &str) -> (&str, &str) {
+    row.split_once('\n').unwrap_or((row, ""))
+}
+
 /// The lines of the row of this title.
 pub(crate) fn row_named<'a>(rows: &'a str, title: &str) -> &'a str {
     for row in rows.split("\n@ ").skip(1) {
-        let (name, lines) = row.split_once('\n').unwrap_or(("", ""));
+        let (name, lines) = parts_of(row);
         if name == title {
             return lines;
         }
@@ -93,12 +112,17 @@ pub(crate) fn row_named<'a>(rows: &'a str, title: &str) -> &'a str {
     ""
 }
 
+/// A count, and the title behind it.
+fn counted(front: &str) -> Option<(u64, &str)> {
+    let (count, title) = front.split_once(' ')?;
+    Some((count.parse::<u64>().ok()?, title))
+}
+
 /// The first lines of another row that a row begins with: how many, and its title.
 fn begins_with(lines: &str) -> Option<(u64, &str)> {
     for line in lines.lines() {
         if let Some(front) = line.strip_prefix("+ ") {
-            let (count, title) = front.split_once(' ')?;
-            return Some((count.parse::<u64>().ok()?, title));
+            return counted(front);
         }
     }
     None
@@ -136,18 +160,21 @@ fn whole_row(alloc: Global, rows: &str, lines: &str) -> Result<Transcript, Alloc
 /// Whether a run of the script of a row is done and writes its report.
 fn is_so(alloc: Global, rows: &str, lines: &str) -> Result<bool, AllocError> {
     let whole = whole_row(alloc, rows, lines)?;
-    let mut source = MemorySource::new(whole.script.into_bytes());
-    let mut sink = MemorySink::new(alloc);
-    let status = run_over(alloc, "replay", &mut source, &mut sink)?;
-    Ok(status == Status::Done && sink.written() == Some(whole.report.as_bytes()))
+    let (status, written) = played(alloc, "replay", whole.script, whole.report.as_str())?;
+    Ok(written && status == Status::Done)
+}
+
+/// Tells of a row whether its script has its report.
+fn tell_row(rt: &HostRuntime, rows: &str, row: &str) -> io::Result<()> {
+    let (title, lines) = parts_of(row);
+    let has_it = is_so(rt.alloc(), rows, lines)?;
+    tell(rt, title, has_it)
 }
 
 /// Tells of each of these rows whether its script has its report.
 pub(crate) fn tell_rows(rt: &HostRuntime, rows: &str) -> io::Result<()> {
     for row in rows.split("\n@ ").skip(1) {
-        let (title, lines) = row.split_once('\n').unwrap_or((row, ""));
-        let has_it = is_so(rt.alloc(), rows, lines)?;
-        tell(rt, title, has_it)?;
+        tell_row(rt, rows, row)?;
     }
     Ok(())
 }

@@ -1,25 +1,51 @@
-//! A run of the program that needs no network.
+//! Runs of the program that need no network.
 
 use rtmfp_cli::{Status, run};
-use rtmfp_host::{MemoryEntropy, MemoryLink, MemoryMoments, MemorySpawner, Sink, Source};
+use rtmfp_host::{
+    MemoryEntropy, MemoryLink, MemoryMoments, MemorySink, MemorySource, MemorySpawner, Sink, Source,
+};
 use std::alloc::{AllocError, Global};
 
-/// A run of a command over a source and a sink. The other objects have nothing to give.
-pub(crate) fn run_over<S: Source, K: Sink>(
+/// A run by these words over a source and a sink. The other objects have nothing to give.
+fn run_words<S: Source, K: Sink>(
     alloc: Global,
-    command: &str,
+    words: &[String],
     source: &mut S,
     sink: &mut K,
-) -> Result<Status, AllocError> {
-    let words = Vec::from_array(alloc, [String::from_str(alloc, command)?])?;
-    Ok(run(
+) -> Status {
+    run(
         alloc,
-        words.as_slice(),
+        words,
         &mut MemoryLink::new(alloc, Vec::new(alloc)),
         &mut MemoryMoments::new(Vec::new(alloc)),
         &mut MemoryEntropy::new(Vec::new(alloc)),
         source,
         sink,
         &mut MemorySpawner::new(alloc, Vec::new(alloc)),
-    ))
+    )
+}
+
+/// A run of a command over a source and a sink.
+pub(crate) fn run_over<S: Source, K: Sink>(
+    alloc: Global,
+    command: &str,
+    source: &mut S,
+    sink: &mut K,
+) -> Result<Status, AllocError> {
+    let word = String::from_str(alloc, command)?;
+    let words = Vec::from_array(alloc, [word])?;
+    Ok(run_words(alloc, words.as_slice(), source, sink))
+}
+
+/// How a run of a command over a script ends, and whether it writes this report.
+pub(crate) fn played(
+    alloc: Global,
+    command: &str,
+    script: String,
+    report: &str,
+) -> Result<(Status, bool), AllocError> {
+    let mut source = MemorySource::new(script.into_bytes());
+    let mut sink = MemorySink::new(alloc);
+    let status = run_over(alloc, command, &mut source, &mut sink)?;
+    Ok((status, sink.written() == Some(report.as_bytes())))
 }

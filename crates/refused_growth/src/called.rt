@@ -100,25 +100,70 @@ fn takes(
     }
 }
 
+fn cancels(end: &mut Endpoint, number: u64, out: &mut Outbox) -> Called {
+    of_call(end.cancel(number, out))
+}
+
+fn closes(end: &mut Endpoint, near: u32, moment: u64, out: &mut Outbox) -> Called {
+    of_call(end.close(near, moment, out))
+}
+
+fn opens_flow(
+    end: &mut Endpoint,
+    near: u32,
+    priority: u8,
+    metadata: &[u8],
+    answers: Option<u64>,
+    out: &mut Outbox,
+) -> Called {
+    of_call(end.open_flow(near, priority, metadata, answers, out))
+}
+
+fn queues(
+    end: &mut Endpoint,
+    near: u32,
+    flow: u64,
+    message: &[u8],
+    options: MessageOptions,
+    out: &mut Outbox,
+) -> Called {
+    of_call(end.queue(near, flow, message, options, out))
+}
+
+fn abandons(end: &mut Endpoint, near: u32, flow: u64, seq: u64, out: &mut Outbox) -> Called {
+    of_call(end.abandon(near, flow, seq, out))
+}
+
+fn finishes(end: &mut Endpoint, near: u32, flow: u64, out: &mut Outbox) -> Called {
+    of_call(end.finish(near, flow, out))
+}
+
+fn ticks(end: &mut Endpoint, moment: u64, draws: &Draws, out: &mut Outbox) -> Called {
+    match end.tick(moment, draws, out) {
+        Ok(()) => Called::Done,
+        Err(_) => Called::Wanting,
+    }
+}
+
 /// Does a step on sessions and flows.
 fn calls(end: &mut Endpoint, step: &ScriptLine, moment: u64, out: &mut Outbox) -> Called {
     match step {
-        ScriptLine::Cancel { number, .. } => of_call(end.cancel(*number, out)),
-        ScriptLine::Close { near, .. } => of_call(end.close(*near, moment, out)),
+        ScriptLine::Cancel { number, .. } => cancels(end, *number, out),
+        ScriptLine::Close { near, .. } => closes(end, *near, moment, out),
         ScriptLine::Flow {
             near,
             priority,
             metadata,
             answers,
             ..
-        } => of_call(end.open_flow(*near, *priority, metadata.bytes(), *answers, out)),
+        } => opens_flow(end, *near, *priority, metadata.bytes(), *answers, out),
         ScriptLine::Abandon {
             near,
             flow,
             seq,
             ..
-        } => of_call(end.abandon(*near, *flow, *seq, out)),
-        ScriptLine::Finish { near, flow, .. } => of_call(end.finish(*near, *flow, out)),
+        } => abandons(end, *near, *flow, *seq, out),
+        ScriptLine::Finish { near, flow, .. } => finishes(end, *near, *flow, out),
         _ => Called::Done,
     }
 }
@@ -160,11 +205,8 @@ pub(crate) fn do_deed(
             flow,
             options,
             message,
-        } => of_call(end.queue(*near, *flow, message.bytes(), *options, out)),
+        } => queues(end, *near, *flow, message.bytes(), *options, out),
         Deed::Take { from, datagram } => takes(end, from, datagram.bytes(), moment, draws, out),
-        Deed::Tick => match end.tick(moment, draws, out) {
-            Ok(()) => Called::Done,
-            Err(_) => Called::Wanting,
-        },
+        Deed::Tick => ticks(end, moment, draws, out),
     }
 }

@@ -7,7 +7,7 @@ use rtmfp_base::Message;
 use rtmfp_forms::Address;
 use rtmfp_host::{Sink, StreamSink};
 use rtmfp_report::{GroupKeys, push_entries};
-use rtmfp_script::{Said, ScriptLine, read_line};
+use rtmfp_script::{Content, Said, ScriptLine, read_line};
 use rtmfp_text::{Directory, Name, Named, Text};
 use std::alloc::Global;
 use std::test::Fail;
@@ -143,15 +143,19 @@ impl Play {
 
     /// The fingerprint of the end of a name.
     fn print_of(&self, name: &Name) -> [u8; 32] {
-        let number = self.names.number_of(name).unwrap_or(usize::MAX);
-        match self.names.as_slice().get(number) {
+        match self.names.as_slice().get(self.number_of(name)) {
             Some(named) => named.print,
             None => [0; 32],
         }
     }
 
-    /// Keeps the datagrams of an outbox, and writes the lines of its entries.
-    fn note(&mut self, rt: &HostRuntime, line: u32, by: usize, out: &Outbox) -> Result<(), Fail> {
+    /// The number of the end of a name.
+    fn number_of(&self, name: &Name) -> usize {
+        self.names.number_of(name).unwrap_or(usize::MAX)
+    }
+
+    /// Writes the lines of the entries of an outbox.
+    fn tell(&mut self, rt: &HostRuntime, line: u32, by: usize, out: &Outbox) -> Result<(), Fail> {
         let Some(player) = self.players.get(by) else {
             return Ok(());
         };
@@ -167,15 +171,22 @@ impl Play {
             &mut self.text,
         )?;
         let _ = StreamSink::new(rt.stdout()).write(self.text.bytes());
+        Ok(())
+    }
+
+    /// Keeps a datagram that an end sent.
+    fn keep(&mut self, by: usize, to: Address, datagram: &Message) -> Result<(), Fail> {
+        let datagram = copy_of(self.alloc, datagram)?;
+        self.sent.push(Sent { by, to, datagram })?;
+        Ok(())
+    }
+
+    /// Keeps the datagrams of an outbox, and writes the lines of its entries.
+    fn note(&mut self, rt: &HostRuntime, line: u32, by: usize, out: &Outbox) -> Result<(), Fail> {
+        self.tell(rt, line, by, out)?;
         for entry in out.entries() {
             if let Entry::Out { to, datagram, .. } = entry {
-                let copy = copy_of(self.alloc, datagram)?;
-                let sent = Sent {
-                    by,
-                    to: *to,
-                    datagram: copy,
-                };
-                self.sent.push(sent)?;
+                self.keep(by, *to, datagram)?;
             }
         }
         Ok(())
@@ -240,6 +251,45 @@ impl Play {
         self.call(rt, line, to, &deed)
     }
 
+    /// Brings the datagram of this number, counted from 1, to the end of a name.
+    fn deliver(
+        &mut self,
+        rt: &HostRuntime,
+        line: u32,
+        number: u64,
+        name: &Name,
+        from: Address,
+    ) -> Result<(), Fail> {
+        let (index, to) = (number.saturating_sub(1) as usize, self.number_of(name));
+        self.bring(rt, line, index, to, from)
+    }
+
+    /// Queues a message at the end of a name.
+    fn queue(
+        &mut self,
+        rt: &HostRuntime,
+        line: u32,
+        name: &Name,
+        near: u32,
+        flow: u64,
+        options: MessageOptions,
+        message: Message,
+    ) -> Result<(), Fail> {
+        let deed = Deed::Queue {
+            near,
+            flow,
+            options,
+            message,
+        };
+        let by = self.number_of(name);
+        self.call(rt, line, by, &deed)
+    }
+
+    /// The message that a step queues.
+    fn message_of(&self, content: Content) -> Result<Message, Fail> {
+        Ok(content.into_message(self.alloc).ok().ok_or("memory")?)
+    }
+
     /// Does a step of a script.
     fn step(&mut self, rt: &HostRuntime, line: u32, step: ScriptLine) -> Result<(), Fail> {
         match step {
@@ -254,13 +304,11 @@ impl Play {
                 Ok(())
             }
             ScriptLine::Tick { name } => {
-                let by = self.names.number_of(&name).unwrap_or(usize::MAX);
+                let by = self.number_of(&name);
                 self.call(rt, line, by, &Deed::Tick)
             }
             ScriptLine::Deliver { number, name, from } => {
-                let to = self.names.number_of(&name).unwrap_or(usize::MAX);
-                let index = number.saturating_sub(1) as usize;
-                self.bring(rt, line, index, to, from)
+                self.deliver(rt, line, number, &name, from)
             }
             ScriptLine::Queue {
                 name,
@@ -270,14 +318,9 @@ impl Play {
                 resends,
                 content,
             } => {
-                let by = self.names.number_of(&name).unwrap_or(usize::MAX);
-                let deed = Deed::Queue {
-                    near,
-                    flow,
-                    options: MessageOptions { deadline, resends },
-                    message: content.into_message(self.alloc).ok().ok_or("memory")?,
-                };
-                self.call(rt, line, by, &deed)
+                let message = self.message_of(content)?;
+                let options = MessageOptions { deadline, resends };
+                self.queue(rt, line, &name, near, flow, options, message)
             }
             other => self.act(rt, line, other),
         }
@@ -286,7 +329,7 @@ impl Play {
     /// Does a step that brings no datagram.
     fn act(&mut self, rt: &HostRuntime, line: u32, step: ScriptLine) -> Result<(), Fail> {
         let (name, peer) = names_of(&step);
-        let by = self.names.number_of(&name).unwrap_or(usize::MAX);
+        let by = self.number_of(&name);
         let peer = self.print_of(&peer);
         let deed = Deed::Step { step, peer };
         self.call(rt, line, by, &deed)

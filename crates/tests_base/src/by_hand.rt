@@ -17,11 +17,17 @@ pub const ANSWERER: &[u8] = b"0123456789abcdefanswerer";
 
 pub const CALLER: &[u8] = b"0123456789abcdefcaller";
 
-fn end(alloc: Global, cert: &[u8], peers: u32, sessions: u32) -> Result<Endpoint, CertFault> {
+fn end(
+    alloc: Global,
+    cert: &[u8],
+    peers: u32,
+    sessions: u32,
+    introduces: bool,
+) -> Result<Endpoint, CertFault> {
     let config = Config {
         max_peers: peers,
         max_sessions: sessions.min(16),
-        introduces: false,
+        introduces,
     };
     let cert = Certificate::read(cert)?;
     Ok(Endpoint::new(alloc, config, cert, GROUP, [9; 32]))
@@ -76,31 +82,46 @@ fn message_text(
     format!(in alloc; "{what} {near} {flow} {seq} {size}; ")
 }
 
-/// An entry in words.
-fn entry_text(alloc: Global, entry: &Entry) -> Result<String, AllocError> {
+/// An entry of a flow in words.
+fn flow_text(alloc: Global, entry: &Entry) -> Result<String, AllocError> {
     match entry {
-        Entry::Fact(fact) => fact_text(alloc, fact),
-        Entry::Closed { near } => format!(in alloc; "closed {near}; "),
-        Entry::Moved { near, to } => format!(in alloc; "moved {near} {}; ", to.host[3]),
         Entry::FlowOpened { near, flow } => format!(in alloc; "flow {near} {flow}; "),
+        Entry::Finished { near, flow, seq } => format!(in alloc; "finished {near} {flow} {seq}; "),
+        Entry::Abandoned { near, flow, seq } => {
+            format!(in alloc; "abandoned {near} {flow} {seq}; ")
+        }
+        _ => Ok(String::new(alloc)),
+    }
+}
+
+/// An entry of a message, with its length, or another one of a flow in words.
+fn carried_text(alloc: Global, entry: &Entry) -> Result<String, AllocError> {
+    match entry {
         Entry::Queued {
             near,
             flow,
             seq,
             message,
         } => message_text(alloc, "queued", *near, *flow, *seq, message.len()),
-        Entry::Finished { near, flow, seq } => format!(in alloc; "finished {near} {flow} {seq}; "),
-        Entry::Abandoned { near, flow, seq } => {
-            format!(in alloc; "abandoned {near} {flow} {seq}; ")
-        }
         Entry::Handed {
             near,
             flow,
             seq,
             message,
         } => message_text(alloc, "handed", *near, *flow, *seq, message.len()),
+        other => flow_text(alloc, other),
+    }
+}
+
+/// An entry in words.
+fn entry_text(alloc: Global, entry: &Entry) -> Result<String, AllocError> {
+    match entry {
+        Entry::Fact(fact) => fact_text(alloc, fact),
+        Entry::Closed { near } => format!(in alloc; "closed {near}; "),
+        Entry::Moved { near, to } => format!(in alloc; "moved {near} {}; ", to.host[3]),
         Entry::Discard { place, cause } => format!(in alloc; "drop {place} {cause:?}; "),
         Entry::Out { datagram, .. } => format!(in alloc; "out {}; ", datagram.len()),
+        other => carried_text(alloc, other),
     }
 }
 
@@ -191,13 +212,19 @@ fn in_session(alloc: Global, to_responder: bool) -> Result<Context, Fail> {
     })
 }
 
+/// Opens a sealed part for the initiator; whether it opened.
+fn is_opened(context: &Context, part: &mut [u8]) -> bool {
+    open_in_place(&Keys::of(&GROUP, context), 3, part).is_ok()
+}
+
 /// The plain packet of a datagram to the initiator, in the session of the handshake.
 fn opened(alloc: Global, datagram: &[u8]) -> Result<String, Fail> {
-    let mut part = Vec::from_slice(alloc, datagram.get(4..).unwrap_or(&[]))?;
     let context = to_initiator(alloc)?;
-    let range = open_in_place(&Keys::of(&GROUP, &context), 3, part.as_mut_slice());
-    let plain = range.ok().and_then(|range| part.as_slice().get(range));
-    Ok(hex::encode(alloc, plain.unwrap_or(&[]))?)
+    let mut part = Vec::from_slice(alloc, datagram.get(4..).unwrap_or(&[]))?;
+    if !is_opened(&context, part.as_mut_slice()) {
+        return Ok(String::new(alloc));
+    }
+    Ok(hex::encode(alloc, part.as_slice().get(32..).unwrap_or(&[]))?)
 }
 
 /// A packet with a message of a byte in a flow, whose number is spelled with two bytes.
@@ -403,11 +430,17 @@ fn opens_flow(alloc: Global, end: &mut Endpoint, row: &str) -> Result<Added, Fai
     called(alloc, &out, result)
 }
 
+/// A message of so many bytes.
+fn message_with(alloc: Global, length: u32) -> Result<Vec<u8>, AllocError> {
+    let mut message = Vec::new(alloc);
+    message.resize(length as usize, 7)?;
+    Ok(message)
+}
+
 /// Queues a message of so many bytes.
 fn queues(alloc: Global, end: &mut Endpoint, row: &str) -> Result<Added, Fail> {
     let mut out = outbox(alloc)?;
-    let mut message = Vec::new(alloc);
-    message.resize(number(row, 4) as usize, 7)?;
+    let message = message_with(alloc, number(row, 4))?;
     let options = MessageOptions {
         deadline: None,
         resends: None,
@@ -482,7 +515,7 @@ fn made(alloc: Global, row: &str, index: usize) -> Result<Vec<u8>, Fail> {
 /// A caller and an answerer, the last datagram, one that is kept, and where the datagrams of the
 /// last call went.
 #[derive(Drop)]
-pub struct Ends {
+pub(crate) struct Ends {
     pub(crate) a: Endpoint,
     pub(crate) b: Endpoint,
     last: Vec<u8>,
@@ -491,18 +524,14 @@ pub struct Ends {
 }
 
 impl Ends {
-    pub fn new(alloc: Global) -> Result<Ends, Fail> {
+    pub(crate) fn new(alloc: Global) -> Result<Ends, Fail> {
         Ok(Ends {
-            a: end(alloc, CALLER, 16, 16)?,
-            b: end(alloc, ANSWERER, 16, 16)?,
+            a: end(alloc, CALLER, 16, 16, false)?,
+            b: end(alloc, ANSWERER, 16, 16, false)?,
             last: Vec::new(alloc),
             kept: Vec::new(alloc),
             places: String::new(alloc),
         })
-    }
-
-    pub fn last(&self) -> &[u8] {
-        self.last.as_slice()
     }
 
     /// The end of a name: the caller is `a`.
@@ -543,17 +572,18 @@ impl Ends {
     }
 
     /// Gives the answerer a packet of the session of the handshake.
-    pub fn hears(&mut self, alloc: Global, count: u64, plain: &[u8]) -> Result<String, Fail> {
+    fn hears(&mut self, alloc: Global, count: u64, plain: &[u8]) -> Result<String, Fail> {
         let datagram = sealed(alloc, &to_responder(alloc)?, 6, count, plain)?;
         let added = receives(alloc, &mut self.b, 1, 0, 8, datagram.as_slice())?;
         Ok(added.text)
     }
 
-    /// A new end in the place of one.
+    /// A new end in the place of one, which introduces from the beginning where the row says so.
     fn renews(&mut self, alloc: Global, row: &str) -> Result<String, Fail> {
         let name = word(row, 1);
         let cert = if name == "a" { CALLER } else { ANSWERER };
-        *self.end_of(name) = end(alloc, cert, number(row, 2), number(row, 3))?;
+        let introduces = word(row, 4) == "introducing";
+        *self.end_of(name) = end(alloc, cert, number(row, 2), number(row, 3), introduces)?;
         Ok(String::new(alloc))
     }
 
@@ -625,20 +655,44 @@ impl Ends {
         Ok(format!(in alloc; "{handed}")?)
     }
 
-    /// What comes of what a row says.
-    pub fn told(&mut self, alloc: Global, row: &str) -> Result<String, Fail> {
+    /// What is told of the last datagram, or of where the datagrams of the last call went.
+    fn shows(&self, alloc: Global, row: &str) -> Result<String, Fail> {
+        match word(row, 0) {
+            "plain" => opened(alloc, self.last.as_slice()),
+            "bytes" => Ok(hex::encode(alloc, self.last.as_slice())?),
+            _ => Ok(String::from_str(alloc, self.places.as_str())?),
+        }
+    }
+
+    /// What comes of a datagram that a row gives an end.
+    fn brings(&mut self, alloc: Global, row: &str) -> Result<String, Fail> {
+        match word(row, 0) {
+            "message" | "fragment" => self.takes(alloc, row),
+            "last" | "kept" => self.passes(alloc, row),
+            "raw" => self.hands(alloc, row),
+            _ => self.makes(alloc, row),
+        }
+    }
+
+    /// What comes of what a row does by itself, or with two ends.
+    fn does(&mut self, alloc: Global, row: &str) -> Result<String, Fail> {
         match word(row, 0) {
             "new" => self.renews(alloc, row),
-            "plain" => opened(alloc, self.last.as_slice()),
-            "message" | "fragment" => self.takes(alloc, row),
             "carry" => self.carries(alloc, row),
-            "places" => Ok(String::from_str(alloc, self.places.as_str())?),
             "keep" => self.keeps(alloc),
-            "last" | "kept" => self.passes(alloc, row),
             "opens" => self.tells(alloc, row),
-            "raw" => self.hands(alloc, row),
-            "startup" | "session" => self.makes(alloc, row),
             _ => self.acts(alloc, row),
+        }
+    }
+
+    /// What comes of what a row says.
+    pub(crate) fn told(&mut self, alloc: Global, row: &str) -> Result<String, Fail> {
+        match word(row, 0) {
+            "plain" | "bytes" | "places" => self.shows(alloc, row),
+            "message" | "fragment" | "last" | "kept" | "raw" | "startup" | "session" => {
+                self.brings(alloc, row)
+            }
+            _ => self.does(alloc, row),
         }
     }
 }

@@ -9,7 +9,7 @@ use std::test::Fail;
 
 /// What becomes of the datagrams that an end sends in a round.
 #[derive(Clone, Copy, PartialEq, Eq)]
-pub enum Path {
+pub(crate) enum Path {
     Whole,
     TenthIsLost,
     Reversed,
@@ -50,24 +50,67 @@ fn handed_in(out: &Outbox, message: &[u8]) -> u32 {
     count
 }
 
-/// Those of these datagrams that arrive, in the order in which they do. The datagrams are counted.
-fn arriving(
-    alloc: Global,
+/// The path between the ends, and how many datagrams were sent on it.
+#[derive(Clone, Copy)]
+struct Way {
     path: Path,
-    count: &mut u32,
-    sent: Vec<Vec<u8>>,
-) -> Result<Vec<Vec<u8>>, Fail> {
-    let mut arrived = Vec::new(alloc);
-    for datagram in sent {
-        *count = count.saturating_add(1);
-        if path != Path::TenthIsLost || *count % 10 != 0 {
-            arrived.push(datagram)?;
+    count: u32,
+}
+
+impl Way {
+    /// Whether the next datagram arrives.
+    fn has_next(&mut self) -> bool {
+        self.count = self.count.saturating_add(1);
+        self.path != Path::TenthIsLost || self.count % 10 != 0
+    }
+
+    /// Those of these datagrams that arrive, in the order in which they do.
+    fn arriving(&mut self, alloc: Global, sent: Vec<Vec<u8>>) -> Result<Vec<Vec<u8>>, Fail> {
+        let mut arrived = Vec::new(alloc);
+        for datagram in sent {
+            if self.has_next() {
+                arrived.push(datagram)?;
+            }
         }
+        if self.path == Path::Reversed {
+            arrived.as_mut_slice().reverse();
+        }
+        Ok(arrived)
     }
-    if path == Path::Reversed {
-        arrived.as_mut_slice().reverse();
+}
+
+/// Gives an end a datagram.
+fn give(
+    end: &mut Endpoint,
+    from: u8,
+    moment: u64,
+    datagram: &mut [u8],
+    out: &mut Outbox,
+) -> Result<(), Fail> {
+    if datagram.len() > 2048 {
+        return Err(Fail::from("a datagram that no end is given"));
     }
-    Ok(arrived)
+    let from = Address::v4([10, 0, 0, from], 1935);
+    match end.receive(from, moment, datagram, &draws(8), out) {
+        Ok(()) => Ok(()),
+        Err(_) => Err(Fail::from("a datagram found no memory")),
+    }
+}
+
+/// Gives an end a datagram, and adds what it sends. Tells how often it hands over the message.
+fn pass_one(
+    alloc: Global,
+    end: &mut Endpoint,
+    from: u8,
+    moment: u64,
+    datagram: &mut [u8],
+    message: &[u8],
+    sent: &mut Vec<Vec<u8>>,
+) -> Result<u32, Fail> {
+    let mut out = outbox(alloc)?;
+    give(end, from, moment, datagram, &mut out)?;
+    push_sent(alloc, &out, sent)?;
+    Ok(handed_in(&out, message))
 }
 
 /// Gives an end these datagrams, and adds what it sends. Tells how often it hands over the message.
@@ -76,28 +119,46 @@ fn pass(
     end: &mut Endpoint,
     from: u8,
     moment: u64,
-    datagrams: Vec<Vec<u8>>,
+    datagrams: &mut [Vec<u8>],
     message: &[u8],
     sent: &mut Vec<Vec<u8>>,
 ) -> Result<u32, Fail> {
     let mut handed = 0_u32;
-    let from = Address::v4([10, 0, 0, from], 1935);
-    for mut datagram in datagrams {
-        let mut out = outbox(alloc)?;
+    for datagram in datagrams.iter_mut() {
         let bytes = datagram.as_mut_slice();
-        if bytes.len() > 2048 {
-            return Err(Fail::from("a datagram that no end is given"));
-        }
-        if end
-            .receive(from, moment, bytes, &draws(8), &mut out)
-            .is_err()
-        {
-            return Err(Fail::from("a datagram found no memory"));
-        }
-        handed = handed.saturating_add(handed_in(&out, message));
-        push_sent(alloc, &out, sent)?;
+        let more = pass_one(alloc, end, from, moment, bytes, message, sent)?;
+        handed = handed.saturating_add(more);
     }
     Ok(handed)
+}
+
+/// Those of these datagrams that arrive come to an end. Tells how often it hands over the message,
+/// and gives what it sends.
+fn go_over(
+    alloc: Global,
+    way: &mut Way,
+    end: &mut Endpoint,
+    from: u8,
+    moment: u64,
+    datagrams: Vec<Vec<u8>>,
+    message: &[u8],
+) -> Result<(u32, Vec<Vec<u8>>), Fail> {
+    let mut arrived = way.arriving(alloc, datagrams)?;
+    let mut sent = Vec::new(alloc);
+    let datagrams = arrived.as_mut_slice();
+    let handed = pass(alloc, end, from, moment, datagrams, message, &mut sent)?;
+    Ok((handed, sent))
+}
+
+/// What an end sends at a moment by itself.
+fn due(alloc: Global, end: &mut Endpoint, moment: u64) -> Result<Vec<Vec<u8>>, Fail> {
+    let mut out = outbox(alloc)?;
+    if end.tick(moment, &draws(4), &mut out).is_err() {
+        return Err(Fail::from("a tick found no memory"));
+    }
+    let mut sent = Vec::new(alloc);
+    push_sent(alloc, &out, &mut sent)?;
+    Ok(sent)
 }
 
 /// The caller does what is due, what it sends comes to the answerer, and the answers come back.
@@ -105,22 +166,13 @@ fn pass(
 fn round(
     alloc: Global,
     ends: &mut Ends,
-    path: Path,
+    way: &mut Way,
     moment: u64,
-    count: &mut u32,
     message: &[u8],
 ) -> Result<u32, Fail> {
-    let mut out = outbox(alloc)?;
-    if ends.a.tick(moment, &draws(4), &mut out).is_err() {
-        return Err(Fail::from("a tick found no memory"));
-    }
-    let (mut sent, mut acks) = (Vec::new(alloc), Vec::new(alloc));
-    push_sent(alloc, &out, &mut sent)?;
-    let sent = arriving(alloc, path, count, sent)?;
-    let handed = pass(alloc, &mut ends.b, 1, moment, sent, message, &mut acks)?;
-    let acks = arriving(alloc, path, count, acks)?;
-    let mut others = Vec::new(alloc);
-    let _ = pass(alloc, &mut ends.a, 2, moment, acks, message, &mut others)?;
+    let sent = due(alloc, &mut ends.a, moment)?;
+    let (handed, acks) = go_over(alloc, way, &mut ends.b, 1, moment, sent, message)?;
+    let _ = go_over(alloc, way, &mut ends.a, 2, moment, acks, message)?;
     Ok(handed)
 }
 
@@ -136,15 +188,13 @@ fn queues(alloc: Global, end: &mut Endpoint, message: &[u8]) -> Result<(), Fail>
     }
 }
 
-/// How often a long message is handed over that the caller queues in its first flow, in a round each
-/// 50 milliseconds, up to 20 rounds after the first time.
-pub fn handed_over(alloc: Global, ends: &mut Ends, path: Path) -> Result<u32, Fail> {
-    let message = long_message(alloc)?;
-    queues(alloc, &mut ends.a, message.as_slice())?;
-    let (mut handed, mut count, mut behind) = (0_u32, 0_u32, 0_u32);
+/// How often a message is handed over, in a round each 50 milliseconds, up to 20 rounds after the
+/// first time.
+fn rounds(alloc: Global, ends: &mut Ends, path: Path, message: &[u8]) -> Result<u32, Fail> {
+    let mut way = Way { path, count: 0 };
+    let (mut handed, mut behind) = (0_u32, 0_u32);
     for index in 0..2000_u64 {
-        let moment = index * 50;
-        let more = round(alloc, ends, path, moment, &mut count, message.as_slice())?;
+        let more = round(alloc, ends, &mut way, index * 50, message)?;
         handed = handed.saturating_add(more);
         if handed > 0 {
             behind = behind.saturating_add(1);
@@ -154,4 +204,11 @@ pub fn handed_over(alloc: Global, ends: &mut Ends, path: Path) -> Result<u32, Fa
         }
     }
     Ok(handed)
+}
+
+/// How often a long message is handed over that the caller queues in its first flow.
+pub(crate) fn handed_over(alloc: Global, ends: &mut Ends, path: Path) -> Result<u32, Fail> {
+    let message = long_message(alloc)?;
+    queues(alloc, &mut ends.a, message.as_slice())?;
+    rounds(alloc, ends, path, message.as_slice())
 }

@@ -5,3 +5,4 @@
 pub mod by_hand;
 mod carrying;
 pub mod rows;
+pub mod tables;

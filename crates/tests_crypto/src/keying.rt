@@ -28,20 +28,20 @@ const LONG_LENGTHS: &str =
 iikeying-no-certificate 00000006801f0000000000000000020a000001078fc9b778f8a5705b263d1a5fdc4898f3bc8010303132333435363738396162636465668038030303030303030303030303030303030000000000000001aad5e1db1cb4861e40321d0c242b1453632c075eb76a2c583597fbfa3d7966678ca487e9421ae46d15bb5f6122d2c83d72a8d3a4650e98ba7dfb6831a55c8e6a
 ";
 
-const ANSWERER: &[u8] = b"0123456789abcdefanswerer";
+pub(crate) const ANSWERER: &[u8] = b"0123456789abcdefanswerer";
 
-const CALLER: &[u8] = b"0123456789abcdefcaller";
+pub(crate) const CALLER: &[u8] = b"0123456789abcdefcaller";
 
 const TAG: [u8; 16] = [5; 16];
 
-fn end_of(alloc: Global, cert: &[u8]) -> Result<Startup, CertFault>
+pub(crate) fn end_of(alloc: Global, cert: &[u8]) -> Result<Startup, CertFault>
     ensures { IfOk result (λ end. get end.attempts 6 ≡ None) }
 {
     let cert = Certificate::read(cert)?;
     Ok(Startup::new(alloc, cert, [7; 32], [9; 32], 4))
 }
 
-fn address(last: u8) -> Address {
+pub(crate) fn address(last: u8) -> Address {
     Address::v4([10, 0, 0, last], 1935)
 }
 
@@ -51,7 +51,7 @@ fn payload_of(plain: &Outgoing) -> &[u8] {
 }
 
 /// The hello of an attempt of the caller towards the answerer.
-fn called(caller: &mut Startup) -> Result<Outgoing, Fail>
+pub(crate) fn called(caller: &mut Startup) -> Result<Outgoing, Fail>
     requires { get caller.old.attempts 6 ≡ None }
 {
     let epd = Epd {
@@ -64,7 +64,7 @@ fn called(caller: &mut Startup) -> Result<Outgoing, Fail>
 }
 
 /// The answer to a hello.
-fn answered(end: &Startup, hello: &Outgoing) -> Result<Answer, Fail> {
+pub(crate) fn answered(end: &Startup, hello: &Outgoing) -> Result<Answer, Fail> {
     match read_chunk(0x30, payload_of(hello)) {
         Ok(ChunkView::IHello { epd, tag }) => Ok(end.hello(epd, tag, &address(1), 0)?),
         _ => Err(Fail::from("no hello")),
@@ -72,7 +72,7 @@ fn answered(end: &Startup, hello: &Outgoing) -> Result<Answer, Fail> {
 }
 
 /// The keying that follows the answer.
-fn keyed_to(end: &mut Startup, answer: &Outgoing) -> Result<Answer, Fail> {
+pub(crate) fn keyed_to(end: &mut Startup, answer: &Outgoing) -> Result<Answer, Fail> {
     match read_chunk(0x70, payload_of(answer)) {
         Ok(ChunkView::RHello { tag, cookie, cert }) => {
             match end.responder_hello(tag, cookie, cert, &address(2), 10) {
@@ -156,14 +156,25 @@ fn handshake(alloc: Global) -> Result<(String, bool), Fail> {
     Ok((lines, once))
 }
 
-/// Whether longer spellings are taken, and what has no form stands where it does among them.
-fn lengths_may_be_longer(alloc: Global) -> Result<bool, Fail> {
-    let mut end = end_of(alloc, ANSWERER)?;
-    let long = bytes_of(alloc, LONG_LENGTHS, "iikeying-long-lengths")?;
+/// Whether what has no form stands where it does among longer spellings.
+fn has_no_form(alloc: Global, end: &Startup) -> Result<bool, Fail> {
     let wrong = bytes_of(alloc, LONG_LENGTHS, "iikeying-no-certificate")?;
     let cause = end.refuses(0, 0x38, wrong.as_slice(), &address(1), 20, None);
-    let (_, became) = taken(&mut end, long.as_slice(), 1)?;
-    Ok(cause == Some(Cause::Malformed(39)) && became == "born")
+    Ok(cause == Some(Cause::Malformed(39)))
+}
+
+/// Whether longer spellings are taken.
+fn is_born(alloc: Global, end: &mut Startup) -> Result<bool, Fail> {
+    let long = bytes_of(alloc, LONG_LENGTHS, "iikeying-long-lengths")?;
+    let (_, became) = taken(end, long.as_slice(), 1)?;
+    Ok(became == "born")
+}
+
+fn lengths_may_be_longer(alloc: Global) -> Result<bool, Fail> {
+    let mut end = end_of(alloc, ANSWERER)?;
+    let refused = has_no_form(alloc, &end)?;
+    let born = is_born(alloc, &mut end)?;
+    Ok(refused && born)
 }
 
 #[test]

@@ -13,4 +13,6 @@ mod lines;
 #[cfg(test)]
 mod profile;
 #[cfg(test)]
+mod refusing;
+#[cfg(test)]
 mod session;

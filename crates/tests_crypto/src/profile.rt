@@ -1,6 +1,6 @@
 //! HMACs, keys, a sealed part, cookies and fingerprints.
 
-use crate::lines::put;
+use crate::lines::{decoded, pair, put};
 use cookies::CookieMaker;
 use crypto_profile::{Context, Keys, hmac, open_in_place, seal_in_place, sign_key};
 use identity::Certificate;
@@ -38,27 +38,42 @@ cookie-v4 00000000000003e8020a000001078f7363e3130b3dc89c20184680d6916150
 cookie-v6 000001000000000082000102030405060708090a0b0c0d0e0fffff3ffd7264c980cca97de10c6c503bb694
 ";
 
+/// The HMAC of a text under a key, all in hexadecimal.
+fn mac_of(alloc: Global, key: &str, text: &str) -> Result<String, Fail> {
+    let key = decoded(alloc, key)?;
+    let text = decoded(alloc, text)?;
+    Ok(hex::encode(alloc, &hmac(key.as_slice(), text.as_slice()))?)
+}
+
+/// Whether a case is so.
+fn is_mac(alloc: Global, case: &str) -> Result<bool, Fail> {
+    let (key, rest) = pair(case);
+    let (text, mac) = pair(rest);
+    let told = mac_of(alloc, key, text)?;
+    Ok(!mac.is_empty() && told.as_str().starts_with(mac))
+}
+
 /// The first case whose HMAC is another.
 fn first_wrong(alloc: Global) -> Result<Option<&'static str>, Fail> {
     for case in HMACS.lines() {
-        let (key, rest) = case.split_once(' ').unwrap_or(("", ""));
-        let (text, mac) = rest.split_once(' ').unwrap_or(("", ""));
-        let key = hex::decode(alloc, key.as_bytes()).ok().ok_or("a key")?;
-        let text = hex::decode(alloc, text.as_bytes()).ok().ok_or("a text")?;
-        let told = hex::encode(alloc, &hmac(key.as_slice(), text.as_slice()))?;
-        if mac.is_empty() || !told.as_str().starts_with(mac) {
+        if !is_mac(alloc, case)? {
             return Ok(Some(case));
         }
     }
     Ok(None)
 }
 
+/// Whether a certificate has the fingerprint of its line.
+fn is_print(alloc: Global, line: &str) -> Result<bool, Fail> {
+    let (print, cert) = pair(line);
+    let cert = Certificate::read(cert.as_bytes())?;
+    Ok(hex::encode(alloc, &cert.print())?.as_str() == print)
+}
+
 /// The first certificate whose fingerprint is another.
 fn first_misnamed(alloc: Global) -> Result<Option<&'static str>, Fail> {
     for line in PRINTS.lines() {
-        let (print, cert) = line.split_once(' ').unwrap_or(("", ""));
-        let cert = Certificate::read(cert.as_bytes())?;
-        if hex::encode(alloc, &cert.print())?.as_str() != print {
+        if !is_print(alloc, line)? {
             return Ok(Some(line));
         }
     }
@@ -82,18 +97,45 @@ fn session(to_responder: bool) -> Context {
     }
 }
 
-fn put_keys(alloc: Global, lines: &mut String) -> Result<(), Fail> {
-    let startup = Keys::of(&secret(), &Context::Startup);
-    put(alloc, "startup-enc", startup.enc(), lines)?;
-    put(alloc, "startup-mac", startup.mac(), lines)?;
+fn put_keys(
+    alloc: Global,
+    enc: &str,
+    mac: &str,
+    context: &Context,
+    lines: &mut String,
+) -> Result<(), Fail> {
+    let keys = Keys::of(&secret(), context);
+    put(alloc, enc, keys.enc(), lines)?;
+    put(alloc, mac, keys.mac(), lines)
+}
+
+fn put_session_keys(alloc: Global, lines: &mut String) -> Result<(), Fail> {
+    put_keys(
+        alloc,
+        "session-enc-i",
+        "session-mac-i",
+        &session(true),
+        lines,
+    )?;
+    put_keys(
+        alloc,
+        "session-enc-r",
+        "session-mac-r",
+        &session(false),
+        lines,
+    )
+}
+
+fn put_all_keys(alloc: Global, lines: &mut String) -> Result<(), Fail> {
+    put_keys(
+        alloc,
+        "startup-enc",
+        "startup-mac",
+        &Context::Startup,
+        lines,
+    )?;
     put(alloc, "sign", &sign_key(&secret()), lines)?;
-    let there = Keys::of(&secret(), &session(true));
-    put(alloc, "session-enc-i", there.enc(), lines)?;
-    put(alloc, "session-mac-i", there.mac(), lines)?;
-    let back = Keys::of(&secret(), &session(false));
-    put(alloc, "session-enc-r", back.enc(), lines)?;
-    put(alloc, "session-mac-r", back.mac(), lines)?;
-    Ok(())
+    put_session_keys(alloc, lines)
 }
 
 /// A buffer whose plain packet is the bytes 0 to 69.
@@ -105,46 +147,62 @@ fn counting_buffer() -> [u8; 102] {
     buf
 }
 
-/// A sealed part that opens.
-fn put_sealed(alloc: Global, lines: &mut String) -> Result<(), Fail> {
-    let keys = Keys::of(&secret(), &session(true));
+/// Its sealed part.
+fn sealed_buffer() -> [u8; 102] {
     let mut buf = counting_buffer();
     let mut number = [0; 16];
     number[15] = 9;
-    seal_in_place(&keys, 7, number, &mut buf);
-    put(alloc, "sealed-of-70", &buf, lines)?;
-    if open_in_place(&keys, 7, &mut buf) == Ok(32..102) && buf[32..] == counting_buffer()[32..] {
-        return Ok(());
-    }
-    Err(Fail::from("it doesn't open"))
+    seal_in_place(&Keys::of(&secret(), &session(true)), 7, number, &mut buf);
+    buf
 }
 
-fn put_cookies(alloc: Global, lines: &mut String) -> Result<(), Fail> {
+/// Whether a sealed part of 102 bytes opens.
+fn opens(part: &mut [u8]) -> bool {
+    let keys = Keys::of(&secret(), &session(true));
+    open_in_place(&keys, 7, part) == Ok(32..102)
+}
+
+/// Whether the sealed part opens, and is what it was.
+fn is_opened() -> bool {
+    let mut buf = sealed_buffer();
+    opens(&mut buf) && buf[32..] == counting_buffer()[32..]
+}
+
+fn cookie_secret() -> [u8; 32] {
     let mut secret = secret();
     for byte in &mut secret {
         *byte = byte.wrapping_add(100);
     }
-    let maker = CookieMaker::new(secret);
-    let v4 = maker.make(&Address::v4([10, 0, 0, 1], 1935), 1000);
-    put(alloc, "cookie-v4", v4.bytes(), lines)?;
+    secret
+}
+
+fn put_cookie(
+    alloc: Global,
+    name: &str,
+    address: &Address,
+    moment: u64,
+    lines: &mut String,
+) -> Result<(), Fail> {
+    let cookie = CookieMaker::new(cookie_secret()).make(address, moment);
+    put(alloc, name, cookie.bytes(), lines)
+}
+
+fn put_cookies(alloc: Global, lines: &mut String) -> Result<(), Fail> {
+    let short = Address::v4([10, 0, 0, 1], 1935);
+    put_cookie(alloc, "cookie-v4", &short, 1000, lines)?;
     let long = Address {
         v6: true,
         origin: 3,
         host: [0, 1, 2, 3, 4, 5, 6, 7, 8, 9, 10, 11, 12, 13, 14, 15],
         port: 65535,
     };
-    put(
-        alloc,
-        "cookie-v6",
-        maker.make(&long, 1 << 40).bytes(),
-        lines,
-    )
+    put_cookie(alloc, "cookie-v6", &long, 1 << 40, lines)
 }
 
 fn values(alloc: Global) -> Result<String, Fail> {
     let mut lines = String::new(alloc);
-    put_keys(alloc, &mut lines)?;
-    put_sealed(alloc, &mut lines)?;
+    put_all_keys(alloc, &mut lines)?;
+    put(alloc, "sealed-of-70", &sealed_buffer(), &mut lines)?;
     put_cookies(alloc, &mut lines)?;
     Ok(lines)
 }
@@ -154,5 +212,6 @@ fn values_are_those_of_another_program(rt: HostRuntime) -> Result<(), Fail> {
     assert_eq!(rt; first_wrong(rt.alloc())?, None);
     assert_eq!(rt; first_misnamed(rt.alloc())?, None);
     assert_eq!(rt; values(rt.alloc())?.as_str(), VALUES);
+    assert!(rt; is_opened());
     Ok(())
 }

@@ -64,7 +64,27 @@ fn responder() -> Session {
     )
 }
 
-/// Seals a packet of a session with one chunk without bytes, under the session ID at the other end.
+/// Seals a packet of a session with one chunk without bytes, and gives the length of its datagram.
+fn sealed(
+    session: &mut Session,
+    moment: u64,
+    kind: u8,
+    out: &mut [u8; 1200],
+) -> Result<usize, Fail> {
+    let mut packet = begin_packet(&session.head(moment));
+    packet.put(&[kind, 0, 0])?;
+    Ok(session.seal(&packet, out).ok_or("it isn't sealed")?)
+}
+
+/// Puts the session ID at the other end in front of a sealed part.
+fn put_id(far: u32, len: usize, out: &mut [u8; 1200]) -> Result<(), Fail> {
+    let (head, rest) = out.split_at_mut(4);
+    let part = rest.get(..len.saturating_sub(4)).ok_or("it is short")?;
+    head.copy_from_slice(&scramble(far, part).to_be_bytes());
+    Ok(())
+}
+
+/// Adds the line of a packet of a session with one chunk without bytes.
 fn put_datagram(
     alloc: Global,
     name: &str,
@@ -74,20 +94,15 @@ fn put_datagram(
     far: u32,
     lines: &mut String,
 ) -> Result<(), Fail> {
-    let mut packet = begin_packet(&session.head(moment));
-    packet.put(&[kind, 0, 0])?;
     let mut out = [0u8; 1200];
-    let len = session.seal(&packet, &mut out).ok_or("it isn't sealed")?;
-    let (head, rest) = out.split_at_mut(4);
-    let part = rest.get(..len.saturating_sub(4)).ok_or("it is short")?;
-    head.copy_from_slice(&scramble(far, part).to_be_bytes());
+    let len = sealed(session, moment, kind, &mut out)?;
+    put_id(far, len, &mut out)?;
     put(alloc, name, out.get(..len).unwrap_or(&[]), lines)
 }
 
-fn datagrams(alloc: Global) -> Result<String, Fail> {
-    let mut lines = String::new(alloc);
-    put_datagram(alloc, "ping", &mut initiator(), 1000, 0x01, 6, &mut lines)?;
-    let mut second = responder();
+/// The responder that has taken the stamps of the ping.
+fn pinged() -> Session {
+    let mut session = responder();
     let taken = PacketHead {
         critical: false,
         reverse: false,
@@ -95,8 +110,14 @@ fn datagrams(alloc: Global) -> Result<String, Fail> {
         echo: None,
         mode: Mode::Initiator,
     };
-    second.take_stamps(&taken, 1000);
-    put_datagram(alloc, "pingreply", &mut second, 1500, 0x41, 5, &mut lines)?;
+    session.take_stamps(&taken, 1000);
+    session
+}
+
+fn datagrams(alloc: Global) -> Result<String, Fail> {
+    let mut lines = String::new(alloc);
+    put_datagram(alloc, "ping", &mut initiator(), 1000, 0x01, 6, &mut lines)?;
+    put_datagram(alloc, "pingreply", &mut pinged(), 1500, 0x41, 5, &mut lines)?;
     Ok(lines)
 }
 
@@ -106,27 +127,48 @@ fn heard(session: &mut Session, part: &mut [u8]) -> Result<bool, Unheard> {
     Ok(part.get(plain) == Some(b"\x09\x00\xfa\x01\x00\x00".as_slice()))
 }
 
+/// The bytes of the line with a name, without so many at the front.
+fn part_of(alloc: Global, lines: &str, name: &str, front: usize) -> Result<Vec<u8>, Fail> {
+    let bytes = bytes_of(alloc, lines, name)?;
+    let part = bytes.as_slice().get(front..).unwrap_or(&[]);
+    Ok(Vec::from_slice(alloc, part)?)
+}
+
+/// Whether a session answers so to the initiator's ping.
+fn hears_ping(
+    alloc: Global,
+    session: &mut Session,
+    want: Result<bool, Unheard>,
+) -> Result<bool, Fail> {
+    let mut part = part_of(alloc, DATAGRAMS, "ping", 4)?;
+    Ok(heard(session, part.as_mut_slice()) == want)
+}
+
+/// Whether a session hears no part of another number.
+fn hears_no_other(alloc: Global, session: &mut Session) -> Result<bool, Fail> {
+    let mut part = part_of(alloc, PART_OF_NO_SESSION, "ping-of-no-session", 0)?;
+    Ok(heard(session, part.as_mut_slice()) == Err(Unheard::BadTag))
+}
+
 /// Whether the responder hears the initiator's ping once, and no part of another number.
 fn is_heard_once(alloc: Global) -> Result<bool, Fail> {
     let mut session = responder();
-    let mut other = bytes_of(alloc, PART_OF_NO_SESSION, "ping-of-no-session")?;
-    let ping = bytes_of(alloc, DATAGRAMS, "ping")?;
-    let reply = bytes_of(alloc, DATAGRAMS, "pingreply")?;
-    let part = ping.as_slice().get(4..).unwrap_or(&[]);
-    let mut first = Vec::from_slice(alloc, part)?;
-    let mut second = Vec::from_slice(alloc, part)?;
-    let back = reply.as_slice().get(4..).unwrap_or(&[]);
-    Ok(
-        heard(&mut session, other.as_mut_slice()) == Err(Unheard::BadTag)
-            && heard(&mut session, first.as_mut_slice()) == Ok(true)
-            && heard(&mut session, second.as_mut_slice()) == Err(Unheard::Repeated)
-            && unscramble(0xee22_5164, back) == 5,
-    )
+    let other = hears_no_other(alloc, &mut session)?;
+    let first = hears_ping(alloc, &mut session, Ok(true))?;
+    let second = hears_ping(alloc, &mut session, Err(Unheard::Repeated))?;
+    Ok(other && first && second)
+}
+
+/// Whether the answer is for the initiator.
+fn is_for_initiator(alloc: Global) -> Result<bool, Fail> {
+    let back = part_of(alloc, DATAGRAMS, "pingreply", 4)?;
+    Ok(unscramble(0xee22_5164, back.as_slice()) == 5)
 }
 
 #[test]
 fn datagrams_are_those_of_another_program(rt: HostRuntime) -> Result<(), Fail> {
     assert_eq!(rt; datagrams(rt.alloc())?.as_str(), DATAGRAMS);
     assert!(rt; is_heard_once(rt.alloc())?);
+    assert!(rt; is_for_initiator(rt.alloc())?);
     Ok(())
 }

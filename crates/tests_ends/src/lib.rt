@@ -1,12 +1,6 @@
-//! Tests of ends, through what `endpoint` gives to all: rows of rules, datagrams that a member of
-//! the group makes, and the bytes of a whole handshake.
+//! A test of an end, through what `endpoint` gives to all. The rows of rules, datagrams that a member
+//! of the group makes, and the bytes of a whole handshake are tables that `examples` plays.
 #![tactic(auto)]
 
 #[cfg(test)]
-mod handshake;
-#[cfg(test)]
-mod introducing;
-#[cfg(test)]
 mod library;
-#[cfg(test)]
-mod rows;

@@ -52,21 +52,32 @@ fn is_the_end(from: &mut FlowSender) -> bool {
     (chunk.abandon, chunk.last, chunk.seq, chunk.forward) == (true, true, 3, 2)
 }
 
+/// Gives a message up, and finishes the flow.
+fn gives_up(from: &mut FlowSender) -> bool {
+    from.abandon(1) == Ok(()) && from.finish() == Some(3)
+}
+
+/// Whether a message is given up of which the first fragment has arrived, and the flow finished.
+fn is_given_up(from: &mut FlowSender, to: &mut FlowReceiver) -> bool {
+    from.queue(&[0x61; 1001], PLAIN) == Ok(1)
+        && pass_on(from, to, 0) == Some(Took::New)
+        && acknowledge(to, from) == Some(1000)
+        && gives_up(from)
+}
+
 /// Whether an end and a notice are taken.
+fn are_taken(from: &mut FlowSender, to: &mut FlowReceiver) -> bool {
+    is_the_end(from)
+        && pass_on(from, to, 2) == Some(Took::ForwardOnly)
+        && from.find_lost(1001, 1000)
+        && pass_on(from, to, 1001) == Some(Took::ForwardOnly)
+}
+
+/// Whether an end and a notice are taken, after a message that is given up.
 fn ends_after_an_abandoned_message(alloc: Global) -> Result<bool, Memory> {
     let mut from = FlowSender::new(alloc, 2, &[], None, 0, 1)?;
     let mut to = FlowReceiver::new(alloc, 0);
-    Ok(
-        from.queue(&[0x61; 1001], PLAIN) == Ok(1)
-            && pass_on(&mut from, &mut to, 0) == Some(Took::New)
-            && acknowledge(&to, &mut from) == Some(1000)
-            && from.abandon(1) == Ok(())
-            && from.finish() == Some(3)
-            && is_the_end(&mut from)
-            && pass_on(&mut from, &mut to, 2) == Some(Took::ForwardOnly)
-            && from.find_lost(1001, 1000)
-            && pass_on(&mut from, &mut to, 1001) == Some(Took::ForwardOnly),
-    )
+    Ok(is_given_up(&mut from, &mut to) && are_taken(&mut from, &mut to))
 }
 
 #[test]

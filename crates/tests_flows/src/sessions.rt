@@ -114,13 +114,23 @@ fn hands(flows: &mut Flows, flow: u64, seq: u64, len: usize) -> bool {
     }
 }
 
+fn open_two(flows: &mut Flows) -> Result<(), CallRefusal> {
+    flows.open_flow(1, &[0x6d], None)?;
+    flows.open_flow(7, &[0x6d], None)?;
+    Ok(())
+}
+
+fn queue_two(flows: &mut Flows) -> Result<(), CallRefusal> {
+    flows.queue(0, &[0; 1000], PLAIN)?;
+    flows.queue(1, &[0; 1001], PLAIN)?;
+    Ok(())
+}
+
 /// Two flows, each with a message; the second one has the higher priority, and two fragments.
 fn two_flows(alloc: Global) -> Result<Flows, CallRefusal> {
     let mut flows = Flows::new(alloc);
-    flows.open_flow(1, &[0x6d], None)?;
-    flows.open_flow(7, &[0x6d], None)?;
-    flows.queue(0, &[0; 1000], PLAIN)?;
-    flows.queue(1, &[0; 1001], PLAIN)?;
+    open_two(&mut flows)?;
+    queue_two(&mut flows)?;
     Ok(flows)
 }
 
@@ -147,14 +157,28 @@ fn the_higher_priority_goes_first(rt: HostRuntime) -> Result<(), CallRefusal> {
     Ok(())
 }
 
+fn queue_first_two(flows: &mut Flows) -> Result<(), CallRefusal> {
+    flows.queue(0, &[], PLAIN)?;
+    flows.queue(0, &[0; 1000], PLAIN)?;
+    Ok(())
+}
+
+fn queue_last_two(flows: &mut Flows) -> Result<(), CallRefusal> {
+    flows.queue(0, &[0; 1001], PLAIN)?;
+    flows.queue(0, &[0x4f, 0x4b], PLAIN)?;
+    Ok(())
+}
+
+fn queue_four(flows: &mut Flows) -> Result<(), CallRefusal> {
+    queue_first_two(flows)?;
+    queue_last_two(flows)
+}
+
 /// A flow with four messages: one without bytes, one of one fragment, one of two, and one more.
 fn four_messages(alloc: Global) -> Result<Flows, CallRefusal> {
     let mut flows = Flows::new(alloc);
     flows.open_flow(4, &[0x6d], None)?;
-    flows.queue(0, &[], PLAIN)?;
-    flows.queue(0, &[0; 1000], PLAIN)?;
-    flows.queue(0, &[0; 1001], PLAIN)?;
-    flows.queue(0, &[0x4f, 0x4b], PLAIN)?;
+    queue_four(&mut flows)?;
     Ok(flows)
 }
 

@@ -14,4 +14,6 @@ mod outside;
 #[cfg(test)]
 mod serving;
 #[cfg(test)]
+mod sessions;
+#[cfg(test)]
 mod words;

@@ -122,11 +122,23 @@ fn ended(ran: &Option<Ran>, wanted: i32, written: &[u8]) -> bool {
     }
 }
 
+/// Whether a program with one word ends so.
+fn ends(
+    rt: &HostRuntime,
+    program: &str,
+    word: &str,
+    wanted: i32,
+    written: &[u8],
+) -> Result<bool, Fail> {
+    let ran = run(rt, program, word)?;
+    Ok(ended(&ran, wanted, written))
+}
+
 #[test]
 fn programs_are_started_and_waited_for(rt: HostRuntime) -> Result<(), Fail> {
-    let echo = run(&rt, "echo", "hello")?;
-    let none = run(&rt, "false", "hello")?;
+    let echo = ends(&rt, "echo", "hello", 0, b"hello\n")?;
+    let none = ends(&rt, "false", "hello", 1, b"")?;
     let missing = run(&rt, "/no/such/program", "hello")?;
-    assert!(rt; ended(&echo, 0, b"hello\n") && ended(&none, 1, b"") && missing.is_none());
+    assert!(rt; echo && none && missing.is_none());
     Ok(())
 }

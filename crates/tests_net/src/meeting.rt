@@ -68,14 +68,24 @@ fn failing(alloc: Global, plan: &str, kind: &str) -> Result<Vec<u64>, AllocError
     Ok(calls)
 }
 
+/// The status of a child, and its text.
+fn sides(end: &str) -> (&str, &str) {
+    end.split_once(' ').unwrap_or(("", ""))
+}
+
+/// The end of a child.
+fn end_of(alloc: Global, end: &str) -> Result<ChildEnd, AllocError> {
+    let (status, text) = sides(end);
+    let status = status.parse::<i32>().unwrap_or(0);
+    let text = Message::of(bytes_of(alloc, text)?);
+    Ok(ChildEnd { status, text })
+}
+
 /// The ends of the children of a row.
 fn ends_of(alloc: Global, text: &str) -> Result<Vec<ChildEnd>, AllocError> {
     let mut ends = Vec::new(alloc);
     for end in text.split(',') {
-        let (status, text) = end.split_once(' ').unwrap_or(("", ""));
-        let status = status.parse::<i32>().unwrap_or(0);
-        let text = Message::of(bytes_of(alloc, text)?);
-        ends.push(ChildEnd { status, text })?;
+        ends.push(end_of(alloc, end)?)?;
     }
     Ok(ends)
 }
@@ -97,26 +107,42 @@ fn sink_of(alloc: Global, row: &str) -> Result<FaultySink, AllocError> {
     Ok(FaultySink::new(alloc, writes, flushes, number(plan, 2) as usize))
 }
 
+/// Whether a field says that a child ended with this status.
+fn says_failed(alloc: Global, field: &str, code: i32) -> Result<bool, AllocError> {
+    let told = format!(in alloc; "child-failed {code}")?;
+    Ok(told.as_str() == field)
+}
+
 /// Whether a field says this status.
 fn says_status(alloc: Global, field: &str, status: Status) -> Result<bool, AllocError> {
-    Ok(match status {
-        Status::Done => field == "done",
-        Status::SpawnFault => field == "spawn-fault",
-        Status::SinkFault => field == "sink-fault",
-        Status::ChildFailed(code) => { format!(in alloc; "child-failed {code}")?.as_str() == field }
-        _ => false,
-    })
+    match status {
+        Status::Done => Ok(field == "done"),
+        Status::SpawnFault => Ok(field == "spawn-fault"),
+        Status::SinkFault => Ok(field == "sink-fault"),
+        Status::ChildFailed(code) => says_failed(alloc, field, code),
+        _ => Ok(false),
+    }
+}
+
+/// A start in words.
+fn start_text(alloc: Global, child: &Option<u32>) -> Result<String, AllocError> {
+    match child {
+        Some(child) => format!(in alloc; " start {child}"),
+        None => String::from_str(alloc, " start -"),
+    }
 }
 
 /// A call in words.
+fn call_text(alloc: Global, call: &SpawnCall) -> Result<String, AllocError> {
+    match call {
+        SpawnCall::Start { child, .. } => start_text(alloc, child),
+        SpawnCall::Wait { child, .. } => format!(in alloc; " wait {child}"),
+    }
+}
+
+/// Adds a call in words.
 fn push_call(alloc: Global, call: &SpawnCall, told: &mut String) -> Result<(), AllocError> {
-    let word = match call {
-        SpawnCall::Start { child, .. } => match child {
-            Some(child) => format!(in alloc; " start {child}")?,
-            None => String::from_str(alloc, " start -")?,
-        },
-        SpawnCall::Wait { child, .. } => format!(in alloc; " wait {child}")?,
-    };
+    let word = call_text(alloc, call)?;
     told.push_str(word.as_str())
 }
 
@@ -136,20 +162,43 @@ fn says_written(alloc: Global, row: &str, sink: &FaultySink) -> Result<bool, All
     Ok(sink.written() == Some(written.as_slice()) && sink.passed() as u64 == passed)
 }
 
-fn is_so(alloc: Global, row: &str) -> Result<bool, AllocError> {
-    let mut spawner = spawner_of(alloc, row)?;
-    let mut sink = sink_of(alloc, row)?;
+/// A run of `meet` by the words of all rows.
+fn run(alloc: Global, sink: &mut FaultySink, spawner: &mut FaultySpawner) -> Status
+    requires { faulty_spawner_status spawner.old ≡ None }
+{
     let words = MeetWords {
         port: 40100,
         turns: 200,
     };
-    let status = meet(alloc, words, &mut sink, &mut spawner);
-    let calls = calls_of(alloc, spawner.calls())?;
-    Ok(
-        says_status(alloc, field(row, 0), status)?
-            && says_written(alloc, row, &sink)?
-            && calls.as_str().trim_start() == field(row, 5),
-    )
+    meet(alloc, words, sink, spawner)
+}
+
+/// Whether a row says these calls.
+fn says_calls(alloc: Global, row: &str, calls: Option<&[SpawnCall]>) -> Result<bool, AllocError> {
+    let told = calls_of(alloc, calls)?;
+    Ok(told.as_str().trim_start() == field(row, 5))
+}
+
+/// Whether a run over these ends, writes and calls as its row says.
+fn goes_so(
+    alloc: Global,
+    row: &str,
+    sink: &mut FaultySink,
+    spawner: &mut FaultySpawner,
+) -> Result<bool, AllocError>
+    requires { faulty_spawner_status spawner.old ≡ None }
+{
+    let status = run(alloc, sink, spawner);
+    let calls = says_calls(alloc, row, spawner.calls())?;
+    let written = says_written(alloc, row, sink)?;
+    let ends = says_status(alloc, field(row, 0), status)?;
+    Ok(calls && written && ends)
+}
+
+fn is_so(alloc: Global, row: &str) -> Result<bool, AllocError> {
+    let mut spawner = spawner_of(alloc, row)?;
+    let mut sink = sink_of(alloc, row)?;
+    goes_so(alloc, row, &mut sink, &mut spawner)
 }
 
 /// The first row that is wrong.
@@ -180,41 +229,57 @@ fn push_words(call: &SpawnCall, told: &mut String) -> Result<(), AllocError> {
     Ok(())
 }
 
-/// The words of all starts, a line each.
-fn starts_of(alloc: Global) -> Result<String, AllocError> {
-    let mut spawner = spawner_of(alloc, "done|0 ,0 ,0 |-")?;
-    let mut sink = sink_of(alloc, "done")?;
-    let words = MeetWords {
-        port: 40100,
-        turns: 200,
-    };
-    let _ = meet(alloc, words, &mut sink, &mut spawner);
+/// The words of all starts among calls, a line each.
+fn words_in(alloc: Global, calls: Option<&[SpawnCall]>) -> Result<String, AllocError> {
     let mut told = String::new(alloc);
-    for call in spawner.calls().unwrap_or(&[]) {
+    for call in calls.unwrap_or(&[]) {
         push_words(call, &mut told)?;
     }
     Ok(told)
 }
 
+/// The words of all starts of a run, a line each.
+fn starts_of(alloc: Global) -> Result<String, AllocError> {
+    let mut spawner = spawner_of(alloc, "done|0 ,0 ,0 |-")?;
+    let mut sink = sink_of(alloc, "done")?;
+    let _ = run(alloc, &mut sink, &mut spawner);
+    words_in(alloc, spawner.calls())
+}
+
+/// What a word of a wanted line stands for.
+fn wanted_word(word: &str) -> &str {
+    match word {
+        "O" => "0000000000000000000000000000000000000000000000000000000000000000",
+        other => other,
+    }
+}
+
+/// Adds a wanted line.
+fn push_wanted(line: &str, text: &mut String) -> Result<(), AllocError> {
+    for word in line.split(' ') {
+        text.push_str(wanted_word(word))?;
+        text.push_str(" ")?;
+    }
+    text.push_str("\n")
+}
+
 /// The lines that the words of the starts are to be.
 fn wanted(alloc: Global) -> Result<String, AllocError> {
-    let zeros = "0000000000000000000000000000000000000000000000000000000000000000";
     let mut text = String::new(alloc);
     for line in WORDS.lines() {
-        for word in line.split(' ') {
-            text.push_str(if word == "O" { zeros } else { word })?;
-            text.push_str(" ")?;
-        }
-        text.push_str("\n")?;
+        push_wanted(line, &mut text)?;
     }
     Ok(text)
 }
 
+fn are_started_so(alloc: Global) -> Result<bool, AllocError> {
+    let wanted = wanted(alloc)?;
+    let told = starts_of(alloc)?;
+    Ok(told.as_str() == wanted.as_str())
+}
+
 #[test]
 fn three_nodes_are_started_so(rt: HostRuntime) -> Result<(), Fail> {
-    assert_eq!(rt;
-        starts_of(rt.alloc())?.as_str(),
-        wanted(rt.alloc())?.as_str()
-    );
+    assert!(rt; are_started_so(rt.alloc())?);
     Ok(())
 }

@@ -91,16 +91,23 @@ fn a_clock_gives_its_last_moment_again(rt: HostRuntime) -> Result<(), Fail> {
     Ok(())
 }
 
+/// A random source that has one block to give, and fails at its first draw.
+fn faulty_entropy(alloc: Global) -> Result<FaultyEntropy, Fail> {
+    let blocks = MemoryEntropy::new(Vec::from_array(alloc, [[7; 64]])?);
+    Ok(FaultyEntropy::new(blocks, only(alloc, 1)?))
+}
+
+/// Whether a random source gives a block of this byte.
+fn draws(source: &mut FaultyEntropy, byte: u8) -> bool {
+    let mut block = [1; 64];
+    source.draw(&mut block) == Drawn::Done && block == [byte; 64]
+}
+
 #[test]
 fn a_random_source_gives_its_blocks_and_then_zeros(rt: HostRuntime) -> Result<(), Fail> {
-    let alloc = rt.alloc();
-    let blocks = MemoryEntropy::new(Vec::from_array(alloc, [[7; 64]])?);
-    let mut source = FaultyEntropy::new(blocks, only(alloc, 1)?);
-    let mut block = [1; 64];
-    let fails = source.draw(&mut block) == Drawn::Failed;
-    let first = source.draw(&mut block) == Drawn::Done && block == [7; 64];
-    let zeros = source.draw(&mut block) == Drawn::Done && block == [0; 64];
-    assert!(rt; fails && first && zeros);
+    let mut source = faulty_entropy(rt.alloc())?;
+    let fails = source.draw(&mut [1; 64]) == Drawn::Failed;
+    assert!(rt; fails && draws(&mut source, 7) && draws(&mut source, 0));
     Ok(())
 }
 

@@ -1,7 +1,7 @@
 //! How a run ends where what is outside of it fails: the network, the random source, a child.
 
 ghost use Rattle.std.specs.Prelude.{◌≡◌, None, IfOk};
-ghost use Rattle.rtmfp_host.specs.Children.{spawner_status};
+ghost use Rattle.rtmfp_host.specs.Children.{spawner_status, faulty_spawner_status};
 
 use crate::serving::words_of;
 use rtmfp_base::Message;
@@ -36,35 +36,86 @@ fn children(alloc: Global, status: i32) -> Result<MemorySpawner, AllocError>
     Ok(MemorySpawner::new(alloc, ends))
 }
 
-/// How a run by these words ends where the first bind, draw or start fails, or the first child ends
-/// with a status.
-fn status_of(alloc: Global, words: &str, fails: &str, child: i32) -> Result<Status, Fail> {
-    let words = words_of(alloc, words)?;
-    let binds = first(alloc, fails == "bind")?;
-    let draws = first(alloc, fails == "draw")?;
-    let starts = first(alloc, fails == "start")?;
-    let link = MemoryLink::new(alloc, Vec::new(alloc));
+fn spawner_of(alloc: Global, fails: &str, child: i32) -> Result<FaultySpawner, AllocError>
+    ensures { IfOk result (λ spawner. faulty_spawner_status spawner ≡ None) }
+{
     let spawner = children(alloc, child)?;
-    Ok(run(
+    let starts = first(alloc, fails == "start")?;
+    Ok(FaultySpawner::new(spawner, starts, Vec::new(alloc)))
+}
+
+fn link_of(alloc: Global, fails: &str) -> Result<FaultyLink, AllocError> {
+    let binds = first(alloc, fails == "bind")?;
+    let link = MemoryLink::new(alloc, Vec::new(alloc));
+    Ok(FaultyLink::new(link, binds, Vec::new(alloc)))
+}
+
+fn entropy_of(alloc: Global, fails: &str) -> Result<FaultyEntropy, AllocError> {
+    let draws = first(alloc, fails == "draw")?;
+    Ok(FaultyEntropy::new(MemoryEntropy::new(Vec::new(alloc)), draws))
+}
+
+fn run_words(
+    alloc: Global,
+    words: &[String],
+    link: &mut FaultyLink,
+    entropy: &mut FaultyEntropy,
+    spawner: &mut FaultySpawner,
+) -> Status
+    requires { faulty_spawner_status spawner.old ≡ None }
+{
+    run(
         alloc,
-        words.as_slice(),
-        &mut FaultyLink::new(link, binds, Vec::new(alloc)),
+        words,
+        link,
         &mut MemoryMoments::new(Vec::new(alloc)),
-        &mut FaultyEntropy::new(MemoryEntropy::new(Vec::new(alloc)), draws),
+        entropy,
         &mut MemorySource::new(Vec::new(alloc)),
         &mut MemorySink::new(alloc),
-        &mut FaultySpawner::new(spawner, starts, Vec::new(alloc)),
-    ))
+        spawner,
+    )
+}
+
+fn run_over(
+    alloc: Global,
+    words: &[String],
+    fails: &str,
+    spawner: &mut FaultySpawner,
+) -> Result<Status, AllocError>
+    requires { faulty_spawner_status spawner.old ≡ None }
+{
+    let mut link = link_of(alloc, fails)?;
+    let mut entropy = entropy_of(alloc, fails)?;
+    Ok(run_words(alloc, words, &mut link, &mut entropy, spawner))
+}
+
+/// How a run by these words ends where the first bind, draw or start fails, or the first child ends
+/// with a status.
+fn status_of(alloc: Global, words: &str, fails: &str, child: i32) -> Result<Status, AllocError> {
+    let words = words_of(alloc, words)?;
+    let mut spawner = spawner_of(alloc, fails, child)?;
+    run_over(alloc, words.as_slice(), fails, &mut spawner)
+}
+
+/// Whether a run of a node ends so.
+fn serves_so(alloc: Global) -> Result<bool, AllocError> {
+    let draw = status_of(alloc, SERVE, "draw", 0)? == Status::EntropyFault;
+    let bind = status_of(alloc, SERVE, "bind", 0)? == Status::LinkFault;
+    let done = status_of(alloc, SERVE, "", 0)? == Status::Done;
+    Ok(draw && bind && done)
+}
+
+/// Whether a run of three nodes ends so.
+fn meets_so(alloc: Global) -> Result<bool, AllocError> {
+    let start = status_of(alloc, MEET, "start", 0)? == Status::SpawnFault;
+    let child = status_of(alloc, MEET, "", 6)? == Status::ChildFailed(6);
+    let done = status_of(alloc, MEET, "", 0)? == Status::Done;
+    Ok(start && child && done)
 }
 
 #[test]
 fn a_fault_outside_ends_a_run(rt: HostRuntime) -> Result<(), Fail> {
-    let alloc = rt.alloc();
-    assert!(rt; status_of(alloc, SERVE, "draw", 0)? == Status::EntropyFault);
-    assert!(rt; status_of(alloc, SERVE, "bind", 0)? == Status::LinkFault);
-    assert!(rt; status_of(alloc, SERVE, "", 0)? == Status::Done);
-    assert!(rt; status_of(alloc, MEET, "start", 0)? == Status::SpawnFault);
-    assert!(rt; status_of(alloc, MEET, "", 6)? == Status::ChildFailed(6));
-    assert!(rt; status_of(alloc, MEET, "", 0)? == Status::Done);
+    assert!(rt; serves_so(rt.alloc())?);
+    assert!(rt; meets_so(rt.alloc())?);
     Ok(())
 }

@@ -12,8 +12,9 @@ use std::alloc::{AllocError, Global};
 use std::test::Fail;
 
 /// Which call of which object fails, how the run then ends, and the lines that it writes, of two
-/// turns with one opening. S and H are the lines of the opening, whose nonce is that of the second
-/// block, and U tells that its datagram is lost.
+/// turns with one opening; then, where there is one, a second call that fails. S and H are the lines
+/// of the opening, whose nonce is that of the second block, and U tells that its datagram is lost.
+/// What comes first ends the run: a draw before the bind, and in each turn before its receive.
 const FAULTS: &str = "\
 none 0 done SH
 link 1 link -
@@ -27,6 +28,12 @@ draw 2 entropy -
 draw 3 entropy SH
 draw 4 entropy SH
 draw 5 done SH
+draw 1 entropy - link 1
+draw 2 link - link 1
+draw 2 entropy - link 2
+draw 3 entropy SH link 2
+draw 4 link SH link 2
+draw 4 entropy SH link 3
 write 1 sink -
 write 2 sink SH
 write 3 sink SH
@@ -77,11 +84,13 @@ fn word(row: &str, index: usize) -> &str {
     row.split(' ').nth(index).unwrap_or("")
 }
 
-/// The number of one call that is to fail, where the row is of this kind.
+/// The numbers of the calls that are to fail, of those that a row names of this kind.
 fn failing(alloc: Global, row: &str, kind: &str) -> Result<Vec<u64>, AllocError> {
     let mut numbers = Vec::new(alloc);
-    if word(row, 0) == kind {
-        numbers.push(word(row, 1).parse::<u64>().unwrap_or(0))?;
+    for (at, number) in [(0, 1), (4, 5)] {
+        if word(row, at) == kind {
+            numbers.push(word(row, number).parse::<u64>().unwrap_or(0))?;
+        }
     }
     Ok(numbers)
 }
@@ -126,18 +135,28 @@ fn blocks(alloc: Global) -> Result<Vec<[u8; 64]>, AllocError> {
     Ok(Vec::from_array(alloc, [[0; 64], second])?)
 }
 
+/// Adds a letter of a line.
+fn push_letter(letter: char, word: &mut String) -> Result<(), AllocError> {
+    match letter {
+        'P' => word.push_str(PRINT),
+        other => word.push(other),
+    }
+}
+
+/// The word that letters stand for.
+fn word_of(alloc: Global, text: &str) -> Result<String, AllocError> {
+    let mut word = String::new(alloc);
+    for letter in text.chars() {
+        push_letter(letter, &mut word)?;
+    }
+    Ok(word)
+}
+
 /// The words of a line, in which P stands for 64 digits.
-pub(crate) fn words_of(alloc: Global, line: &str) -> Result<Vec<String>, Fail> {
+pub(crate) fn words_of(alloc: Global, line: &str) -> Result<Vec<String>, AllocError> {
     let mut words = Vec::new(alloc);
     for word in line.split(' ') {
-        let mut owned = String::new(alloc);
-        for letter in word.chars() {
-            match letter {
-                'P' => owned.push_str(PRINT)?,
-                other => owned.push(other)?,
-            }
-        }
-        words.push(owned)?;
+        words.push(word_of(alloc, word)?)?;
     }
     Ok(words)
 }
@@ -158,77 +177,122 @@ fn serve_line<L: Link, E: Entropy, K: Sink>(
     }
 }
 
-/// How a run with these faults ends, and what the sink then has.
+fn link_of(alloc: Global, row: &str, link: MemoryLink) -> Result<FaultyLink, AllocError> {
+    let lost = failing(alloc, row, "send")?;
+    Ok(FaultyLink::new(link, failing(alloc, row, "link")?, lost))
+}
+
+fn entropy_of(alloc: Global, row: &str) -> Result<FaultyEntropy, AllocError> {
+    let entropy = MemoryEntropy::new(blocks(alloc)?);
+    Ok(FaultyEntropy::new(entropy, failing(alloc, row, "draw")?))
+}
+
+fn sink_of(alloc: Global, row: &str) -> Result<FaultySink, AllocError> {
+    let writes = failing(alloc, row, "write")?;
+    Ok(FaultySink::new(alloc, writes, failing(alloc, row, "flush")?, 0))
+}
+
+/// How a run with these faults ends.
 fn run(
     alloc: Global,
     row: &str,
     link: MemoryLink,
     moments: Vec<u64>,
-) -> Result<(Served, FaultySink), Fail> {
-    let lost = failing(alloc, row, "send")?;
-    let mut link = FaultyLink::new(link, failing(alloc, row, "link")?, lost);
-    let entropy = MemoryEntropy::new(blocks(alloc)?);
-    let mut entropy = FaultyEntropy::new(entropy, failing(alloc, row, "draw")?);
+    sink: &mut FaultySink,
+) -> Result<Served, Fail> {
+    let mut link = link_of(alloc, row, link)?;
+    let mut entropy = entropy_of(alloc, row)?;
     let mut clock = MemoryMoments::new(moments);
-    run_over(alloc, row, &mut link, &mut clock, &mut entropy)
+    serve_line(alloc, LINE, &mut link, &mut clock, &mut entropy, sink)
 }
 
-fn run_over(
-    alloc: Global,
-    row: &str,
-    link: &mut FaultyLink,
-    clock: &mut MemoryMoments,
-    entropy: &mut FaultyEntropy,
-) -> Result<(Served, FaultySink), Fail> {
-    let writes = failing(alloc, row, "write")?;
-    let mut sink = FaultySink::new(alloc, writes, failing(alloc, row, "flush")?, 0);
-    let served = serve_line(alloc, LINE, link, clock, entropy, &mut sink)?;
-    Ok((served, sink))
+/// Whether a sink has what a row says.
+fn says_written(alloc: Global, row: &str, sink: &FaultySink) -> Result<bool, AllocError> {
+    let lines = lines_of(alloc, word(row, 3))?;
+    Ok(sink.written() == Some(lines.as_slice()))
 }
 
 /// Whether a run ends as its row says.
 fn ends_so(alloc: Global, row: &str, link: MemoryLink, moments: Vec<u64>) -> Result<bool, Fail> {
-    let lines = lines_of(alloc, word(row, 3))?;
-    let (served, sink) = run(alloc, row, link, moments)?;
-    let written = sink.written() == Some(lines.as_slice());
+    let mut sink = sink_of(alloc, row)?;
+    let served = run(alloc, row, link, moments, &mut sink)?;
+    let written = says_written(alloc, row, &sink)?;
     Ok(written && served == served_of(word(row, 2)))
+}
+
+/// Whether a run in which nothing comes ends as its row says.
+fn is_so(alloc: Global, row: &str) -> Result<bool, Fail> {
+    let link = MemoryLink::new(alloc, Vec::new(alloc));
+    ends_so(alloc, row, link, Vec::new(alloc))
+}
+
+/// The moments of two turns.
+fn two_turns(alloc: Global) -> Result<Vec<u64>, AllocError> {
+    Ok(Vec::from_array(alloc, [5, 10, 20, 1000, 1010])?)
+}
+
+/// Whether a run in which a datagram comes ends as its row says.
+fn is_busy_so(alloc: Global, row: &str) -> Result<bool, Fail> {
+    let moments = two_turns(alloc)?;
+    let link = link_with_a_datagram(alloc)?;
+    ends_so(alloc, row, link, moments)
+}
+
+fn first_wrong(alloc: Global) -> Result<Option<&'static str>, Fail> {
+    for row in FAULTS.lines() {
+        if !is_so(alloc, row)? {
+            return Ok(Some(row));
+        }
+    }
+    Ok(None)
+}
+
+fn first_busy_wrong(alloc: Global) -> Result<Option<&'static str>, Fail> {
+    for row in BUSY_FAULTS.lines() {
+        if !is_busy_so(alloc, row)? {
+            return Ok(Some(row));
+        }
+    }
+    Ok(None)
 }
 
 #[test]
 fn each_fault_ends_a_run_as_it_should(rt: HostRuntime) -> Result<(), Fail> {
-    let alloc = rt.alloc();
-    for row in FAULTS.lines() {
-        let link = MemoryLink::new(alloc, Vec::new(alloc));
-        let so = ends_so(alloc, row, link, Vec::new(alloc))?;
-        assert!(rt; so, "{row}");
-    }
+    assert_eq!(rt; first_wrong(rt.alloc())?, None);
     Ok(())
 }
 
 #[test]
 fn each_fault_ends_a_busy_run_as_it_should(rt: HostRuntime) -> Result<(), Fail> {
-    let alloc = rt.alloc();
-    for row in BUSY_FAULTS.lines() {
-        let moments = Vec::from_array(alloc, [5, 10, 20, 1000, 1010])?;
-        let so = ends_so(alloc, row, link_with_a_datagram(alloc)?, moments)?;
-        assert!(rt; so, "{row}");
-    }
+    assert_eq!(rt; first_busy_wrong(rt.alloc())?, None);
     Ok(())
 }
 
-/// Whether a run without faults ends with Done and has written these lines.
+/// How a run without faults ends.
+fn run_well(
+    alloc: Global,
+    line: &str,
+    link: &mut MemoryLink,
+    moments: Vec<u64>,
+    sink: &mut MemorySink,
+) -> Result<Served, Fail> {
+    let mut clock = MemoryMoments::new(moments);
+    let mut entropy = MemoryEntropy::new(blocks(alloc)?);
+    serve_line(alloc, line, link, &mut clock, &mut entropy, sink)
+}
+
+/// Whether a run without faults ends with Done and has written what these letters stand for.
 fn writes(
     alloc: Global,
     line: &str,
     link: &mut MemoryLink,
     moments: Vec<u64>,
-    lines: &[u8],
+    letters: &str,
 ) -> Result<bool, Fail> {
-    let mut clock = MemoryMoments::new(moments);
-    let mut entropy = MemoryEntropy::new(blocks(alloc)?);
     let mut sink = MemorySink::new(alloc);
-    let served = serve_line(alloc, line, link, &mut clock, &mut entropy, &mut sink)?;
-    Ok(served == Served::Done && sink.written() == Some(lines))
+    let served = run_well(alloc, line, link, moments, &mut sink)?;
+    let lines = lines_of(alloc, letters)?;
+    Ok(served == Served::Done && sink.written() == Some(lines.as_slice()))
 }
 
 /// A call as one number: of a bind its port, of a receive its moment, of a send its port and
@@ -241,23 +305,29 @@ fn number_of(call: &LinkCall) -> u64 {
     }
 }
 
-/// The hello of moment 5 is due again at 1,005: after the first moment of turn 2, and before its
-/// second one.
-#[test]
-fn a_turn_acts_at_its_second_moment(rt: HostRuntime) -> Result<(), Fail> {
-    let alloc = rt.alloc();
-    let mut link = MemoryLink::new(alloc, Vec::new(alloc));
-    let moments = Vec::from_array(alloc, [5, 10, 20, 1000, 1010])?;
-    let lines = lines_of(alloc, "SHA")?;
-    let wrote = writes(alloc, LINE, &mut link, moments, lines.as_slice())?;
-    let told = match link.calls() {
+/// Whether the calls of a link are these.
+fn was_called_so(link: &MemoryLink) -> bool {
+    match link.calls() {
         Some(calls) => calls
             .iter()
             .map(number_of)
             .eq([1935, 19351, 60, 1050, 19351]),
         None => false,
-    };
-    assert!(rt; wrote && told);
+    }
+}
+
+fn acts_at_its_second_moment(alloc: Global) -> Result<bool, Fail> {
+    let moments = two_turns(alloc)?;
+    let mut link = MemoryLink::new(alloc, Vec::new(alloc));
+    let wrote = writes(alloc, LINE, &mut link, moments, "SHA")?;
+    Ok(wrote && was_called_so(&link))
+}
+
+/// The hello of moment 5 is due again at 1,005: after the first moment of turn 2, and before its
+/// second one.
+#[test]
+fn a_turn_acts_at_its_second_moment(rt: HostRuntime) -> Result<(), Fail> {
+    assert!(rt; acts_at_its_second_moment(rt.alloc())?);
     Ok(())
 }
 
@@ -271,14 +341,14 @@ fn link_with_a_datagram(alloc: Global) -> Result<MemoryLink, Fail> {
     Ok(MemoryLink::new(alloc, left))
 }
 
+fn has_lines_of_refusals(alloc: Global) -> Result<bool, Fail> {
+    let mut link = link_with_a_datagram(alloc)?;
+    writes(alloc, TWICE, &mut link, Vec::new(alloc), "SHRD")
+}
+
 /// The second opening towards the same end is refused, and the datagram is discarded.
 #[test]
 fn what_is_refused_has_its_line(rt: HostRuntime) -> Result<(), Fail> {
-    let alloc = rt.alloc();
-    let mut link = link_with_a_datagram(alloc)?;
-    let lines = lines_of(alloc, "SHRD")?;
-    let moments = Vec::new(alloc);
-    let wrote = writes(alloc, TWICE, &mut link, moments, lines.as_slice())?;
-    assert!(rt; wrote);
+    assert!(rt; has_lines_of_refusals(rt.alloc())?);
     Ok(())
 }

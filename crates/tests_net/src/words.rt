@@ -2,9 +2,10 @@
 //! one step away from it.
 
 use rtmfp_words::{
-    Command, CommandLine, WordsFault, read_command_line, read_meet_words, read_serve_words,
+    Command, CommandLine, ServeWords, WordsFault, read_command_line, read_meet_words,
+    read_serve_words,
 };
-use std::alloc::Global;
+use std::alloc::{AllocError, Global};
 use std::test::Fail;
 
 /// Rows of `serve`: P stands for 64 digits, I for 32, G for 31 and U for 32 that are upper-case.
@@ -115,51 +116,74 @@ Meet --port 40100 --turns 200 = none
 show  = none
 ";
 
+/// What a letter of a row stands for, where it stands for digits.
+fn digits_of(letter: char) -> &'static str {
+    match letter {
+        'P' => "0123456789abcdef0123456789abcdef0123456789abcdef0123456789abcdef",
+        'I' => "0123456789abcdef0123456789abcdef",
+        'G' => "0123456789abcdef0123456789abcde",
+        'U' => "0123456789ABCDEF0123456789ABCDEF",
+        _ => "",
+    }
+}
+
+/// Adds what a letter of a row stands for.
+fn push_letter(letter: char, word: &mut String) -> Result<(), AllocError> {
+    let digits = digits_of(letter);
+    if digits.is_empty() {
+        return word.push(letter);
+    }
+    word.push_str(digits)
+}
+
+/// What a word of a row stands for.
+fn word_of(alloc: Global, text: &str) -> Result<String, AllocError> {
+    let mut word = String::new(alloc);
+    for letter in text.chars() {
+        push_letter(letter, &mut word)?;
+    }
+    Ok(word)
+}
+
 /// The words of a row.
-fn words_of(alloc: Global, text: &str) -> Result<Vec<String>, Fail> {
-    let digits = "0123456789abcdef0123456789abcdef";
+fn words_of(alloc: Global, text: &str) -> Result<Vec<String>, AllocError> {
     let mut words = Vec::new(alloc);
     for word in text.split(' ') {
-        let mut owned = String::new(alloc);
-        for letter in word.chars() {
-            match letter {
-                'P' => {
-                    owned.push_str(digits)?;
-                    owned.push_str(digits)?;
-                }
-                'I' => owned.push_str(digits)?,
-                'G' => owned.push_str("0123456789abcdef0123456789abcde")?,
-                'U' => owned.push_str("0123456789ABCDEF0123456789ABCDEF")?,
-                other => owned.push(other)?,
-            }
-        }
-        words.push(owned)?;
+        words.push(word_of(alloc, word)?)?;
     }
     Ok(words)
 }
 
-/// What `serve` is told, in words.
-fn served(alloc: Global, words: &[String]) -> Result<String, Fail> {
-    let serve = match read_serve_words(alloc, words) {
-        Ok(serve) => serve,
-        Err(WordsFault::Faulty) => return Ok(String::from_str(alloc, "none")?),
-        Err(WordsFault::Memory) => return Ok(String::from_str(alloc, "memory")?),
-    };
+fn fault_name(fault: WordsFault) -> &'static str {
+    match fault {
+        WordsFault::Faulty => "none",
+        WordsFault::Memory => "memory",
+    }
+}
+
+fn serve_text(alloc: Global, serve: &ServeWords) -> Result<String, AllocError> {
     let openings = serve.openings.len();
     let (turns, introduce) = (serve.turns, serve.introduce);
     let sent = serve.send.as_ref().map_or(0, |bytes| bytes.len());
-    Ok(format!(in alloc; "{openings} {turns} {introduce} {sent}")?)
+    format!(in alloc; "{openings} {turns} {introduce} {sent}")
+}
+
+/// What `serve` is told, in words.
+fn served(alloc: Global, text: &str) -> Result<String, AllocError> {
+    let words = words_of(alloc, text)?;
+    match read_serve_words(alloc, words.as_slice()) {
+        Ok(serve) => serve_text(alloc, &serve),
+        Err(fault) => String::from_str(alloc, fault_name(fault)),
+    }
 }
 
 /// What `meet` is told, in words.
-fn met(alloc: Global, words: &[String]) -> Result<String, Fail> {
-    let meet = match read_meet_words(alloc, words) {
-        Ok(meet) => meet,
-        Err(WordsFault::Faulty) => return Ok(String::from_str(alloc, "none")?),
-        Err(WordsFault::Memory) => return Ok(String::from_str(alloc, "memory")?),
-    };
-    let (port, turns) = (meet.port, meet.turns);
-    Ok(format!(in alloc; "{port} {turns}")?)
+fn met(alloc: Global, text: &str) -> Result<String, AllocError> {
+    let words = words_of(alloc, text)?;
+    match read_meet_words(alloc, words.as_slice()) {
+        Ok(meet) => format!(in alloc; "{} {}", meet.port, meet.turns),
+        Err(fault) => String::from_str(alloc, fault_name(fault)),
+    }
 }
 
 /// The command that words say.
@@ -170,41 +194,57 @@ fn said(alloc: Global, words: &[String]) -> &'static str {
         Ok(CommandLine::Lines(Command::Generate { .. })) => "generate",
         Ok(CommandLine::Serve(_)) => "serve",
         Ok(CommandLine::Meet(_)) => "meet",
-        Err(WordsFault::Faulty) => "none",
-        Err(WordsFault::Memory) => "memory",
+        Err(fault) => fault_name(fault),
     }
 }
 
+/// What the words of a row are, and what they are to say.
+fn sides(row: &str) -> (&str, &str) {
+    row.rsplit_once(" = ").unwrap_or(("", ""))
+}
+
+fn is_command(alloc: Global, row: &str) -> Result<bool, AllocError> {
+    let (text, wanted) = sides(row);
+    let words = words_of(alloc, text)?;
+    Ok(said(alloc, words.as_slice()) == wanted)
+}
+
 /// The first row that is wrong.
-fn wrong_line(alloc: Global) -> Result<Option<&'static str>, Fail> {
+fn wrong_line(alloc: Global) -> Result<Option<&'static str>, AllocError> {
     for row in LINES.lines() {
-        let (text, wanted) = row.rsplit_once(" = ").unwrap_or(("", ""));
-        let words = words_of(alloc, text)?;
-        if said(alloc, words.as_slice()) != wanted {
+        if !is_command(alloc, row)? {
             return Ok(Some(row));
         }
     }
     Ok(None)
 }
 
+fn is_serve(alloc: Global, row: &str) -> Result<bool, AllocError> {
+    let (text, wanted) = sides(row);
+    let told = served(alloc, text)?;
+    Ok(told.as_str() == wanted)
+}
+
 /// The first row that is wrong.
-fn wrong_serve(alloc: Global) -> Result<Option<&'static str>, Fail> {
+fn wrong_serve(alloc: Global) -> Result<Option<&'static str>, AllocError> {
     for row in SERVE.lines() {
-        let (text, wanted) = row.rsplit_once(" = ").unwrap_or(("", ""));
-        let words = words_of(alloc, text)?;
-        if served(alloc, words.as_slice())?.as_str() != wanted {
+        if !is_serve(alloc, row)? {
             return Ok(Some(row));
         }
     }
     Ok(None)
 }
 
+fn is_meet(alloc: Global, row: &str) -> Result<bool, AllocError> {
+    let (text, wanted) = sides(row);
+    let told = met(alloc, text)?;
+    Ok(told.as_str() == wanted)
+}
+
 /// The first row that is wrong.
-fn wrong_meet(alloc: Global) -> Result<Option<&'static str>, Fail> {
+fn wrong_meet(alloc: Global) -> Result<Option<&'static str>, AllocError> {
     for row in MEET.lines() {
-        let (text, wanted) = row.rsplit_once(" = ").unwrap_or(("", ""));
-        let words = words_of(alloc, text)?;
-        if met(alloc, words.as_slice())?.as_str() != wanted {
+        if !is_meet(alloc, row)? {
             return Ok(Some(row));
         }
     }

@@ -64,7 +64,7 @@ const FORGE: &str =
 const FORGE_WRITTEN: &str = "3 a started peer=b n=1 near=3 ni=3~3 a sent 1 10.0.0.2:1935 ihello~";
 
 /// A field of a row.
-fn field(row: &str, index: usize) -> &str {
+pub(crate) fn field(row: &str, index: usize) -> &str {
     row.split('|').nth(index).unwrap_or("")
 }
 
@@ -100,15 +100,20 @@ fn failing(alloc: Global, plan: &str, kind: &str) -> Result<Vec<u64>, AllocError
     Ok(calls)
 }
 
+/// The bytes that a text of a row stands for, which are those of another one where it is `forge`.
+fn bytes_or(alloc: Global, text: &str, forged: &str) -> Result<Vec<u8>, AllocError> {
+    if text == "forge" {
+        return bytes_of(alloc, forged);
+    }
+    bytes_of(alloc, text)
+}
+
 fn source_of(alloc: Global, row: &str) -> Result<FaultySource, AllocError> {
     let plan = field(row, 2);
-    let input = match field(row, 3) {
-        "forge" => bytes_of(alloc, FORGE)?,
-        text => bytes_of(alloc, text)?,
-    };
+    let failing = failing(alloc, plan, "read")?;
+    let input = bytes_or(alloc, field(row, 3), FORGE)?;
     let piece = if plan == "bytes" { 1 } else { 4096 };
-    let bytes = MemorySource::in_pieces(input, piece);
-    Ok(FaultySource::new(bytes, failing(alloc, plan, "read")?))
+    Ok(FaultySource::new(MemorySource::in_pieces(input, piece), failing))
 }
 
 fn sink_of(alloc: Global, row: &str) -> Result<FaultySink, AllocError> {
@@ -127,14 +132,18 @@ fn words_of(alloc: Global, text: &str) -> Result<Vec<String>, AllocError> {
     Ok(words)
 }
 
+/// Whether a field says this word, and this line.
+fn says_line(field: &str, word: &str, line: u64) -> bool {
+    field.starts_with(word) && number(field, 1) == line
+}
+
 /// Whether a field says this status, with its line.
 pub(crate) fn says_status(field: &str, status: Status) -> bool {
-    let line = number(field, 1);
     match status {
         Status::Done => field == "done",
         Status::BadWords => field == "bad-words",
-        Status::BadScript(n) => field.starts_with("bad-script ") && n == line,
-        Status::Forged(n) => field.starts_with("forged ") && n == line,
+        Status::BadScript(line) => says_line(field, "bad-script ", line),
+        Status::Forged(line) => says_line(field, "forged ", line),
         Status::SourceFault => field == "source-fault",
         Status::SinkFault => field == "sink-fault",
         Status::ScriptLong => field == "script-long",
@@ -144,20 +153,23 @@ pub(crate) fn says_status(field: &str, status: Status) -> bool {
 
 /// Whether a sink has written and passed on what a row says.
 fn says_written(alloc: Global, row: &str, sink: &FaultySink) -> Result<bool, AllocError> {
-    let written = match field(row, 4) {
-        "forge" => bytes_of(alloc, FORGE_WRITTEN)?,
-        text => bytes_of(alloc, text)?,
-    };
+    let written = bytes_or(alloc, field(row, 4), FORGE_WRITTEN)?;
     let passed = number(field(row, 5), 0);
     Ok(sink.written() == Some(written.as_slice()) && sink.passed() as u64 == passed)
 }
 
-fn is_so(alloc: Global, row: &str) -> Result<bool, AllocError> {
+/// How the run of a row ends.
+fn status_of(alloc: Global, row: &str, sink: &mut FaultySink) -> Result<Status, AllocError> {
     let words = words_of(alloc, field(row, 1))?;
     let mut source = source_of(alloc, row)?;
+    Ok(run_over(alloc, words.as_slice(), &mut source, sink))
+}
+
+fn is_so(alloc: Global, row: &str) -> Result<bool, AllocError> {
     let mut sink = sink_of(alloc, row)?;
-    let status = run_over(alloc, words.as_slice(), &mut source, &mut sink);
-    Ok(says_written(alloc, row, &sink)? && says_status(field(row, 0), status))
+    let status = status_of(alloc, row, &mut sink)?;
+    let written = says_written(alloc, row, &sink)?;
+    Ok(written && says_status(field(row, 0), status))
 }
 
 /// The first row that isn't so.
@@ -190,18 +202,23 @@ fn status_over(alloc: Global, word: &str, byte: u8, count: usize) -> Result<Stat
     Ok(run_over(alloc, words.as_slice(), &mut source, &mut sink))
 }
 
-/// A source has a million lines at most, and a line of `show` 4,096 bytes.
-fn limits_are_kept(alloc: Global) -> Result<bool, AllocError> {
-    Ok(
-        status_over(alloc, "replay", b'\n', 1_000_000)? == Status::Done
-            && status_over(alloc, "replay", b'\n', 1_000_001)? == Status::ScriptLong
-            && status_over(alloc, "show", b'3', 4096)? == Status::Done
-            && status_over(alloc, "show", b'3', 4098)? == Status::BadScript(1),
-    )
+/// A source has a million lines at most.
+fn lines_are_limited(alloc: Global) -> Result<bool, AllocError> {
+    let most = status_over(alloc, "replay", b'\n', 1_000_000)? == Status::Done;
+    let more = status_over(alloc, "replay", b'\n', 1_000_001)? == Status::ScriptLong;
+    Ok(most && more)
+}
+
+/// A line of `show` has 4,096 bytes at most.
+fn bytes_are_limited(alloc: Global) -> Result<bool, AllocError> {
+    let most = status_over(alloc, "show", b'3', 4096)? == Status::Done;
+    let more = status_over(alloc, "show", b'3', 4098)? == Status::BadScript(1);
+    Ok(most && more)
 }
 
 #[test]
 fn a_source_has_its_limits(rt: HostRuntime) -> Result<(), Fail> {
-    assert!(rt; limits_are_kept(rt.alloc())?);
+    assert!(rt; lines_are_limited(rt.alloc())?);
+    assert!(rt; bytes_are_limited(rt.alloc())?);
     Ok(())
 }

@@ -1,13 +1,16 @@
 //! The lines of a report that the script of the program `rtmfp_refused` doesn't show: each cause
-//! and each end by its name, what is told of a datagram, and why a row isn't added.
+//! and each end by its name, what is told of a datagram, why a row isn't added, and a refusal that no
+//! script comes to.
 
 use crypto_profile::{Context, Keys, seal_in_place};
-use endpoint::{Entry, OpenRefusal};
+use endpoint::{CallRefusal, Entry, OpenRefusal, QueueRefusal};
 use glare_core::{Fact, Joined, StartRefusal, Why};
 use introducer::RowRefusal;
 use rtmfp_base::Message;
 use rtmfp_forms::Address;
-use rtmfp_report::{GroupKeys, push_entries, push_open_refusal, push_row_refusal};
+use rtmfp_report::{
+    GroupKeys, push_call_refusal, push_entries, push_open_refusal, push_row_refusal,
+};
 use rtmfp_text::{Directory, Name, Named, Text};
 use startup::Cause;
 use std::alloc::Global;
@@ -109,52 +112,68 @@ const OTHER_LINES: &str =
 1 a refused attempts-spent
 1 a refused candidates 17
 1 a refused rows-full 1024
+1 a refused sequence-spent
 ";
 
 fn name() -> Result<Name, Fail> {
     Ok(Name::new(b"a").ok_or("a name")?)
 }
 
+fn ends(alloc: Global) -> Result<Directory, Fail> {
+    let mut ends = Directory::new(alloc);
+    let named = Named {
+        print: [1; 32],
+        name: name()?,
+    };
+    ends.push(named)?;
+    Ok(ends)
+}
+
+/// Adds the report of these entries.
+fn report_all(
+    alloc: Global,
+    ends: &Directory,
+    name: &Name,
+    entries: &[Entry],
+    text: &mut Text,
+) -> Result<(), Fail> {
+    let mut scratch = Vec::new(alloc);
+    let mut keys = GroupKeys::of(alloc, &SECRET);
+    push_entries(&mut keys, ends, 1, name, 0, entries, &mut scratch, text)?;
+    Ok(())
+}
+
 /// Adds the report of one entry.
 fn report(alloc: Global, entry: Entry, text: &mut Text) -> Result<(), Fail> {
     let entries = [entry];
-    let mut scratch = Vec::new(alloc);
-    let mut ends = Directory::new(alloc);
-    ends.push(Named {
-        print: [1; 32],
-        name: name()?,
-    })?;
-    let mut keys = GroupKeys::of(alloc, &SECRET);
-    push_entries(
-        &mut keys,
-        &ends,
-        1,
-        &name()?,
-        0,
-        &entries,
-        &mut scratch,
-        text,
-    )?;
-    Ok(())
+    let ends = ends(alloc)?;
+    report_all(alloc, &ends, &name()?, &entries, text)
 }
 
 fn cause_lines(alloc: Global) -> Result<Text, Fail> {
     let mut text = Text::new(alloc);
-    for cause in CAUSES {
-        report(alloc, Entry::Discard { place: 9, cause }, &mut text)?;
+    for cause in CAUSES.iter() {
+        let discard = Entry::Discard {
+            place: 9,
+            cause: *cause,
+        };
+        report(alloc, discard, &mut text)?;
     }
     Ok(text)
 }
 
+fn ended(why: Why) -> Fact {
+    Fact::Ended {
+        peer: [2; 32],
+        near: 3,
+        why,
+    }
+}
+
 fn why_lines(alloc: Global) -> Result<Text, Fail> {
     let mut text = Text::new(alloc);
-    for why in WHYS {
-        let ended = Fact::Ended {
-            peer: [2; 32],
-            near: 3,
-            why,
-        };
-        report(alloc, Entry::Fact(ended), &mut text)?;
+    for why in WHYS.iter() {
+        report(alloc, Entry::Fact(ended(*why)), &mut text)?;
     }
     Ok(text)
 }
@@ -181,11 +200,10 @@ fn sent(alloc: Global, datagram: &[u8]) -> Result<Entry, Fail> {
     }
 }
 
-fn other_lines(alloc: Global) -> Result<Text, Fail> {
-    let mut text = Text::new(alloc);
+fn opened() -> Joined {
     let mut nr = [0; 16];
     nr[15] = 0xa0;
-    let opened = Joined {
+    Joined {
         peer: [9; 32],
         n: 1,
         near: 6,
@@ -193,19 +211,38 @@ fn other_lines(alloc: Global) -> Result<Text, Fail> {
         ni: [0; 16],
         nr,
         k: 2,
-    };
-    report(alloc, Entry::Fact(Fact::Opened(opened)), &mut text)?;
-    report(
-        alloc,
-        out(alloc, &[0x01, 0x01, 0, 0, 0x0c, 0, 0])?,
-        &mut text,
-    )?;
-    report(alloc, out(alloc, &[0x00, 0x30, 0, 3, 1, 2, 3])?, &mut text)?;
-    report(alloc, sent(alloc, &[3; 35])?, &mut text)?;
+    }
+}
+
+/// Adds the line of a datagram of this plain packet.
+fn push_out(alloc: Global, plain: &[u8; 7], text: &mut Text) -> Result<(), Fail> {
+    let out = out(alloc, plain)?;
+    report(alloc, out, text)
+}
+
+fn push_datagrams(alloc: Global, text: &mut Text) -> Result<(), Fail> {
+    push_out(alloc, &[0x01, 0x01, 0, 0, 0x0c, 0, 0], text)?;
+    push_out(alloc, &[0x00, 0x30, 0, 3, 1, 2, 3], text)?;
+    let short = sent(alloc, &[3; 35])?;
+    report(alloc, short, text)
+}
+
+fn push_refusals(text: &mut Text) -> Result<(), Fail> {
+    let name = name()?;
     let refusal = OpenRefusal::Start(StartRefusal::AttemptsSpent);
-    push_open_refusal(1, &name()?, &refusal, &mut text)?;
-    push_row_refusal(1, &name()?, &RowRefusal::Candidates(17), &mut text)?;
-    push_row_refusal(1, &name()?, &RowRefusal::RowsFull(1024), &mut text)?;
+    push_open_refusal(1, &name, &refusal, text)?;
+    push_row_refusal(1, &name, &RowRefusal::Candidates(17), text)?;
+    push_row_refusal(1, &name, &RowRefusal::RowsFull(1024), text)?;
+    let refusal = CallRefusal::Queue(QueueRefusal::SequenceSpent);
+    push_call_refusal(1, &name, &refusal, text)?;
+    Ok(())
+}
+
+fn other_lines(alloc: Global) -> Result<Text, Fail> {
+    let mut text = Text::new(alloc);
+    report(alloc, Entry::Fact(Fact::Opened(opened())), &mut text)?;
+    push_datagrams(alloc, &mut text)?;
+    push_refusals(&mut text)?;
     Ok(text)
 }
 

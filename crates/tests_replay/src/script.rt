@@ -1,6 +1,7 @@
 //! Lines that are outside the grammar of a script, and the limits of its fields. What lines say is
 //! shown by the script of the program `rtmfp_refused`; what bytes count, here.
 
+use crate::cli::field;
 use rtmfp_script::{Said, ScriptLine, read_line};
 use rtmfp_text::Text;
 use std::alloc::Global;
@@ -93,13 +94,19 @@ finish a 0 0
 finish a 4294967295 18446744073709551615
 ";
 
-/// Whether a line, which has a part again and again behind its head, is a step.
-fn is_step(alloc: Global, head: &str, part: &str, count: u32) -> Result<bool, Fail> {
+/// A line, which has a part again and again behind its head.
+fn line_of(alloc: Global, head: &str, part: &str, count: u32) -> Result<Text, Fail> {
     let mut line = Text::new(alloc);
     line.push(head)?;
     for _ in 0..count {
         line.push(part)?;
     }
+    Ok(line)
+}
+
+/// Whether a line, which has a part again and again behind its head, is a step.
+fn is_step(alloc: Global, head: &str, part: &str, count: u32) -> Result<bool, Fail> {
+    let line = line_of(alloc, head, part, count)?;
     Ok(match read_line(alloc, line.bytes())? {
         Said::Step(_) => true,
         Said::Nothing | Said::Outside => false,
@@ -138,46 +145,92 @@ fn message_of(alloc: Global, line: &str) -> Result<Vec<u8>, Fail> {
     }
 }
 
+/// How many bytes the message has that a line queues.
+fn length_of(alloc: Global, line: &str) -> Result<usize, Fail> {
+    Ok(message_of(alloc, line)?.len())
+}
+
 /// Bytes count from 0 to 250, and then from 0 again.
 fn bytes_count(alloc: Global) -> Result<bool, Fail> {
     let bytes = message_of(alloc, "queue a 1 0 - - *253")?;
-    Ok(
-        bytes.len() == 253
-            && bytes.starts_with(&[0, 1, 2])
-            && bytes.ends_with(&[249, 250, 0, 1])
-            && message_of(alloc, "queue a 1 0 - - *0")?.is_empty()
-            && message_of(alloc, "queue a 1 0 - - *2000000")?.len() == 2_000_000
-            && message_of(alloc, "queue a 1 0 - - 00ff")?.as_slice() == [0u8, 255].as_slice(),
-    )
+    Ok(bytes.len() == 253 && bytes.starts_with(&[0, 1, 2]) && bytes.ends_with(&[249, 250, 0, 1]))
+}
+
+/// Whether bytes are those that a line spells.
+fn bytes_are_spelled(alloc: Global) -> Result<bool, Fail> {
+    let bytes = message_of(alloc, "queue a 1 0 - - 00ff")?;
+    Ok(bytes.as_slice() == [0u8, 255].as_slice())
+}
+
+/// Whether there are as few and as many bytes as a line says.
+fn lengths_are_so(alloc: Global) -> Result<bool, Fail> {
+    let none = length_of(alloc, "queue a 1 0 - - *0")? == 0;
+    let most = length_of(alloc, "queue a 1 0 - - *2000000")? == 2_000_000;
+    Ok(none && most)
+}
+
+/// Heads and parts that stand behind them, with the least and the most counts of these.
+const FIELDS: &str = "tick |a|1|16
+end a 0 0 |c|17|80
+open a b| 1.2.3.4:5|0|32
+inject a 1.2.3.4:5 |00|1|2048
+forge a 1.2.3.4:5 |00|1|1164
+queue a 1 0 - - |00|1|1048824
+flow a 1 4 |00|1|1048826
+";
+
+/// Whether a part, so many times behind a head, is a step; what is less than none isn't.
+fn is_less(alloc: Global, head: &str, part: &str, least: u32) -> Result<bool, Fail> {
+    if least == 0 {
+        return Ok(false);
+    }
+    is_step(alloc, head, part, least - 1)
+}
+
+/// Whether a part has no counts behind a head but those from the least to the most one.
+fn is_limited(alloc: Global, head: &str, part: &str, least: u32, most: u32) -> Result<bool, Fail> {
+    let less = is_less(alloc, head, part, least)?;
+    let more = is_step(alloc, head, part, most.saturating_add(1))?;
+    Ok(!less && !more)
 }
 
 /// Whether a part has these least and most counts behind a head.
-fn is_limited(alloc: Global, head: &str, part: &str, least: u32, most: u32) -> Result<bool, Fail> {
-    Ok(
-        is_step(alloc, head, part, least)?
-            && is_step(alloc, head, part, most)?
-            && !is_step(alloc, head, part, most.saturating_add(1))?
-            && (least == 0 || !is_step(alloc, head, part, least.saturating_sub(1))?),
-    )
+fn are_steps(alloc: Global, head: &str, part: &str, least: u32, most: u32) -> Result<bool, Fail> {
+    let least = is_step(alloc, head, part, least)?;
+    let most = is_step(alloc, head, part, most)?;
+    Ok(least && most)
 }
 
-fn fields_are_limited(alloc: Global) -> Result<bool, Fail> {
-    Ok(
-        is_limited(alloc, "tick ", "a", 1, 16)?
-            && is_limited(alloc, "end a 0 0 ", "c", 17, 80)?
-            && is_limited(alloc, "open a b", " 1.2.3.4:5", 0, 32)?
-            && is_limited(alloc, "inject a 1.2.3.4:5 ", "00", 1, 2048)?
-            && is_limited(alloc, "forge a 1.2.3.4:5 ", "00", 1, 1164)?
-            && is_limited(alloc, "queue a 1 0 - - ", "00", 1, 1_048_824)?
-            && is_limited(alloc, "flow a 1 4 ", "00", 1, 1_048_826)?,
-    )
+/// A count of a row.
+fn count(row: &str, index: usize) -> u32 {
+    field(row, index).parse::<u32>().unwrap_or(0)
+}
+
+/// Whether the part of a row has its least and its most counts behind its head.
+fn is_field(alloc: Global, row: &str) -> Result<bool, Fail> {
+    let (head, part) = (field(row, 0), field(row, 1));
+    let steps = are_steps(alloc, head, part, count(row, 2), count(row, 3))?;
+    let limited = is_limited(alloc, head, part, count(row, 2), count(row, 3))?;
+    Ok(steps && limited)
+}
+
+/// The first field that has other limits.
+fn first_other_field(alloc: Global) -> Result<Option<&'static str>, Fail> {
+    for row in FIELDS.lines() {
+        if !is_field(alloc, row)? {
+            return Ok(Some(row));
+        }
+    }
+    Ok(None)
 }
 
 #[test]
 fn lines_and_fields_have_their_limits(rt: HostRuntime) -> Result<(), Fail> {
     assert_eq!(rt; first_step(rt.alloc())?, None);
     assert_eq!(rt; first_other(rt.alloc())?, None);
-    assert!(rt; fields_are_limited(rt.alloc())?);
+    assert_eq!(rt; first_other_field(rt.alloc())?, None);
     assert!(rt; bytes_count(rt.alloc())?);
+    assert!(rt; bytes_are_spelled(rt.alloc())?);
+    assert!(rt; lengths_are_so(rt.alloc())?);
     Ok(())
 }

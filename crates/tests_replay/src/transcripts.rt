@@ -3,6 +3,7 @@
 
 use crate::cli::says_status;
 use crate::running::run_over;
+use rtmfp_cli::Status;
 use rtmfp_host::{MemorySink, MemorySource};
 use std::alloc::{AllocError, Global};
 use std::test::Fail;
@@ -200,11 +201,33 @@ const ROWS: &str = "@ handshake = done
 5 a refused sessions-full 1
 ";
 
+/// The first line of a row, and the others.
+fn head_of(row: &str) -> (&str, &str) {
+    row.split_once('\n').unwrap_or(("", ""))
+}
+
+/// A name, and how the run ends.
+fn name_of(head: &str) -> (&str, &str) {
+    head.split_once(" = ").unwrap_or((head, ""))
+}
+
+/// The first word of a text, and the rest.
+fn word_of(text: &str) -> (&str, &str) {
+    text.split_once(' ').unwrap_or(("", ""))
+}
+
+/// Whether a row has this name.
+fn is_named(row: &str, name: &str) -> bool {
+    let (head, _) = head_of(row);
+    let (found, _) = name_of(head);
+    found == name
+}
+
 /// The lines of the row of this name.
 fn row_named(rows: &'static str, name: &str) -> &'static str {
     for row in rows.split("@ ") {
-        let (head, lines) = row.split_once('\n').unwrap_or(("", ""));
-        if head.split(" = ").next() == Some(name) {
+        if is_named(row, name) {
+            let (_, lines) = head_of(row);
             return lines;
         }
     }
@@ -212,9 +235,7 @@ fn row_named(rows: &'static str, name: &str) -> &'static str {
 }
 
 fn push_line(line: &str, text: &mut Vec<u8>) -> Result<(), AllocError> {
-    for byte in line.as_bytes() {
-        text.push(*byte)?;
-    }
+    text.extend_from_slice(line.as_bytes())?;
     text.push(b'\n')?;
     Ok(())
 }
@@ -227,22 +248,38 @@ struct Transcript {
 }
 
 impl Transcript {
+    /// Adds a step, or a line that is reported.
+    fn push_one(&mut self, line: &str) -> Result<(), AllocError> {
+        match line.strip_prefix("> ") {
+            Some(step) => push_line(step, &mut self.script),
+            None => push_line(line, &mut self.report),
+        }
+    }
+
     /// Adds the first lines of a script, so many at most, each with what is reported of it.
     fn push(&mut self, lines: &str, most: u32) -> Result<(), AllocError> {
         let mut left = most;
         for line in lines.lines() {
-            match line.strip_prefix("> ") {
-                Some(step) => {
-                    if left == 0 {
-                        return Ok(());
-                    }
-                    left -= 1;
-                    push_line(step, &mut self.script)?;
+            if line.starts_with("> ") {
+                if left == 0 {
+                    return Ok(());
                 }
-                None => push_line(line, &mut self.report)?,
+                left -= 1;
             }
+            self.push_one(line)?;
         }
         Ok(())
+    }
+
+    /// Adds what the lines of one of these rows stand for.
+    fn push_row(&mut self, rows: &'static str, lines: &str) -> Result<(), AllocError> {
+        let Some(front) = lines.strip_prefix("+ ") else {
+            return self.push(lines, u32::MAX);
+        };
+        let (count, rest) = word_of(front);
+        let (name, lines) = head_of(rest);
+        self.push(row_named(rows, name), count.parse::<u32>().unwrap_or(0))?;
+        self.push(lines, u32::MAX)
     }
 
     /// What the lines of one of these rows stand for.
@@ -251,16 +288,17 @@ impl Transcript {
             script: Vec::new(alloc),
             report: Vec::new(alloc),
         };
-        let Some(front) = lines.strip_prefix("+ ") else {
-            whole.push(lines, u32::MAX)?;
-            return Ok(whole);
-        };
-        let (count, rest) = front.split_once(' ').unwrap_or(("", ""));
-        let (name, lines) = rest.split_once('\n').unwrap_or(("", ""));
-        whole.push(row_named(rows, name), count.parse::<u32>().unwrap_or(0))?;
-        whole.push(lines, u32::MAX)?;
+        whole.push_row(rows, lines)?;
         Ok(whole)
     }
+}
+
+/// How a run of a script ends.
+fn status_of(alloc: Global, script: Vec<u8>, sink: &mut MemorySink) -> Result<Status, AllocError> {
+    let word = String::from_str(alloc, "replay")?;
+    let words = Vec::from_array(alloc, [word])?;
+    let mut source = MemorySource::new(script);
+    Ok(run_over(alloc, words.as_slice(), &mut source, sink))
 }
 
 /// Whether a run of a script ends so, and writes this report and nothing else.
@@ -270,18 +308,15 @@ pub(crate) fn gives(
     end: &str,
     report: &[u8],
 ) -> Result<bool, AllocError> {
-    let mut words = Vec::new(alloc);
-    words.push(String::from_str(alloc, "replay")?)?;
-    let mut source = MemorySource::new(script);
     let mut sink = MemorySink::new(alloc);
-    let status = run_over(alloc, words.as_slice(), &mut source, &mut sink);
+    let status = status_of(alloc, script, &mut sink)?;
     Ok(says_status(end, status) && sink.written() == Some(report))
 }
 
 /// Whether a run of the script of one of these rows ends as the row says, with its report.
 fn is_so(alloc: Global, rows: &'static str, row: &str) -> Result<bool, AllocError> {
-    let (head, lines) = row.split_once('\n').unwrap_or(("", ""));
-    let (_, end) = head.split_once(" = ").unwrap_or(("", ""));
+    let (head, lines) = head_of(row);
+    let (_, end) = name_of(head);
     let whole = Transcript::of(alloc, rows, lines)?;
     gives(alloc, whole.script, end, whole.report.as_slice())
 }

@@ -1,7 +1,7 @@
 //! The words of the command line.
 
 use rtmfp_words::{Command, read_command};
-use std::alloc::Global;
+use std::alloc::{AllocError, Global};
 use std::test::Fail;
 
 /// Words, and the command that they are.
@@ -16,24 +16,44 @@ replay --generate=1 --steps=100001 = none
 show replay = none
 ";
 
-/// The command that words are, in words.
-fn told(alloc: Global, words: &str) -> Result<String, Fail> {
-    let mut owned = Vec::new(alloc);
-    for word in words.split(' ') {
-        owned.push(String::from_str(alloc, word)?)?;
+fn words_of(alloc: Global, text: &str) -> Result<Vec<String>, AllocError> {
+    let mut words = Vec::new(alloc);
+    for word in text.split(' ') {
+        words.push(String::from_str(alloc, word)?)?;
     }
-    Ok(match read_command(owned.as_slice()) {
-        Some(Command::Show) => String::from_str(alloc, "show")?,
-        Some(Command::Replay) => String::from_str(alloc, "replay")?,
-        Some(Command::Generate { seed, steps }) => { format!(in alloc; "generate {seed} {steps}")? }
-        None => String::from_str(alloc, "none")?,
-    })
+    Ok(words)
 }
 
-fn first_wrong(alloc: Global) -> Result<Option<&'static str>, Fail> {
+/// A command in words.
+fn command_text(alloc: Global, command: Option<Command>) -> Result<String, AllocError> {
+    match command {
+        Some(Command::Show) => String::from_str(alloc, "show"),
+        Some(Command::Replay) => String::from_str(alloc, "replay"),
+        Some(Command::Generate { seed, steps }) => format!(in alloc; "generate {seed} {steps}"),
+        None => String::from_str(alloc, "none"),
+    }
+}
+
+/// The command that words are, in words.
+fn told(alloc: Global, text: &str) -> Result<String, AllocError> {
+    let words = words_of(alloc, text)?;
+    command_text(alloc, read_command(words.as_slice()))
+}
+
+/// Words, and the command that they are.
+fn sides(row: &str) -> (&str, &str) {
+    row.split_once(" = ").unwrap_or(("", ""))
+}
+
+fn is_so(alloc: Global, row: &str) -> Result<bool, AllocError> {
+    let (words, command) = sides(row);
+    let told = told(alloc, words)?;
+    Ok(told.as_str() == command)
+}
+
+fn first_wrong(alloc: Global) -> Result<Option<&'static str>, AllocError> {
     for row in ROWS.lines() {
-        let (words, command) = row.split_once(" = ").unwrap_or(("", ""));
-        if told(alloc, words)?.as_str() != command {
+        if !is_so(alloc, row)? {
             return Ok(Some(row));
         }
     }

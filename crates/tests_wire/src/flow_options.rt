@@ -18,14 +18,22 @@ pub(crate) fn metadata_said(alloc: Global, given: &str) -> Result<String, Fail> 
     }
 }
 
+/// Whether the associations among these options name so many flows alone.
+fn are_known(given: &[u8], flows: u64) -> Option<bool> {
+    match read_options(given) {
+        Ok((options, _)) => Some(all_known(&options, flows)),
+        Err(_) => None,
+    }
+}
+
 /// Whether the associations among options name so many flows alone.
 pub(crate) fn known_said(alloc: Global, given: &str) -> Result<String, Fail> {
     let (flows, given) = first_word(given);
     let flows: u64 = flows.parse().ok().ok_or("a number")?;
     let given = bytes(alloc, given)?;
-    match read_options(given.as_slice()) {
-        Ok((options, _)) => Ok(format!(in alloc; "{}", all_known(&options, flows))?),
-        Err(_) => Err(Fail::from("options")),
+    match are_known(given.as_slice(), flows) {
+        Some(known) => Ok(format!(in alloc; "{known}")?),
+        None => Err(Fail::from("options")),
     }
 }
 

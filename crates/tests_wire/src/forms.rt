@@ -2,9 +2,10 @@
 
 use crate::rows::{bytes, digits, first_word};
 use rtmfp_forms::{
-    Address, FormFault, NoRoom, Outgoing, read_address, read_options, write_address, write_options,
+    Address, FormFault, NoRoom, OptionView, Options, Outgoing, read_address, read_options,
+    write_address, write_options,
 };
-use std::alloc::Global;
+use std::alloc::{AllocError, Global};
 use std::test::Fail;
 
 fn fault_name(fault: &FormFault) -> &'static str {
@@ -15,33 +16,61 @@ fn fault_name(fault: &FormFault) -> &'static str {
     }
 }
 
+/// An option in words.
+fn option_text(alloc: Global, option: &OptionView<'_>) -> Result<String, AllocError> {
+    let value = digits(alloc, option.value)?;
+    format!(in alloc; " {}:{value}", option.kind)
+}
+
+/// Adds an option in words.
+fn push_option(
+    alloc: Global,
+    option: &OptionView<'_>,
+    said: &mut String,
+) -> Result<(), AllocError> {
+    let text = option_text(alloc, option)?;
+    said.push_str(text.as_str())
+}
+
+/// Options in words, with how many bytes they take.
+fn options_text(alloc: Global, options: &Options<'_>, used: usize) -> Result<String, AllocError> {
+    let mut said = format!(in alloc; "{used}")?;
+    for option in options.iter() {
+        push_option(alloc, &option, &mut said)?;
+    }
+    Ok(said)
+}
+
 /// The options that are read of bytes, in words.
 pub(crate) fn options_said(alloc: Global, given: &str) -> Result<String, Fail> {
     let given = bytes(alloc, given)?;
     match read_options(given.as_slice()) {
-        Ok((options, used)) => {
-            let mut said = format!(in alloc; "{used}")?;
-            for option in options.iter() {
-                let value = digits(alloc, option.value)?;
-                said.push_str(format!(in alloc; " {}:{value}", option.kind)?.as_str())?;
-            }
-            Ok(said)
-        }
+        Ok((options, used)) => Ok(options_text(alloc, &options, used)?),
         Err(fault) => Ok(String::from_str(alloc, fault_name(&fault))?),
     }
+}
+
+/// Options, written.
+fn written(alloc: Global, options: &Options<'_>) -> Result<String, Fail> {
+    let mut out = Outgoing::new(0x03);
+    write_options(options, &mut out).ok().ok_or("room")?;
+    Ok(digits(alloc, out.bytes().get(1..).unwrap_or(&[]))?)
 }
 
 /// The options that are read of bytes, written again.
 pub(crate) fn options_written(alloc: Global, given: &str) -> Result<String, Fail> {
     let given = bytes(alloc, given)?;
-    let mut out = Outgoing::new(0x03);
     match read_options(given.as_slice()) {
-        Ok((options, _)) => {
-            write_options(&options, &mut out).ok().ok_or("room")?;
-            Ok(digits(alloc, out.bytes().get(1..).unwrap_or(&[]))?)
-        }
+        Ok((options, _)) => written(alloc, &options),
         Err(fault) => Ok(String::from_str(alloc, fault_name(&fault))?),
     }
+}
+
+/// An address in words.
+fn address_text(alloc: Global, address: &Address) -> Result<String, AllocError> {
+    let host = digits(alloc, &address.host)?;
+    let (port, v6, origin) = (address.port, address.v6, address.origin);
+    format!(in alloc; "{host} {port} v6={v6} origin={origin}")
 }
 
 /// The address that is read of bytes, in words.
@@ -49,9 +78,8 @@ pub(crate) fn address_said(alloc: Global, given: &str) -> Result<String, Fail> {
     let given = bytes(alloc, given)?;
     match read_address(given.as_slice()) {
         Ok((address, used)) => {
-            let host = digits(alloc, &address.host)?;
-            let head = format!(in alloc; "{host} {} v6={}", address.port, address.v6)?;
-            Ok(format!(in alloc; "{head} origin={} in {used}", address.origin)?)
+            let head = address_text(alloc, &address)?;
+            Ok(format!(in alloc; "{head} in {used}")?)
         }
         Err(fault) => Ok(String::from_str(alloc, fault_name(&fault))?),
     }

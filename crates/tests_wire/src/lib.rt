@@ -13,4 +13,8 @@ mod forms;
 #[cfg(test)]
 mod numbers;
 #[cfg(test)]
+mod pieces;
+#[cfg(test)]
 mod rows;
+#[cfg(test)]
+mod translating;

@@ -13,12 +13,18 @@ pub(crate) fn number_written(alloc: Global, number: &str) -> Result<String, Fail
     Ok(digits(alloc, out.get(..len).unwrap_or(&[]))?)
 }
 
+fn fault_name(fault: &VluFault) -> &'static str {
+    match fault {
+        VluFault::Short => "short",
+        VluFault::Large => "large",
+    }
+}
+
 /// What is read of bytes, in words.
 pub(crate) fn number_said(alloc: Global, given: &str) -> Result<String, Fail> {
     let given = bytes(alloc, given)?;
-    Ok(match read_vlu(given.as_slice()) {
-        Ok((value, len)) => format!(in alloc; "{value} in {len}")?,
-        Err(VluFault::Short) => String::from_str(alloc, "short")?,
-        Err(VluFault::Large) => String::from_str(alloc, "large")?,
-    })
+    match read_vlu(given.as_slice()) {
+        Ok((value, len)) => Ok(format!(in alloc; "{value} in {len}")?),
+        Err(fault) => Ok(String::from_str(alloc, fault_name(&fault))?),
+    }
 }
