@@ -173,10 +173,6 @@ weighed l n packet once agree (Next m y later here more rest) =
 
 -- ---- a packet that is given
 
-record WasFree (id : ℕ) (x : PieceParts) (held : List PacketParts) : Type 0 where
-  is_new : is_again x (pieces_under id held) ≡ false
-  is_free : piece_refusal id x held ≡ None
-
 free_by : (b : Bool) (r : Option PieceRefusal) (g : Gathered) (packet : List ℕ)
     → ◌≡◌ {A = Result Gathered PieceRefusal} (if b then Ok Again else unless r g) (Ok (Whole packet)) → (b ≡ false) × (r ≡ None)
 free_by true r g packet e = absurd cc
