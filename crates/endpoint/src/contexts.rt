@@ -7,7 +7,7 @@ ghost use Rattle.std.specs.Prelude.{option_copied};
 ghost use Rattle.endpoint.specs.StreamKeys.{sealer_of, stream_key, stream_key_in};
 
 use crate::endpoint::Endpoint;
-use crypto_profile::{Context, HmacKey};
+use crypto_profile::{Context, StreamKey};
 use endpoint_model::Row;
 
 impl Endpoint {
@@ -44,7 +44,7 @@ impl Endpoint {
 
     /// The key of the keystream of a context under this secret, where a session of this end seals
     /// in it. It isn't derived.
-    pub fn stream_key(&self, secret: &[u8; 32], context: &Context) -> Option<&HmacKey>
+    pub fn stream_key(&self, secret: &[u8; 32], context: &Context) -> Option<&StreamKey>
         ensures { option_copied result ≡ stream_key self.now secret.now context.now }
     {
         match self.end.sessions.row(sealer_of(context)) {
@@ -70,7 +70,7 @@ fn sealer_of(context: &Context) -> u32
 }
 
 /// The key of a session's keystream, where it seals in this context under this secret.
-fn stream_key_in<'a>(row: &'a Row, secret: &[u8; 32], context: &Context) -> Option<&'a HmacKey>
+fn stream_key_in<'a>(row: &'a Row, secret: &[u8; 32], context: &Context) -> Option<&'a StreamKey>
     ensures { option_copied result ≡ stream_key_in secret.now context.now (Some row.now) }
 {
     if row.session.context(true).is_same(context) && *row.session.secret() == *secret {

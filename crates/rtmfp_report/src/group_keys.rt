@@ -2,7 +2,7 @@
 ghost use Rattle.std.specs.Prelude.{◌≡◌, List, ℕ};
 ghost use Rattle.rtmfp_report.specs.KeptKeys.{AreUnder};
 
-use crypto_profile::{Context, HmacKey, decipher_in_place, stream_key};
+use crypto_profile::{Context, HmacKey, StreamKey, decipher_in_place, stream_key};
 use endpoint::{Endpoint, Entry};
 use std::alloc::Global;
 use std::marker::Model;
@@ -14,7 +14,7 @@ const MOST_KEPT: usize = 512;
 #[derive(Drop)]
 pub(crate) struct KeptKey {
     pub(crate) context: Context,
-    pub(crate) key: HmacKey,
+    pub(crate) key: StreamKey,
 }
 
 /// The secret of a group, and keys of its packets: those of startup, which are derived once, and
@@ -25,7 +25,7 @@ pub(crate) struct KeptKey {
 pub struct GroupKeys {
     alloc: Global,
     secret: HmacKey,
-    startup: HmacKey,
+    startup: StreamKey,
     /// The key of a session stands in the slot that its session IDs name, or nowhere. There are no
     /// slots at first, and fewer than there may be where no memory was found.
     kept: Vec<Option<KeptKey>>,
@@ -114,7 +114,7 @@ impl GroupKeys {
     }
 
     /// The key of a context's keystream, where it is kept.
-    fn kept_key(&self, context: &Context) -> Option<&HmacKey>
+    fn kept_key(&self, context: &Context) -> Option<&StreamKey>
         ensures { IfSome result (λ key. key.now ≡ (keys_of self.now context.now).enc) }
     {
         let slot = slot_of(context)?;

@@ -21,7 +21,9 @@ use crate::stage::{
 };
 use crate::stamps::{Stamp, echo_of, stamp_after, tick_of};
 use crate::trips::{RoundTrip, resend_time, trip_after};
-use crypto_profile::{CIPHERED_AT, Context, HmacKey, Keys, ReplayWindow, open_in_place, seal_into};
+use crypto_profile::{
+    CIPHERED_AT, Context, HmacKey, Keys, ReplayWindow, StreamKey, open_in_place, seal_into,
+};
 use glare_core::Joined;
 use rtmfp_forms::{Address, Outgoing};
 use rtmfp_packet::{Mode, PacketHead};
@@ -224,7 +226,7 @@ impl Session {
 
     /// The key of the keystream of packets away from this end, by which they are deciphered and
     /// none is verified.
-    pub fn stream_key(&self) -> &HmacKey
+    pub fn stream_key(&self) -> &StreamKey
         ensures { result.now ≡ (keys_of self.now.secret (context_of self.now true)).enc }
     {
         self.outward.stream()
