@@ -10,7 +10,7 @@ use Rattle.flow_send.specs.declared.state.State.{State}
 use Rattle.flow_send.specs.declared.state.State.TheVariants.{Unsent, Flying, Lost, Acknowledged, Abandoned}
 use Rattle.flow_send.specs.Rows.{Row, row_at, is_flying, any_flying, is_lost, lost_of, map_rows, between, any_between}
 use Rattle.flow_send.specs.Acks.{is_third, count_ack}
-use Rattle.flow_send.specs.Ordered.{Ordered, IsComplete, Rising, NonFalling, EndsBy, EndsBefore, AllThere, AllOther, Follows, IsAdded, count_sent, count_one, count_before}
+use Rattle.flow_send.specs.Ordered.{Ordered, IsComplete, Rising, NonFalling, EndsBy, EndsBefore, AllThere, AllOther, IsLast, IsPruned, Follows, IsAdded, count_sent, count_one, count_before}
 use Rattle.flow_send.proofs.Sendings.{third_flies}
 use Rattle.flow_send.proofs.Numbered.{Stands_between, map_between}
 
@@ -348,6 +348,16 @@ still_there queue left e n (r ∷ rows) q a o = (λ f. here (o.0 f) (subst (IsIn
 
 pub pruned : (old new : Ordered) (e : ℕ × ℕ × ℕ) (n : ℕ) (rows : List Row) → new.whole ≡ old.whole → old.queue ≡ e ∷ new.queue → AllOther e n rows → Follows old n rows → Follows new n rows
 pruned old new e n rows w q o f = λ t. let c = f (sym w ∙ t) in record { rising = (subst Rising q c.rising).1; moments = (subst NonFalling q c.moments).1; there = still_there old.queue new.queue e n rows q c.there o }
+
+-- ---- the oldest sending that stays
+
+pub last_at : (sent number n at : ℕ) (rows : List Row) → number ≡ n + at → at < length rows → is_flying (row_at rows at).state ≡ true → (row_at rows at).ordinal ≡ sent → IsLast sent number n rows
+last_at sent number n at [] e lt f o = absurd (omega (arith, lt))
+last_at sent number n zero (r ∷ rows) e lt f o = inl (omega (arith, e), f, o)
+last_at sent number n (suc at) (r ∷ rows) e lt f o = inr (last_at sent number (n + 1) at rows (omega (arith, e)) (omega arith) f o)
+
+pub none_pruned : (queue : List (ℕ × ℕ × ℕ)) (n : ℕ) (rows : List Row) → queue ≡ [] → IsPruned queue n rows
+none_pruned queue n rows q = subst (λ (xs : List (ℕ × ℕ × ℕ)). IsPruned xs n rows) (sym q) tt
 
 -- ---- a queue that begins anew
 

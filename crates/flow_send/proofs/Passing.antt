@@ -1,6 +1,8 @@
 -- What is known of acknowledged rows, through each change of the rows.
 use Rattle.std.proofs.Common.{◌≡◌, ℕ, zero, suc, ◌+◌, ◌-◌, ◌<◌, ◌≤◌, nat_le, nat_lt, max, cond, Bool, true, false, not, ◌||◌, ◌&&◌, List, [], ◌∷◌, ◌++◌, length, set, get_or, drop, refl, ap, sym, ◌∙◌, subst, arith, inl, inr}
 use Rattle.std.proofs.lemmas.Bool.{cases_lt}
+use Rattle.std.proofs.lemmas.Grind.{get_or-set_at}
+use Rattle.std.proofs.lemmas.List.{get_or-set_other}
 use Rattle.flow_send.specs.declared.state.State.{State}
 use Rattle.flow_send.specs.declared.state.State.TheVariants.{Unsent, Flying, Lost, Acknowledged, Abandoned}
 use Rattle.flow_send.specs.declared.totals.Totals.{Totals}
@@ -117,6 +119,19 @@ passed_raised counts at known k m rows is most a h = passed_note counts at m row
   | inl more ↦ acked_less m (get_or counts at 0) (drop at rows) (omega (arith, more, is, most)) (passed_at counts at rows h)
   | inr le ↦ acked_less m k (drop at rows) le a
 ]) h
+
+-- the count of the first row reaches the end, once it is gone over
+pub reaches_raised : (counts : List ℕ) (from at to known m : ℕ) → from ≤ at → at < length counts → m ≡ max known (to - at) → (from < at → to - from ≤ get_or counts from 0) → to - from ≤ get_or (set counts at m) from 0
+reaches_raised counts from at to known m le lt most h = elim (cases_lt from at) [
+  | inl before ↦ let e = get_or-set_other counts at from m 0 (λ q. absurd (omega (arith, before, q))) in let k = h before in omega (arith, e, k)
+  | inr after ↦ let e = get_or-set_at counts at from m 0 (omega (arith, le, after)) lt in omega (arith, e, most, le, after)
+]
+
+pub reaches_end : (counts : List ℕ) (from at to : ℕ) → from ≤ at → to ≤ at → (from < at → to - from ≤ get_or counts from 0) → to - from ≤ get_or counts from 0
+reaches_end counts from at to le end h = elim (cases_lt from at) [
+  | inl before ↦ h before
+  | inr after ↦ omega (arith, end, after)
+]
 
 -- ---- rows that are acknowledged
 

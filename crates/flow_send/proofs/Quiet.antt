@@ -55,7 +55,7 @@ pub not_before_lower : (low high : ℕ) (deadline : Option ℕ) → low ≤ high
 not_before_lower low high None le h = tt
 not_before_lower low high (Some deadline) le h = omega (arith, le, h)
 
-none_before_lower : (low high : ℕ) (ws : List Waiting) → low ≤ high → NoneBefore high ws → NoneBefore low ws
+pub none_before_lower : (low high : ℕ) (ws : List Waiting) → low ≤ high → NoneBefore high ws → NoneBefore low ws
 none_before_lower low high [] le h = tt
 none_before_lower low high (w ∷ later) le h = (not_before_lower low high w.options.deadline le h.0, none_before_lower low high later le h.1)
 

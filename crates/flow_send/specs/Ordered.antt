@@ -1,6 +1,6 @@
 -- The sendings of a flow in their order, among which are those of all numbers in flight.
 use Rattle.std.specs.Prelude.{ℕ, ◌≡◌, ◌+◌, ◌<◌, ◌≤◌, ◌==◌, nat_lt, if◌then◌else◌, Bool, true, ◌&&◌, List}
-use Rattle.std.specs.Prelude.{[], ◌∷◌, ◌++◌}
+use Rattle.std.specs.Prelude.{[], ◌∷◌, ◌++◌, ◌⊎◌}
 use Rattle.rtmfp_data_chunks.specs.HandsOver.{IsIn}
 use Rattle.flow_send.specs.Rows.{Row, is_flying}
 use Rattle.flow_send.specs.Sender.{is_late, lost_if_late}
@@ -49,6 +49,17 @@ abbrev pub AllOther : ℕ × ℕ × ℕ → ℕ → List Row → Type 0
 AllOther e n [] = Unit {0}
 AllOther e n (r ∷ rows) = (is_flying r.state ≡ true → (r.ordinal, n, r.moment) ≡ e → ⊥) ×
     AllOther e (n + 1) rows
+
+-- a number is in flight since the sending with this ordinal
+abbrev pub IsLast : ℕ → ℕ → ℕ → List Row → Type 0
+IsLast sent number n [] = ⊥
+IsLast sent number n (r ∷ rows) = (number ≡ n) × (is_flying r.state ≡ true) × (r.ordinal ≡ sent)
+    ⊎ IsLast sent number (n + 1) rows
+
+-- the oldest sending, if there is one, is such a sending of its number
+abbrev pub IsPruned : List (ℕ × ℕ × ℕ) → ℕ → List Row → Type 0
+IsPruned [] n rows = Unit {0}
+IsPruned (e ∷ later) n rows = IsLast e.0 e.1 n rows
 
 pub record IsComplete (queue : List (ℕ × ℕ × ℕ)) (n : ℕ) (rows : List Row) : Type 0 where
   pub rising : Rising queue

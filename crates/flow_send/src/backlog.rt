@@ -6,7 +6,7 @@ ghost use Rattle.std.specs.List.{sum_by, filter};
 ghost use Rattle.std.specs.Option.{is_some};
 ghost use Rattle.flow_send.specs.Sender.{message_at, without_message, first_number, first_overdue};
 ghost use Rattle.flow_send.specs.Acks.{still_waits};
-ghost use Rattle.flow_send.specs.Deadlines.{IsNotBefore, NoneLimited, Unspent, Reach};
+ghost use Rattle.flow_send.specs.Deadlines.{IsNotBefore, NoneBefore, NoneLimited, Unspent, Reach};
 ghost use Rattle.flow_send.specs.Marks.{Covers, Grows, Noted, NoneSpentBefore, NoneSpentBeside};
 ghost use Rattle.flow_send.specs.Steady.{Line};
 ghost use Rattle.flow_send.specs.Messages.{InLine, OthersWait, keeps, keeps_at};
@@ -251,7 +251,10 @@ impl Backlog {
     }
 
     /// Whether a deadline may be before a moment.
-    pub fn is_past(&self, moment: u64) -> bool {
+    pub fn is_past(&self, moment: u64) -> bool
+        ensures none { result ≡ false → NoneBefore moment self.now }
+        ensures start { result ≡ true → 0 < moment }
+    {
         moment > self.soonest
     }
 

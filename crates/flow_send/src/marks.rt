@@ -167,7 +167,9 @@ impl Marks {
     }
 
     /// All blocks are no longer marked at once.
-    pub fn forget_all(&mut self) {
+    pub fn forget_all(&mut self)
+        ensures { self.new ≡ record self.old { all = false } }
+    {
         self.all = false;
     }
 }

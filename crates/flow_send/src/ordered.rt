@@ -3,11 +3,11 @@
 ghost use Rattle.std.specs.Prelude.{ℕ, ◌≡◌, ◌+◌, ◌<◌, ◌≤◌, [], length, true, false, OnOk};
 ghost use Rattle.std.specs.Prelude.{map, slice_get};
 ghost use Rattle.std.specs.List.{list_any};
-ghost use Rattle.flow_send.specs.Rows.{map_rows, between, any_between, any_row};
+ghost use Rattle.flow_send.specs.Rows.{map_rows, between, any_between, any_row, any_flying};
 ghost use Rattle.flow_send.specs.Sender.{is_late, lost_if_late};
 ghost use Rattle.flow_send.specs.Acks.{count_ack, is_third};
 ghost use Rattle.flow_send.specs.Ordered.{EndsBefore, IsComplete, Follows, IsAdded, count_one};
-ghost use Rattle.flow_send.specs.Ordered.{AllOther, EndsBy, lose_one, is_late_one};
+ghost use Rattle.flow_send.specs.Ordered.{AllOther, IsLast, IsPruned, EndsBy, lose_one, is_late_one};
 ghost use Rattle.flow_send.specs.Messages.{InLine};
 ghost use Rattle.flow_send.specs.Marks.{AllRows, Grows, Noted, WillCover, is_losing};
 
@@ -198,7 +198,8 @@ impl Sendings {
 
     /// Begins anew, as if nothing had been sent.
     fn begin_anew(&mut self)
-        ensures { self.new.queue ≡ [] }
+        ensures queue { self.new.queue ≡ [] }
+        ensures whole { self.new.whole ≡ true }
     {
         self.queue.clear();
         self.whole = true;
@@ -207,8 +208,11 @@ impl Sendings {
     /// Takes away the oldest ones of numbers that aren't in flight since. Where no number is in
     /// flight none is needed, and none is left out any more.
     pub fn prune(&mut self, rows: &Rows, forward: u64)
-        ensures { Follows self.old (forward + 1) rows.now.rows →
+        ensures follows { Follows self.old (forward + 1) rows.now.rows →
             Follows self.new (forward + 1) rows.now.rows }
+        ensures front { IsPruned self.new.queue (forward + 1) rows.now.rows }
+        ensures anew { any_flying rows.now.rows ≡ false →
+            (self.new.queue ≡ []) × (self.new.whole ≡ true) }
     {
         if !rows.any_flying() {
             self.begin_anew();
@@ -304,8 +308,9 @@ fn mark_number(
 
 /// Whether a number is in flight since this sending.
 fn is_last(rows: &Rows, forward: u64, sent: u64, number: u64) -> bool
-    ensures { result ≡ false → (moment : ℕ) →
+    ensures other { result ≡ false → (moment : ℕ) →
         AllOther (sent, number, moment) (forward + 1) rows.now.rows }
+    ensures last { result ≡ true → IsLast sent number (forward + 1) rows.now.rows }
 {
     if number <= forward {
         return false;

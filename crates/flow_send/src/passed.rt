@@ -1,7 +1,7 @@
 //! Which rows are known to be acknowledged, so that an ack goes over what was told before in few
 //! steps.
 
-ghost use Rattle.std.specs.Prelude.{◌≡◌, ◌+◌, ◌-◌, ◌≤◌, [], List, OnOk, drop};
+ghost use Rattle.std.specs.Prelude.{◌≡◌, ◌+◌, ◌-◌, ◌<◌, ◌≤◌, [], List, OnOk, drop, get_or, length};
 ghost use Rattle.flow_send.specs.Rows.{Row};
 ghost use Rattle.flow_send.specs.Passed.{AllAcked, ArePassed};
 
@@ -78,6 +78,8 @@ impl Passed {
     pub fn note(&mut self, from: usize, to: usize)
         ensures counts { (rows : List Row) → AllAcked (to - from) (drop from rows) →
             ArePassed self.old.counts rows → ArePassed self.new.counts rows }
+        ensures reaches { from < length self.old.counts →
+            to - from ≤ get_or self.new.counts from 0 }
         ensures room { self.new.room ≡ self.old.room }
     {
         let mut at = from;

@@ -41,6 +41,6 @@ invariant_of-self c =
       subst Steady (sym is) (steady_abandoned s c.args.seq (Some w) e steady),
       c.self.invariant.1,
       λ none. let a = c.self.invariant.2 none in omega (arith, a, c.give_up.ensures.room, c.settle.ensures.room),
-      c.prune.ensures (given i.sendings w i.forward c.settle.result i.rows.rows c.give_up.new.rows.rows c.settle.new.self.rows give c.settle.ensures.count c.settle.ensures.rows c.self.invariant.3),
+      c.prune.ensures.follows (given i.sendings w i.forward c.settle.result i.rows.rows c.give_up.new.rows.rows c.settle.new.self.rows give c.settle.ensures.count c.settle.ensures.rows c.self.invariant.3),
       given_marks i.marks i.waiting c.remove.new.self c.args.seq w i.forward c.settle.result i.rows.rows c.give_up.new.rows.rows c.settle.new.self.rows c.remove.ensures give c.settle.ensures.count c.settle.ensures.rows c.self.invariant.4,
     )

@@ -116,7 +116,7 @@ invariant_of-self c =
       c.self.invariant.1,
       λ none. let r = c.self.invariant.2 none in omega (arith, r, c.acknowledge-ordinal.ensures.room, c.count_acks-lost.ensures.room, ap (λ (q : Roomy). q.room) c.drop_done.ensures.same, c.settle.ensures.room),
       settled_on c.prune.new.self i.forward c.settle.result c.count_acks-lost.new.rows.rows c.settle.new.self.rows count left
-          (c.prune.ensures (told_on i.sendings a (last_ordinal a (s.forward + 1) s.rows) (i.forward + 1) i.rows.rows c.count_acks-lost.new.rows.rows rows c.self.invariant.3)),
+          (c.prune.ensures.follows (told_on i.sendings a (last_ordinal a (s.forward + 1) s.rows) (i.forward + 1) i.rows.rows c.count_acks-lost.new.rows.rows rows c.self.invariant.3)),
       told_marks c.mark.new.marks i.waiting c.drop_done.new.self (still_waits (i.forward + 1) c.count_acks-lost.new.rows.rows) i.forward c.settle.result c.count_acks-lost.new.rows.rows c.settle.new.self.rows c.drop_done.ensures.left count left
           (counted_marks i.marks c.mark.new.marks i.waiting c.acknowledge-ordinal.result (i.forward + 1) c.acknowledge-ordinal.new.rows.rows c.count_acks-lost.new.rows.rows
           (rows ∙ (ap (λ o. map (count_ack o) (rows_acknowledged a s)) (sym c.acknowledge-ordinal.ensures.ordinal) ∙ ap (λ (xs : List Row). map (count_ack c.acknowledge-ordinal.result) xs) (sym e)))
