@@ -170,16 +170,16 @@ uncalled_extends A s t near call refusal before after is did =
     (subst (λ (x : State). Answers x (OnFlows near call) (Refused refusal) entries t) (sym (at_zero s)) (is, alone (nothing s) t before after did))
 
 tick_steps : (s t : State) (moment : ℕ) (draws : Draws) (r : Result (Unit {0}) Memory) (before after : Added) →
-    (count : ℕ) × Done (ticks count (all_late (at_moment s moment))) t before after → OnOk r (first_due t ≡ None) →
+    (count : ℕ) × Done (ticks count (all_late (at_moment s moment))) t before after → OnOk r (first_due t ≡ None) → OnErr r (IsSome (first_due t)) →
     Step s (tick_event moment draws r before.entries after.entries) t
-tick_steps s t moment draws (Ok done) before after some all = ((some.0, alone (ticks some.0 (all_late (at_moment s moment))) t before after some.1), all)
-tick_steps s t moment draws (Err memory) before after some all = (some.0, alone (ticks some.0 (all_late (at_moment s moment))) t before after some.1)
+tick_steps s t moment draws (Ok done) before after some all left = ((some.0, alone (ticks some.0 (all_late (at_moment s moment))) t before after some.1), all)
+tick_steps s t moment draws (Err memory) before after some all left = ((some.0, alone (ticks some.0 (all_late (at_moment s moment))) t before after some.1), left)
 
 pub tick_extends : (s t : State) (moment : ℕ) (draws : Draws) (r : Result (Unit {0}) Memory) (before after : Added) →
-    (count : ℕ) × Done (ticks count (all_late (at_moment s moment))) t before after → OnOk r (first_due t ≡ None) →
+    (count : ℕ) × Done (ticks count (all_late (at_moment s moment))) t before after → OnOk r (first_due t ≡ None) → OnErr r (IsSome (first_due t)) →
     Extends s t (tick_event moment draws r before.entries after.entries)
-tick_extends s t moment draws r before after some all =
-    extends s t (tick_event moment draws r before.entries after.entries) (tick_steps s t moment draws r before after some all)
+tick_extends s t moment draws r before after some all left =
+    extends s t (tick_event moment draws r before.entries after.entries) (tick_steps s t moment draws r before after some all left)
 
 receive_steps : (s t : State) (moment : ℕ) (from : AddressParts) (datagram : List ℕ) (draws : Draws) (r : Result (Unit {0}) Stop) (before after : Added) →
     OnOk r (Done (received from draws (admission (at_moment s moment) datagram)) t before after) →

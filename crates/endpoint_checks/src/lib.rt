@@ -13,7 +13,7 @@ ghost use Rattle.endpoint_checks.specs.Opens.{TheTableRefusesAnswers, TheTableRe
 ghost use Rattle.endpoint_checks.specs.Sends.{TheTableRefusesAnswersSent, TheTableRefusesKeyingsSent, TheTableRefusesNumbers, TheTableRefusesSends, TheTableRefusesSendsInSessions};
 ghost use Rattle.endpoint_checks.specs.SessionEnds.{TheTableRefusesFars, TheTableRefusesIdles, TheTableRefusesNears, TheTableRefusesUnconfirmed};
 ghost use Rattle.endpoint_checks.specs.Starts.{TheTableRefusesStarts};
-ghost use Rattle.endpoint_checks.specs.Stops.{StopsAreInOrder};
+ghost use Rattle.endpoint_checks.specs.Stops.{NoIdleTickStops, NoneStopsBefore, StopsAreInOrder, StopsTellTheirChunks};
 
 /// Attempts that start without an open towards their peer, with another nonce, another number, or a
 /// session ID that is 0 or in use.
@@ -143,7 +143,16 @@ pub fn disagreed()
 {}
 
 /// Where a datagram that finds no memory can stop: acks behind a chunk that found none, and more
-/// chunks than there are, aren't among it.
+/// chunks than there are, aren't among it. One that opens and confirms no session doesn't stop
+/// before it was taken, and a tick with nothing due doesn't stop.
 pub fn stops()
-    ensures { StopsAreInOrder }
+    ensures datagrams { StopsAreInOrder }
+    ensures before { NoneStopsBefore }
+    ensures ticks { NoIdleTickStops }
+{}
+
+/// What a stop of a datagram tells: how many of its chunks were gone through. Just these were, and
+/// none of one that wasn't taken.
+pub fn stops_tell()
+    ensures { StopsTellTheirChunks }
 {}

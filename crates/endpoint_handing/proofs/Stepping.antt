@@ -69,5 +69,5 @@ module _ (e : End) (owed : (A : Type 0) → FlowsHand (with_begins e A)) (facts 
     answers_hand (Receive from datagram draws) (Stopped stop) given is =
         by_did (stopped s from draws (admission s datagram) stop is.acks) is.left new (hands_stopped e owed from draws facts s datagram h given.1 given.0 stands stop is.acks)
     answers_hand (Tick draws) Done given is = by_did (ticks is.0.0 (all_late s)) is.0.1 new (tick_all_made (timed_does it (owed (Unit {0}))) is.0.0 s facts h stands)
-    answers_hand (Tick draws) OutOfMemory given is = by_did (ticks is.0 (all_late s)) is.1 new (tick_all_made (timed_does it (owed (Unit {0}))) is.0 s facts h stands)
+    answers_hand (Tick draws) OutOfMemory given is = by_did (ticks is.0.0 (all_late s)) is.0.1 new (tick_all_made (timed_does it (owed (Unit {0}))) is.0.0 s facts h stands)
     answers_hand _ _ given is = absurd is

@@ -286,7 +286,7 @@ answers_draw s t (Receive from datagram draws) Done entries h = once_of draws.no
 answers_draw s t (Receive from datagram draws) (Stopped stop) entries h =
     once_of draws.nonce (stopped s from draws (admission s datagram) stop h.acks) t entries h.left (once_stopped s from draws (admission s datagram) stop h.acks)
 answers_draw s t (Tick draws) Done entries h = none_of (ticks h.0.0 (all_late s)) t entries h.0.1 (tick_all_made none_law.timed h.0.0 s)
-answers_draw s t (Tick draws) OutOfMemory entries h = none_of (ticks h.0 (all_late s)) t entries h.1 (tick_all_made none_law.timed h.0 s)
+answers_draw s t (Tick draws) OutOfMemory entries h = none_of (ticks h.0.0 (all_late s)) t entries h.0.1 (tick_all_made none_law.timed h.0.0 s)
 answers_draw s t call answer entries h = absurd h
 
 -- ---- the nonces of the facts of an event

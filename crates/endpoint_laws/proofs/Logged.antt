@@ -131,7 +131,7 @@ module _ (setup : Setup) (is : IsSetup setup) (past : Past) (s t : State) (tied 
     does = h.left;
   }
   answers_orderly (Tick draws) Done entries fits well h = record { did = ticks h.0.0 (all_late s); orderly = tick_all_orderly setup (Tick draws) is tt h.0.0 s past tied sent well; does = h.0.1 }
-  answers_orderly (Tick draws) OutOfMemory entries fits well h = record { did = ticks h.0 (all_late s); orderly = tick_all_orderly setup (Tick draws) is tt h.0 s past tied sent well; does = h.1 }
+  answers_orderly (Tick draws) OutOfMemory entries fits well h = record { did = ticks h.0.0 (all_late s); orderly = tick_all_orderly setup (Tick draws) is tt h.0.0 s past tied sent well; does = h.0.1 }
   answers_orderly _ _ entries fits well h = absurd h
 
 -- ---- logs

@@ -557,7 +557,7 @@ module _ {Body : List ℕ → Type 0} {Q P : State → Did → Type 0} (k : Time
   answers_by s t (Receive from datagram draws) Done entries h = answer_is s t entries _ (given.whole s from draws datagram) h
   answers_by s t (Receive from datagram draws) (Stopped stop) entries h = answer_is s t entries _ (given.part s from draws datagram stop h.acks) h.left
   answers_by s t (Tick draws) Done entries h = answer_is s t entries _ (b.quiet s _ (tick_all_made k h.0.0 s)) h.0.1
-  answers_by s t (Tick draws) OutOfMemory entries h = answer_is s t entries _ (b.quiet s _ (tick_all_made k h.0 s)) h.1
+  answers_by s t (Tick draws) OutOfMemory entries h = answer_is s t entries _ (b.quiet s _ (tick_all_made k h.0.0 s)) h.0.1
   answers_by s t call answer entries h = absurd h
 
 module _ {Body : List ℕ → Type 0} {Q P : State → Did → Type 0} (a : All Body Q) (b : Begins Q P) where

@@ -123,7 +123,7 @@ Answers s (Receive from datagram draws) Done entries t =
 Answers s (Receive from datagram draws) (Stopped stop) entries t =
     StopsSo (λ d. Does d t [] entries) s from draws (admission s datagram) stop
 Answers s (Tick draws) Done entries t = SomeTicks s t entries × (first_due t ≡ None)
-Answers s (Tick draws) OutOfMemory entries t = SomeTicks s t entries
+Answers s (Tick draws) OutOfMemory entries t = SomeTicks s t entries × IsSome (first_due t)
 Answers s call answer entries t = ⊥
 
 -- ---- logs

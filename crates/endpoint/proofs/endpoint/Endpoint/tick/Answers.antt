@@ -12,7 +12,7 @@ returns-clause-some c = subst (λ (s : State). SomeDone s c.do_due.new.end c.arg
 pub returns-clause-stands : goal.returns-clause-stands
 returns-clause-stands c =
     tick_extends c.args.self.now c.do_due.new.end c.args.moment c.args.draws.now c.do_due.result c.args.out.now c.do_due.new.out
-    (subst (λ (s : State). SomeDone s c.do_due.new.end c.args.out.now c.do_due.new.out) (c.lose_late.ensures ∙ ap (λ (s : State). all_late s) (c.advance.ensures ∙ ap (λ (s : State). at_moment s c.args.moment) c.self.view_is)) c.do_due.ensures.some) c.do_due.ensures.all
+    (subst (λ (s : State). SomeDone s c.do_due.new.end c.args.out.now c.do_due.new.out) (c.lose_late.ensures ∙ ap (λ (s : State). all_late s) (c.advance.ensures ∙ ap (λ (s : State). at_moment s c.args.moment) c.self.view_is)) c.do_due.ensures.some) c.do_due.ensures.all c.do_due.ensures.left
 
 -- so that a wrong body is refused fast
 pub returns-clause-left : goal.returns-clause-left
@@ -22,4 +22,4 @@ pub invariant_of-self : goal.invariant_of-self
 invariant_of-self c =
     reached_more c.self.inside.end c.do_due.new.end _ c.self.invariant
     (tick_extends c.self.inside.end c.do_due.new.end c.args.moment c.args.draws.now c.do_due.result c.args.out.now c.do_due.new.out
-    (subst (λ (s : State). SomeDone s c.do_due.new.end c.args.out.now c.do_due.new.out) (c.lose_late.ensures ∙ ap (λ (s : State). all_late s) c.advance.ensures) c.do_due.ensures.some) c.do_due.ensures.all) tt
+    (subst (λ (s : State). SomeDone s c.do_due.new.end c.args.out.now c.do_due.new.out) (c.lose_late.ensures ∙ ap (λ (s : State). all_late s) c.advance.ensures) c.do_due.ensures.some) c.do_due.ensures.all c.do_due.ensures.left) tt
