@@ -1,7 +1,10 @@
 //! What holds of all lines of scripts, and the values of the generated run a second time. The
 //! functions do nothing: the contract of each is its law.
-ghost use Rattle.std.specs.Prelude.{◌≡◌, ◌∷◌, [], false};
-ghost use Rattle.rtmfp_play.specs.Generated.{end_at, end_cert, end_count, end_name, end_address, number_after};
+ghost use Rattle.std.specs.Prelude.{◌≡◌, ◌∷◌, ◌+◌, [], false, Some, None};
+ghost use Rattle.rendezvous_world.specs.Seen.{Seen};
+ghost use Rattle.rendezvous_world.specs.declared.step.Step.TheVariants.{At, Cancel, Deliver, End, Open, Tick};
+ghost use Rattle.rtmfp_play.specs.Generated.{end_at, end_cert, end_count, end_name, end_address, end_step, number_after};
+ghost use Rattle.rtmfp_play.specs.Generated.{delivery, delivery_or_tick, generated_step, picked};
 ghost use Rattle.rtmfp_play.specs.Laws.{EachGeneratedRunIsOne, EachLineIsTold};
 
 /// A line of a script adds one line to the journal, of which it tells, or none, and then it tells
@@ -34,4 +37,23 @@ pub fn generated_values()
     ensures seed { number_after 0 7 ≡ 7 }
     ensures next { number_after 1 1 ≡ 7806831264735756412 }
     ensures after_zero { number_after 1 0 ≡ 1442695040888963407 }
+    ensures limits { end_step 7 ≡ End (end_name 7) 65536 4096 (end_cert 7) }
+{}
+
+/// Of 16 operations the first two open an attempt, one each does what is due, lets 500 ms pass and
+/// cancels, and the others deliver a datagram to the end that it was sent to, from the end that sent
+/// it; where none was sent, and where it is from a ninth end, what is due is done. A number's bits from 33 on are operation (4),
+/// end (3), other end (3) and how far back (4).
+pub fn generated_steps()
+    ensures first { (w : Seen) → picked w 0 3 5 9 ≡ Open 3 5 (end_address 5 ∷ []) }
+    ensures open { (w : Seen) → picked w 1 3 5 9 ≡ Open 3 5 (end_address 5 ∷ []) }
+    ensures tick { (w : Seen) → picked w 2 3 5 9 ≡ Tick 3 }
+    ensures pause { (w : Seen) → picked w 3 3 5 9 ≡ At (w.moment + 500) }
+    ensures cancel { (w : Seen) → picked w 4 3 5 9 ≡ Cancel 3 9 }
+    ensures parts { (w : Seen) → generated_step w 85117661872127 ≡ Cancel 3 9 }
+    ensures others { (w : Seen) → generated_step w 85074712199168 ≡ Open 3 5 (end_address 5 ∷ []) }
+    ensures none { delivery_or_tick [] 3 9 ≡ Tick 3 }
+    ensures delivered { delivery 3 17 (Some (7, end_address 2)) ≡ Deliver 17 2 (end_address 7) }
+    ensures stranger { delivery 3 17 (Some (8, end_address 2)) ≡ Tick 3 }
+    ensures unknown { delivery 3 17 None ≡ Tick 3 }
 {}

@@ -12,7 +12,7 @@ ghost use Rattle.flow_send.specs.Edges.{numbers, unsent, flying, three, with_blo
 ghost use Rattle.session_flows.specs.declared.taking.TakingFlow.{TakingFlow};
 ghost use Rattle.session_flows.specs.Keeping.{FlowsState, no_flows, in_taking, Opened, Queued};
 ghost use Rattle.session_flows.specs.Keeping.{Abandoned, Finished, Handed};
-ghost use Rattle.session_flows.specs.Calling.{open_refusal, opening, queue_refused, queueing};
+ghost use Rattle.session_flows.specs.Calling.{open_refusal, opening, queue_refusal_of, queue_refused, queueing};
 ghost use Rattle.session_flows.specs.Calling.{abandon_refused, abandoning, finish_refused};
 ghost use Rattle.session_flows.specs.Calling.{finishing};
 ghost use Rattle.rtmfp_data_chunks.specs.FlowOptions.{metadata_in, flow_named, names_known};
@@ -67,6 +67,19 @@ pub fn calls_on_a_flow()
     ensures again { finish_refused finished_flow 0 ≡ Some CallRefusal.Finished }
     ensures no_message { queue_refused finished_flow 0 0
         ≡ Some (CallRefusal.Queue QueueRefusal.Finished) }
+{}
+
+/// A queue that is refused tells the flow's own refusal with its value, and want of memory as such.
+pub fn refusals_of_a_queue()
+    ensures memory { queue_refusal_of QueueRefusal.Memory ≡ CallRefusal.Memory }
+    ensures finished { queue_refusal_of QueueRefusal.Finished
+        ≡ CallRefusal.Queue QueueRefusal.Finished }
+    ensures spent { queue_refusal_of QueueRefusal.SequenceSpent
+        ≡ CallRefusal.Queue QueueRefusal.SequenceSpent }
+    ensures long { queue_refusal_of (QueueRefusal.TooLong 7)
+        ≡ CallRefusal.Queue (QueueRefusal.TooLong 7) }
+    ensures backlog { queue_refusal_of (QueueRefusal.Backlog 7)
+        ≡ CallRefusal.Queue (QueueRefusal.Backlog 7) }
 {}
 
 /// The first metadata count, and an `a` at their beginning. An association names a flow by one
