@@ -4,6 +4,8 @@ pub mod Openings
 pub mod Calling
 pub mod Called
 pub mod Sends
+pub mod Ordering
 pub mod Turning
 pub mod Running
+pub mod Taken
 pub mod Certified

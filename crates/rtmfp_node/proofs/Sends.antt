@@ -1,5 +1,5 @@
 -- Sends and their lines, one after another.
-use Rattle.std.proofs.Common.{◌≡◌, ◌≢◌, inl, inr, ℕ, ◌+◌, ◌<◌, suc, Bool, true, false, List, [], ◌∷◌, ◌++◌, take, drop, length, refl, sym, ap, ◌∙◌, append_assoc, append-nil, subst, Option, Some, None, get_or, add-one, arith}
+use Rattle.std.proofs.Common.{◌≡◌, ◌≢◌, inl, inr, ℕ, ◌+◌, ◌<◌, suc, Bool, true, false, List, [], ◌∷◌, ◌++◌, take, drop, length, refl, sym, ap, ◌∙◌, append_assoc, append-nil, length-append, subst, Option, Some, None, get_or, add-one, arith}
 use Rattle.std.proofs.Math.Seq.{take-suc}
 use Rattle.std.proofs.lemmas.List.{take-append-drop}
 use Rattle.crypto_profile.specs.declared.keys.Context.{Context}
@@ -20,6 +20,7 @@ use Rattle.rtmfp_node.specs.Outside.{Counted, Outside, PassesOn, Stays}
 use Rattle.rtmfp_node.specs.Report.{unsent_line, unsent_text}
 use Rattle.rtmfp_node.proofs.Acts.{sent_after_more}
 use Rattle.rtmfp_node.specs.Turn.{AreSends, outs_by, outs_in}
+use Rattle.rtmfp_node.specs.Cut.{LinesSoFar}
 use Rattle.rtmfp_node.specs.Acting.{CallsAll, CountedAt, EmitEnds, EmittedSome, LostEnds, PassOn, PassedAt, SendEnds, SentAll, SentSome}
 
 -- ---- texts
@@ -138,11 +139,28 @@ sent_more turn count es fs l m n t u v p q = record {
       (appends_more t u v (unsent_text turn count p.sends) (unsent_text turn (sent_after count es) q.sends) p.text q.text);
 }
 
+-- the lines so far, behind those of sends that were made before
+lines_more : (turn count : ℕ) (es : List Entry) (xs ys : List LinkCall) (lines : List ℕ) → AreSends (outs_in es) xs → LinesSoFar turn (sent_after count es) ys lines →
+    LinesSoFar turn count (xs ++ ys) (unsent_text turn count xs ++ lines)
+lines_more turn count es xs ys lines sent h =
+    let first = unsent_text turn count xs in
+    let second = unsent_text turn (sent_after count es) ys in
+    let earlier = unsent_text turn (sent_after count es) h.earlier in
+    let sum : length (unsent_text turn count (xs ++ h.earlier)) ≡ length first + length earlier = ap length (unsent_then es turn count xs h.earlier sent) ∙ length-append first earlier in
+    let whole = h.whole in record {
+      earlier = xs ++ h.earlier;
+      last = h.last;
+      all = ap (λ zs. xs ++ zs) h.all ∙ sym (append_assoc xs h.earlier h.last);
+      one = h.one;
+      k = length first + h.k;
+      part = ap (λ zs. first ++ zs) h.part ∙ sym (take_behind first second h.k) ∙ ap (take (length first + h.k)) (sym (unsent_then es turn count xs ys sent));
+      whole = omega (arith, sum, whole);
+    }
+
 some_more : (turn count : ℕ) (es fs : List Entry) (l m n : Option Line) (t u v : Option (List ℕ)) → SentAll turn count es l m t u → SentSome turn (sent_after count es) fs m n u v →
     SentSome turn count (es ++ fs) l n t v
 some_more turn count es fs l m n t u v p q =
-    let first = unsent_text turn count p.sends in
-    let second = unsent_text turn (sent_after count es) q.sends in record {
+    let first = unsent_text turn count p.sends in record {
       sends = p.sends ++ q.sends;
       sent = (
         outs_in es ++ q.sent.0,
@@ -151,11 +169,9 @@ some_more turn count es fs l m n t u v p q =
         are_sends_more (outs_in es) q.sent.0 p.sends q.sends p.sent q.sent.3,
       );
       calls = calls_more l m n p.sends q.sends p.calls q.calls;
-      k = length first + q.k;
-      text =
-          appends_as t v (first ++ take q.k second) (take (length first + q.k) (unsent_text turn count (p.sends ++ q.sends)))
-          (sym (take_behind first second q.k) ∙ ap (take (length first + q.k)) (sym (unsent_then es turn count p.sends q.sends p.sent)))
-          (appends_more t u v first (take q.k second) p.text q.text);
+      lines = first ++ q.lines;
+      so_far = lines_more turn count es p.sends q.sends q.lines p.sent q.so_far;
+      text = appends_more t u v first q.lines p.text q.text;
     }
 
 some_wider : (turn count : ℕ) (es fs : List Entry) (l m : Option Line) (t u : Option (List ℕ)) → SentSome turn count es l m t u → SentSome turn count (es ++ fs) l m t u
@@ -168,7 +184,8 @@ some_wider turn count es fs l m t u p = record {
     p.sent.3,
   );
   calls = p.calls;
-  k = p.k;
+  lines = p.lines;
+  so_far = p.so_far;
   text = p.text;
 }
 
@@ -247,7 +264,8 @@ send_some turn count to datagram context done l m t u k called wrote = record {
   sends = Send to datagram done ∷ [];
   sent = (outs_in (Out to datagram context ∷ []), [], refl, (done, [], refl, refl));
   calls = calls_one l m (Send to datagram done) called;
-  k = k;
+  lines = take k (unsent_text turn count (Send to datagram done ∷ []));
+  so_far = record { earlier = []; last = Send to datagram done ∷ []; all = refl; one = omega arith; k = k; part = refl; whole = omega arith };
   text = wrote;
 }
 
@@ -273,6 +291,17 @@ report_cut turn count report es l t u k wrote = record {
   text = wrote;
 }
 
+all_lines : (turn count : ℕ) (sends : List LinkCall) → LinesSoFar turn count sends (unsent_text turn count sends)
+all_lines turn count sends = record {
+  earlier = sends;
+  last = [];
+  all = sym (append-nil sends);
+  one = omega arith;
+  k = length (unsent_text turn count sends);
+  part = sym (take_all (unsent_text turn count sends));
+  whole = omega arith;
+}
+
 all_but_passed : (turn count : ℕ) (report : List ℕ) (es : List Entry) (l m : Option Line) (t u v w : Option (List ℕ)) → Appends t u report → SentAll turn count es l m u v → Appends v w [] →
     EmittedSome turn count report es l m t w
 all_but_passed turn count report es l m t u v w wrote all still =
@@ -280,23 +309,21 @@ all_but_passed turn count report es l m t u v w wrote all still =
       sends = all.sends;
       sent = (outs_in es, [], sym (append-nil (outs_in es)), all.sent);
       calls = all.calls;
-      part = report ++ take (length lines) lines;
-      is_part = inr (length lines, refl);
-      text =
-          appends_as t w (report ++ lines) (report ++ take (length lines) lines) (ap (λ xs. report ++ xs) (sym (take_all lines)))
-          (appends_still t v w (report ++ lines) (appends_more t u v report lines wrote all.text) still);
+      part = report ++ lines;
+      is_part = inr (lines, all_lines turn count all.sends, refl);
+      text = appends_still t v w (report ++ lines) (appends_more t u v report lines wrote all.text) still;
     }
 
 some_passed : (turn count : ℕ) (report : List ℕ) (es : List Entry) (l m : Option Line) (t u v w : Option (List ℕ)) → Appends t u report → SentSome turn count es l m u v → Appends v w [] →
     EmittedSome turn count report es l m t w
 some_passed turn count report es l m t u v w wrote some still =
-    let lines = take some.k (unsent_text turn count some.sends) in record {
+    record {
       sends = some.sends;
       sent = some.sent;
       calls = some.calls;
-      part = report ++ lines;
-      is_part = inr (some.k, refl);
-      text = appends_still t v w (report ++ lines) (appends_more t u v report lines wrote some.text) still;
+      part = report ++ some.lines;
+      is_part = inr (some.lines, some.so_far, refl);
+      text = appends_still t v w (report ++ some.lines) (appends_more t u v report some.lines wrote some.text) still;
     }
 
 as_served : (served : Served) (turn count : ℕ) (report : List ℕ) (es : List Entry) (l m : Option Line) (t u v w : Option (List ℕ)) → Appends t u report → SendEnds served turn count es l m u v → Appends v w [] →

@@ -140,25 +140,28 @@ calls_back b None calls now h e = absurd (cc)
 calls_back None (Some x) calls now h e = absurd h
 calls_back (Some was) (Some x) calls now h e = let same : x ≡ now = cc (e) in (was, refl, sym same ∙ h)
 
-appends_back : (b c : Option (List ℕ)) (text now : List ℕ) → Appends b c text → c ≡ Some now → (was : List ℕ) × (b ≡ Some was) × (now ≡ was ++ text)
-appends_back b None text now h e = absurd (cc)
-appends_back None (Some x) text now h e = absurd h
-appends_back (Some was) (Some x) text now h e = let same : x ≡ now = cc (e) in (was, refl, sym same ∙ h)
-
-abbrev pub emitted : List LinkCall → List ℕ → Told → Told
-emitted calls text x = record { line = record { left = x.line.left; calls = x.line.calls ++ calls }; clock = x.clock; blocks = x.blocks; text = x.text ++ text }
+-- what is sent and written: these calls of the link, and this text
+pub record Emitted (more : List LinkCall) (written : List ℕ) (x y : Told) : Type 0 where
+  pub left : y.line.left ≡ x.line.left
+  pub calls : y.line.calls ≡ x.line.calls ++ more
+  pub clock : y.clock ≡ x.clock
+  pub blocks : y.blocks ≡ x.blocks
+  pub text : Appends x.text y.text written
 
 pub by_emit : (calls : List LinkCall) (text : List ℕ) (l m : LinkSeen) (c : Option Clock) (b : EntropySeen) (t u : SinkSeen) → CallsAll l.line m.line calls → Appends t.written u.written text →
-    By (emitted calls text) (λ x. Unit {0}) (outside l c b t) (outside m c b u)
+    Leaves (Emitted calls text) (outside l c b t) (outside m c b u)
 by_emit calls text l m c b t u called wrote = record {
-  trace = λ now tells.
-      let p = calls_back l.line m.line calls now.line called tells.line in
-      let q = appends_back t.written u.written text now.text wrote tells.text in (
-        record { line = p.0; clock = now.clock; blocks = now.blocks; text = q.0 },
-        record { line = p.1; clock = tells.clock; blocks = tells.blocks; text = q.1 },
-        ap (λ (k : Line). record { line = k; clock = now.clock; blocks = now.blocks; text = now.text }) p.2
-            ∙ ap (λ (k : List ℕ). record { line = record { left = p.0.left; calls = p.0.calls ++ calls }; clock = now.clock; blocks = now.blocks; text = k }) q.2,
-        tt,
+  back = λ now tells.
+      let p = calls_back l.line m.line calls now.line called tells.line in (
+        record { line = p.0; clock = now.clock; blocks = now.blocks; text = t.written },
+        record { line = p.1; clock = tells.clock; blocks = tells.blocks; text = refl },
+        record {
+          left = ap (λ (k : Line). k.left) p.2;
+          calls = ap (λ (k : Line). k.calls) p.2;
+          clock = refl;
+          blocks = refl;
+          text = subst (λ o. Appends t.written o text) tells.text wrote;
+        },
       );
 }
 

@@ -22,7 +22,8 @@ use Rattle.rtmfp_node.specs.Turn.{AreSends, after_draws, after_wait, outs_in, un
 use Rattle.rtmfp_node.specs.Cut.{AreFirstSends, Broken, BrokenAtZero, IsPart, after_fault}
 use Rattle.rtmfp_node.specs.Acting.{Acted, ActedOn, Acts, Drew, DrewSome, EmitEnds, EmittedAll, EmittedSome, Noted, OpensAll, OpensEnd, TurnDone, TurnEnds, ZeroDone, ZeroEnds}
 use Rattle.rtmfp_node.proofs.Openings.{by_opens}
-use Rattle.rtmfp_node.proofs.Told.{By, by_draw, by_drew, by_emit, by_heard, by_leaves, by_moment, by_receive, by_then, emitted, leaves_map}
+use Rattle.rtmfp_node.proofs.Sends.{appends_as}
+use Rattle.rtmfp_node.proofs.Told.{Emitted, by_after, by_draw, by_drew, by_emit, by_heard, by_leaves, by_moment, by_receive, by_then, leaves_map}
 
 -- ---- what was noted
 
@@ -43,14 +44,6 @@ secret_is secret turn count s t m n log is acts = ap (λ (k : Noted). k.secret) 
 
 -- ---- the calls of the outside in a turn
 
-abbrev turned_by : ℕ → List LinkCall → List ℕ → Told → Told
-turned_by first sends text x = record {
-  line = record { left = drop 1 x.line.left; calls = (x.line.calls ++ Receive (until_of first) ∷ []) ++ sends };
-  clock = after_moment (after_moment x.clock);
-  blocks = drop 1 x.blocks;
-  text = x.text ++ text;
-}
-
 record Asked (block : List ℕ) (first : ℕ) (given : Given) (moment : ℕ) (x : Told) : Type 0 where
   block_is : block ≡ next_block x.blocks
   first_is : first ≡ next_moment x.clock
@@ -64,19 +57,28 @@ events_as message block first moment given x log asked events =
     (subst (λ k. AreTurnEvents message given k (draws_of (next_block x.blocks)) log) asked.moment_is
     (subst (λ k. AreTurnEvents message given moment (draws_of k) log) asked.block_is events))
 
+abbrev waited_from : ℕ → Told → Told
+waited_from first x = record {
+  line = record { left = drop 1 x.line.left; calls = x.line.calls ++ Receive (until_of first) ∷ [] };
+  clock = after_moment (after_moment x.clock);
+  blocks = drop 1 x.blocks;
+  text = x.text;
+}
+
 module _ (v : Serving) (turn count : ℕ) (block : List ℕ) (first moment : ℕ) (given : Given) (s t : State) (entries : List Entry) (m n : Noted)
     (l l1 l2 : LinkSeen) (c c1 c2 : Option Clock) (b b1 : EntropySeen) (k k1 : SinkSeen)
     (drew : Drew b.blocks b1.blocks block) (ticks : Ticks c c1 first) (receives : Receives l.line l1.line (until_of first) (Some given)) (again : Ticks c1 c2 moment)
     (acted : Acted v.send given moment (draws_of block) turn s t entries m n) (is : m ≡ record { secret = v.group; count = count; text = [] }) where
-  chain : (sends : List LinkCall) (text : List ℕ) → By (emitted sends text) (λ x. Unit {0}) (outside l1 c2 b1 k) (outside l2 c2 b1 k1) →
-      Leaves (λ x y. Asked block first given moment x × (y ≡ turned_by first sends text x)) (outside l c b k) (outside l2 c2 b1 k1)
+  chain : (sends : List LinkCall) (text : List ℕ) → Leaves (Emitted sends text) (outside l1 c2 b1 k) (outside l2 c2 b1 k1) →
+      Leaves (λ x y. Asked block first given moment x × Emitted sends text (waited_from first x) y) (outside l c b k) (outside l2 c2 b1 k1)
   chain sends text last =
-      by_leaves (λ x y. Asked block first given moment x × (y ≡ turned_by first sends text x))
+      leaves_map
+      (by_after
       (by_then (by_draw block l c b b1 k drew)
       (by_then (by_moment first l c c1 b1 k ticks)
-      (by_then (by_receive given (until_of first) l l1 c1 b1 k receives)
-      (by_then (by_moment moment l1 c1 c2 b1 k again) last))))
-      (λ x f. (record { block_is = f.0; first_is = f.1.0; given_is = f.1.1.0; moment_is = f.1.1.1.0 }, refl))
+      (by_then (by_receive given (until_of first) l l1 c1 b1 k receives) (by_moment moment l1 c1 c2 b1 k again))))
+      last)
+      (λ x y f. (record { block_is = f.0.0; first_is = f.0.1.0; given_is = f.0.1.1.0; moment_is = f.0.1.1.1 }, f.1))
 
   calls_are : (sends : List LinkCall) (x : Told) → Asked block first given moment x →
       ((x.line.calls ++ Receive (until_of first) ∷ []) ++ sends) ≡ x.line.calls ++ (Receive (until_of (next_moment x.clock)) ∷ sends)
@@ -96,14 +98,13 @@ module _ (v : Serving) (turn count : ℕ) (block : List ℕ) (first moment : ℕ
           events = events_as v.send block first moment given x acted.log f.0 acted.events;
           sends = all.sends;
           sent = subst (λ es. AreSends (outs_in es) all.sends) acted.whole all.sent;
-          left = ap (λ (z : Told). z.line.left) f.1;
-          calls = ap (λ (z : Told). z.line.calls) f.1 ∙ calls_are all.sends x f.0;
-          clock = ap (λ (z : Told). z.clock) f.1;
-          blocks = ap (λ (z : Told). z.blocks) f.1;
+          left = f.1.left;
+          calls = f.1.calls ∙ calls_are all.sends x f.0;
+          clock = f.1.clock;
+          blocks = f.1.blocks;
           text =
-              ap (λ (z : Told). z.text) f.1
-              ∙ sym (append_assoc x.text n.text (unsent_text turn count all.sends))
-              ∙ ap (λ xs. (x.text ++ xs) ++ unsent_text turn count all.sends) (text_is v.group turn count s t m n acted.log is acted.acts);
+              appends_as x.text y.text (n.text ++ unsent_text turn count all.sends) (events_text v.group turn count acted.log ++ unsent_text turn count all.sends)
+              (ap (λ xs. xs ++ unsent_text turn count all.sends) (text_is v.group turn count s t m n acted.log is acted.acts)) f.1.text;
         });
   }
 
@@ -118,15 +119,13 @@ module _ (v : Serving) (turn count : ℕ) (block : List ℕ) (first moment : ℕ
         breaks = record {
           sends = some.sends;
           sent = subst (λ es. AreFirstSends (outs_in es) some.sends) acted.whole some.sent;
-          left = ap (λ (z : Told). z.line.left) f.1;
-          calls =
-              ap (λ (z : Told). z.line.calls) f.1
-              ∙ ap (λ j. (x.line.calls ++ Receive (until_of j) ∷ []) ++ some.sends) f.0.first_is;
-          clock = ap (λ (z : Told). z.clock) f.1;
-          blocks = ap (λ (z : Told). z.blocks) f.1;
+          left = f.1.left;
+          calls = f.1.calls ∙ ap (λ j. (x.line.calls ++ Receive (until_of j) ∷ []) ++ some.sends) f.0.first_is;
+          clock = f.1.clock;
+          blocks = f.1.blocks;
           part = some.part;
-          text = ap (λ (z : Told). z.text) f.1;
-          is_part = subst (λ xs. IsPart xs (unsent_text turn count some.sends) some.sends some.part) (text_is v.group turn count s t m n acted.log is acted.acts) some.is_part;
+          text = f.1.text;
+          is_part = subst (λ xs. IsPart turn count xs some.sends some.part) (text_is v.group turn count s t m n acted.log is acted.acts) some.is_part;
         };
       })
 
@@ -151,14 +150,6 @@ abbrev failed_from : ℕ → Told → Told
 failed_from first x = record {
   line = record { left = x.line.left; calls = x.line.calls ++ Receive (until_of first) ∷ [] };
   clock = after_moment x.clock;
-  blocks = drop 1 x.blocks;
-  text = x.text;
-}
-
-abbrev waited_from : ℕ → Told → Told
-waited_from first x = record {
-  line = record { left = drop 1 x.line.left; calls = x.line.calls ++ Receive (until_of first) ∷ [] };
-  clock = after_moment (after_moment x.clock);
   blocks = drop 1 x.blocks;
   text = x.text;
 }
@@ -192,21 +183,12 @@ module _ (v : Serving) (moment : ℕ) (s t : State) (heard out before : List Ent
     (l l2 : LinkSeen) (c c1 : Option Clock) (b b1 : EntropySeen) (k k1 : SinkSeen)
     (ticks : Ticks c c1 moment) (opens : OpensAll v.openings moment b.blocks b1.blocks s t before out m n)
     (empty : before ≡ []) (unheard : heard ≡ []) (is : m ≡ record { secret = v.group; count = 0; text = [] }) where
-  abbrev zeroed_by : List LinkCall → List ℕ → Told → Told
-  zeroed_by sends text x = record {
-    line = record { left = x.line.left; calls = x.line.calls ++ sends };
-    clock = after_moment x.clock;
-    blocks = drop (length v.openings) x.blocks;
-    text = x.text ++ text;
-  }
-
-  zero_chain : (sends : List LinkCall) (text : List ℕ) → By (emitted sends text) (λ x. Unit {0}) (outside l c1 b1 k) (outside l2 c1 b1 k1) →
-      Leaves (λ x y. (moment ≡ next_moment x.clock) × AreOpened v.openings moment x.blocks opens.log × (y ≡ zeroed_by sends text x)) (outside l c b k) (outside l2 c1 b1 k1)
+  zero_chain : (sends : List LinkCall) (text : List ℕ) → Leaves (Emitted sends text) (outside l c1 b1 k) (outside l2 c1 b1 k1) →
+      Leaves (λ x y. (moment ≡ next_moment x.clock) × AreOpened v.openings moment x.blocks opens.log × Emitted sends text (after_draws (length v.openings) x) y) (outside l c b k) (outside l2 c1 b1 k1)
   zero_chain sends text last =
-      by_leaves (λ x y. (moment ≡ next_moment x.clock) × AreOpened v.openings moment x.blocks opens.log × (y ≡ zeroed_by sends text x))
-      (by_then (by_moment moment l c c1 b k ticks)
-      (by_then (by_opens v.openings moment opens.log l c1 b b1 k opens.opened) last))
-      (λ x f. (f.0, f.1.0, refl))
+      leaves_map
+      (by_after (by_then (by_moment moment l c c1 b k ticks) (by_opens v.openings moment opens.log l c1 b b1 k opens.opened)) last)
+      (λ x y f. (f.0.0, f.0.1, f.1))
 
   zero_whole : heard ++ out ≡ entries_of opens.log
   zero_whole = ap (λ xs. xs ++ out) unheard ∙ opens.acts.entries ∙ ap (λ xs. xs ++ entries_of opens.log) empty
@@ -223,14 +205,13 @@ module _ (v : Serving) (moment : ℕ) (s t : State) (heard out before : List Ent
           events = subst (λ j. AreOpened v.openings j x.blocks opens.log) f.0 f.1;
           sends = all.sends;
           sent = subst (λ es. AreSends (outs_in es) all.sends) zero_whole all.sent;
-          left = ap (λ (z : Told). z.line.left) f.2;
-          calls = ap (λ (z : Told). z.line.calls) f.2;
-          clock = ap (λ (z : Told). z.clock) f.2;
-          blocks = ap (λ (z : Told). z.blocks) f.2;
+          left = f.2.left;
+          calls = f.2.calls;
+          clock = f.2.clock;
+          blocks = f.2.blocks;
           text =
-              ap (λ (z : Told). z.text) f.2
-              ∙ sym (append_assoc x.text n.text (unsent_text 0 0 all.sends))
-              ∙ ap (λ xs. (x.text ++ xs) ++ unsent_text 0 0 all.sends) (text_is v.group 0 0 s t m n opens.log is opens.acts.acts);
+              appends_as x.text y.text (n.text ++ unsent_text 0 0 all.sends) (events_text v.group 0 0 opens.log ++ unsent_text 0 0 all.sends)
+              (ap (λ xs. xs ++ unsent_text 0 0 all.sends) (text_is v.group 0 0 s t m n opens.log is opens.acts.acts)) f.2.text;
         });
   }
 
@@ -245,13 +226,13 @@ module _ (v : Serving) (moment : ℕ) (s t : State) (heard out before : List Ent
         breaks = record {
           sends = some.sends;
           sent = subst (λ es. AreFirstSends (outs_in es) some.sends) zero_whole some.sent;
-          left = ap (λ (z : Told). z.line.left) f.2;
-          calls = ap (λ (z : Told). z.line.calls) f.2;
-          clock = ap (λ (z : Told). z.clock) f.2;
-          blocks = ap (λ (z : Told). z.blocks) f.2;
+          left = f.2.left;
+          calls = f.2.calls;
+          clock = f.2.clock;
+          blocks = f.2.blocks;
           part = some.part;
-          text = ap (λ (z : Told). z.text) f.2;
-          is_part = subst (λ xs. IsPart xs (unsent_text 0 0 some.sends) some.sends some.part) (text_is v.group 0 0 s t m n opens.log is opens.acts.acts) some.is_part;
+          text = f.2.text;
+          is_part = subst (λ xs. IsPart 0 0 xs some.sends some.part) (text_is v.group 0 0 s t m n opens.log is opens.acts.acts) some.is_part;
         };
       })
 

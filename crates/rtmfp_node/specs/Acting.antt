@@ -22,7 +22,7 @@ use Rattle.rtmfp_node.specs.Outside.{Outside, Told, Leaves, Stays}
 use Rattle.rtmfp_node.specs.Report.{events_text, self_name, unsent_text}
 use Rattle.rtmfp_node.specs.Events.{AreMessages, AreSendCalls, AreTurnEvents, ExtendsBy, IsFlowCall, IsOpened, draws_of, entries_of}
 use Rattle.rtmfp_node.specs.Turn.{AreSends, Turn, TurnZero, Turns, outs_in}
-use Rattle.rtmfp_node.specs.Cut.{AreFirstSends, CutAtZero, CutBy, IsPart}
+use Rattle.rtmfp_node.specs.Cut.{AreFirstSends, CutAtZero, CutBy, IsPart, LinesSoFar}
 
 -- the entries that were added
 abbrev pub added : List Entry → List Entry → List Entry
@@ -183,14 +183,15 @@ pub record SentAll (turn count : ℕ) (entries : List Entry) (l m : Option Line)
   pub calls : CallsAll l m sends
   pub text : Appends t u (unsent_text turn count sends)
 
--- some of the first were sent, and a part of the lines was written
+-- some of the first were sent, and the lines so far were written
 pub record SentSome (turn count : ℕ) (entries : List Entry) (l m : Option Line)
     (t u : Option (List ℕ)) : Type 0 where
   pub sends : List LinkCall
   pub sent : AreFirstSends (outs_in entries) sends
   pub calls : CallsAll l m sends
-  pub k : ℕ
-  pub text : Appends t u (take k (unsent_text turn count sends))
+  pub lines : List ℕ
+  pub so_far : LinesSoFar turn count sends lines
+  pub text : Appends t u lines
 
 abbrev pub SendEnds : Served → ℕ → ℕ → List Entry → Option Line → Option Line →
     Option (List ℕ) → Option (List ℕ) → Type 0
@@ -215,7 +216,7 @@ pub record EmittedSome (turn count : ℕ) (report : List ℕ) (entries : List En
   pub sent : AreFirstSends (outs_in entries) sends
   pub calls : CallsAll l m sends
   pub part : List ℕ
-  pub is_part : IsPart report (unsent_text turn count sends) sends part
+  pub is_part : IsPart turn count report sends part
   pub text : Appends t u part
 
 abbrev pub EmitEnds : Served → ℕ → ℕ → List ℕ → List Entry → Option Line → Option Line →

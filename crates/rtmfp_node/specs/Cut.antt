@@ -1,8 +1,9 @@
 -- What a turn leaves that isn't taken whole.
-use Rattle.std.specs.Prelude.{◌≡◌, ◌⊎◌, ℕ, ◌+◌, ◌<◌, List, [], ◌∷◌, ◌++◌, drop, length, take}
+use Rattle.std.specs.Prelude.{◌≡◌, ◌⊎◌, ℕ, ◌+◌, ◌<◌, ◌≤◌, List, [], ◌∷◌, ◌++◌, drop, length, take}
 use Rattle.rtmfp_host.specs.Linking.{next_given}
 use Rattle.rtmfp_host.specs.Ticking.{next_moment, after_moment}
 use Rattle.rtmfp_host.specs.Drawing.{next_block}
+use Rattle.rtmfp_host.specs.Writing.{Appends}
 use Rattle.rtmfp_host.specs.declared.link.LinkCall.{LinkCall}
 use Rattle.rtmfp_host.specs.declared.link.LinkCall.TheVariants.{Receive}
 use Rattle.endpoint_model.specs.Event.{Event}
@@ -33,12 +34,23 @@ abbrev pub AreFirstSends : List Sending → List LinkCall → Type 0
 AreFirstSends outs sends = (first rest : List Sending) × (outs ≡ first ++ rest) ×
     AreSends first sends
 
--- A part of the report, and nothing was sent yet; or the whole report, and a part of the lines of
--- what was lost.
-abbrev pub IsPart : List ℕ → List ℕ → List LinkCall → List ℕ → Type 0
-IsPart report lost sends part =
+-- What is written of the lines of these sends: those of all but the last one whole, and a part of
+-- that one's. So the line of a lost datagram is written before the next datagram is sent.
+pub record LinesSoFar (turn count : ℕ) (sends : List LinkCall) (lines : List ℕ) : Type 0 where
+  pub earlier : List LinkCall
+  pub last : List LinkCall
+  pub all : sends ≡ earlier ++ last
+  pub one : length last ≤ 1
+  pub k : ℕ
+  pub part : lines ≡ take k (unsent_text turn count sends)
+  pub whole : length (unsent_text turn count earlier) ≤ k
+
+-- A part of the report, and nothing was sent yet; or the whole report, and the lines so far of what
+-- was sent.
+abbrev pub IsPart : ℕ → ℕ → List ℕ → List LinkCall → List ℕ → Type 0
+IsPart turn count report sends part =
     ((sends ≡ []) × (k : ℕ) × (part ≡ take k report)) ⊎
-    ((k : ℕ) × (part ≡ report ++ take k lost))
+    ((lines : List ℕ) × LinesSoFar turn count sends lines × (part ≡ report ++ lines))
 
 -- After what was had before, the writing or the sending of a turn with these events was broken off.
 pub record Breaks (v : Serving) (turn count : ℕ) (before after : Told) (log : List Event)
@@ -50,9 +62,8 @@ pub record Breaks (v : Serving) (turn count : ℕ) (before after : Told) (log : 
   pub clock : after.clock ≡ before.clock
   pub blocks : after.blocks ≡ before.blocks
   pub part : List ℕ
-  pub text : after.text ≡ before.text ++ part
-  pub is_part : IsPart (events_text v.group turn count log) (unsent_text turn count sends) sends
-      part
+  pub text : Appends before.text after.text part
+  pub is_part : IsPart turn count (events_text v.group turn count log) sends part
 
 -- A turn that an end began in s made all its calls, and was broken off then.
 pub record Broken (v : Serving) (turn count : ℕ) (s : State) (before after : Told) : Type 0 where

@@ -6,3 +6,4 @@ pub mod Turn
 pub mod Cut
 pub mod Whole
 pub mod Acting
+pub mod Laws

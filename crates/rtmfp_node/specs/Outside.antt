@@ -22,21 +22,21 @@ outside link clock entropy sink =
 -- ---- what is told
 
 -- what the link has still to give and the calls of it, the moments and the blocks that are still to
--- come, and the text that was written
+-- come, and the text that was written, where that is told
 pub record Told : Type 0 where
   pub line : Line
   pub clock : Clock
   pub blocks : List (List ℕ)
-  pub text : List ℕ
+  pub text : Option (List ℕ)
 
--- all four tell, and it is this
+-- The link, the clock and the random source tell, and it is this. The sink may tell nothing.
 pub record Tells (o : Outside) (all : Told) : Type 0 where
   pub line : o.link.line ≡ Some all.line
   pub clock : o.clock ≡ Some all.clock
   pub blocks : o.entropy.blocks ≡ Some all.blocks
-  pub text : o.sink.written ≡ Some all.text
+  pub text : o.sink.written ≡ all.text
 
--- Where all tell in the end, they told at the beginning, and this holds of what they told.
+-- Where those three tell in the end, they told at the beginning, and this holds of what was told.
 pub record Leaves (P : Told → Told → Type 0) (before after : Outside) : Type 0 where
   pub back : (now : Told) → Tells after now → (was : Told) × Tells before was × P was now
 

@@ -3,6 +3,7 @@ use Rattle.std.specs.Prelude.{◌≡◌, ℕ, zero, suc, ◌+◌, ◌-◌, ◌^�
 use Rattle.rtmfp_host.specs.Linking.{next_given, after_call}
 use Rattle.rtmfp_host.specs.Ticking.{next_moment, after_moment}
 use Rattle.rtmfp_host.specs.Drawing.{next_block}
+use Rattle.rtmfp_host.specs.Writing.{Appends}
 use Rattle.rtmfp_host.specs.declared.link.LinkCall.{LinkCall}
 use Rattle.rtmfp_host.specs.declared.link.LinkCall.TheVariants.{Bind, Receive, Send}
 use Rattle.endpoint_model.specs.declared.entry.Entry.{Entry}
@@ -43,7 +44,8 @@ pub record TurnZero (v : Serving) (before after : Told) (log : List Event) : Typ
   pub calls : after.line.calls ≡ before.line.calls ++ sends
   pub clock : after.clock ≡ after_moment before.clock
   pub blocks : after.blocks ≡ drop (length v.openings) before.blocks
-  pub text : after.text ≡ before.text ++ events_text v.group 0 0 log ++ unsent_text 0 0 sends
+  pub text : Appends before.text after.text
+      (events_text v.group 0 0 log ++ unsent_text 0 0 sends)
 
 -- a receive waits 50 ms at most
 abbrev pub until_of : ℕ → ℕ
@@ -84,8 +86,8 @@ pub record Turn (v : Serving) (turn count : ℕ) (before after : Told) (log : Li
       ≡ before.line.calls ++ Receive (until_of (next_moment before.clock)) ∷ sends
   pub clock : after.clock ≡ after_moment (after_moment before.clock)
   pub blocks : after.blocks ≡ drop 1 before.blocks
-  pub text : after.text
-      ≡ before.text ++ events_text v.group turn count log ++ unsent_text turn count sends
+  pub text : Appends before.text after.text
+      (events_text v.group turn count log ++ unsent_text turn count sends)
 
 -- so many turns from turn 1 on, one after another, with their events
 abbrev pub Turns : Serving → ℕ → ℕ → Told → Told → List Event → Type 0

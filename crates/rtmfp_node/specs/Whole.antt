@@ -71,7 +71,7 @@ pub record CutLater (result : Served) (v : Serving) (before after : Told) : Type
 abbrev pub CutRun : Served → Serving → Told → Told → Type 0
 CutRun result v before after = CutAtStart result v before after ⊎ CutLater result v before after
 
--- How a run ends, where its link, its clock, its random source and its sink tell.
+-- How a run ends, where its link, its clock and its random source tell; its text, where the sink does.
 abbrev pub Ends : Served → Serving → Outside → Outside → Type 0
 Ends Done v before after = Leaves (Ran v v.turns) before after
 Ends Memory v before after = Leaves (CutRun Memory v) before after

@@ -2,11 +2,12 @@
 //! contract of each states what the definitions that the contract of `serve` cites are there. All
 //! of it is own.
 
-ghost use Rattle.std.specs.Prelude.{◌≡◌, ◌∷◌, ◌++◌, ◌+◌, ◌-◌, ◌^◌, ◌<◌, ℕ, List, [], true, false, Option, None, Some, codes, decimal, drop, length};
+ghost use Rattle.std.specs.Prelude.{◌≡◌, ◌∷◌, ◌++◌, ◌+◌, ◌-◌, ◌^◌, ◌<◌, ℕ, List, [], true, false, Option, None, Some, codes, decimal, drop, length, take};
 ghost use Rattle.glare_core.specs.declared.facts.Joined.{Joined};
 ghost use Rattle.glare_core.specs.declared.facts.Fact.TheVariants.{Born, Opened};
 ghost use Rattle.rtmfp_forms.specs.Address.{AddressParts};
 ghost use Rattle.rtmfp_host.specs.declared.link.Given.TheVariants.{Datagram, Quiet};
+ghost use Rattle.rtmfp_host.specs.declared.link.LinkCall.{LinkCall};
 ghost use Rattle.rtmfp_host.specs.declared.link.LinkCall.TheVariants.{Bind, Send};
 ghost use Rattle.endpoint_model.specs.declared.answers.OpenRefusal.TheVariants.{Start};
 ghost use Rattle.glare_core.specs.declared.answers.StartRefusal.TheVariants.{AttemptsSpent};
@@ -18,6 +19,7 @@ ghost use Rattle.rtmfp_words.specs.Node.{Serving};
 ghost use Rattle.rtmfp_words.specs.declared.opening_words.OpeningWords.{OpeningWords};
 ghost use Rattle.rtmfp_node.specs.declared.served.Served.TheVariants.{EntropyFault, LinkFault};
 ghost use Rattle.rtmfp_node.specs.Calls.{calls_in, first_added, message_calls, opening_calls};
+ghost use Rattle.rtmfp_node.specs.Cut.{IsPart, LinesSoFar};
 ghost use Rattle.rtmfp_node.specs.Events.{AreOpened, AreTurnEvents, draws_of, opened_in, opens_flow, queues};
 ghost use Rattle.rtmfp_node.specs.Outside.{Told};
 ghost use Rattle.rtmfp_node.specs.Report.{refused_text, unsent_line, unsent_text};
@@ -109,6 +111,18 @@ pub fn a_node_draws_before_it_binds()
         length y.blocks < length x.blocks }
     ensures failed { (v : Serving) (x y : Told) → CutAtStart LinkFault v x y →
         y.blocks ≡ drop 1 x.blocks }
+{}
+
+/// Of a turn that was broken off the whole report is there where anything was sent, and the line of
+/// a lost datagram where another was sent after it.
+pub fn a_turn_writes_before_it_sends_on()
+    ensures report { (turn count : ℕ) (report part : List ℕ) (call : LinkCall)
+        (calls : List LinkCall) → IsPart turn count report (call ∷ calls) part →
+        take (length report) part ≡ report }
+    ensures lost { (turn count : ℕ) (to : AddressParts) (datagram : List ℕ) (call : LinkCall)
+        (calls : List LinkCall) (lines : List ℕ) →
+        LinesSoFar turn count (Send to datagram false ∷ call ∷ calls) lines →
+        take (length (unsent_line turn (count + 1))) lines ≡ unsent_line turn (count + 1) }
 {}
 
 /// A flow for a message has priority 4 and the one byte 0x6d as metadata; the message goes into

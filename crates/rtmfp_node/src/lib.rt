@@ -6,6 +6,7 @@ mod acting;
 mod calls;
 mod draw;
 pub mod edges;
+pub mod laws;
 mod messages;
 mod notes;
 mod sending;
