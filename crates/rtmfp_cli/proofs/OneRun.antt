@@ -8,11 +8,11 @@ use Rattle.rtmfp_cli.specs.Doing.{Does}
 use Rattle.rtmfp_cli.specs.Script.{Runs}
 use Rattle.rtmfp_cli.specs.Laws.{AreSame, EachScriptHasOneRun}
 
-record IsOne (left other : Doing) (text words : List ℕ) : Type 0 where
+pub record IsOne (left other : Doing) (text words : List ℕ) : Type 0 where
   pub same : AreSame left other
   pub texts : text ≡ words
 
-both_do : (n : ℕ) (line : List ℕ) (doing begun left other : Doing) (text words : List ℕ) → AreSame doing begun → Does doing n line left text → Does begun n line other words → IsOne left other text words
+pub both_do : (n : ℕ) (line : List ℕ) (doing begun left other : Doing) (text words : List ℕ) → AreSame doing begun → Does doing n line left text → Does begun n line other words → IsOne left other text words
 both_do n line Showing Showing Showing Showing text words same h k = record { same = tt; texts = line_same line text words h k }
 both_do n line Showing Showing Showing (Playing s) text words same h k = absurd k
 both_do n line Showing Showing (Playing t) other text words same h k = absurd h

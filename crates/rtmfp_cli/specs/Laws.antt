@@ -1,5 +1,5 @@
 -- What holds of all runs over lines, and their limits a second time.
-use Rattle.std.specs.Prelude.{◌≡◌, ◌⊎◌, ℕ, ◌+◌, ◌<◌, ◌≤◌, true, false, List, [], ◌∷◌, ◌++◌, length, take}
+use Rattle.std.specs.Prelude.{◌≡◌, ◌⊎◌, ℕ, ◌+◌, ◌-◌, ◌<◌, ◌≤◌, true, false, List, [], ◌∷◌, ◌++◌, length, take, Some}
 use Rattle.rtmfp_data_chunks.specs.HandsOver.{HandsOver, HandsOnce}
 use Rattle.flow_history.specs.Deeds.{Name}
 use Rattle.flow_history.specs.Log.{queued_of, abandoned_of, handed_of}
@@ -14,6 +14,11 @@ use Rattle.rendezvous_world.specs.Inside.{count_in}
 use Rattle.rendezvous_world.specs.Same.{AreSameWorlds}
 use Rattle.rendezvous_world.specs.Seen.{Seen, setup_at}
 use Rattle.rendezvous_world.specs.History.{history_of}
+use Rattle.rtmfp_host.specs.Writing.{Appends}
+use Rattle.rtmfp_lines.specs.declared.status.Status.{Status}
+use Rattle.rtmfp_lines.specs.declared.status.Status.TheVariants as status
+use Rattle.rtmfp_lines.specs.Lines.{lines_of}
+use Rattle.rtmfp_lines.specs.Outside.{Outside}
 use Rattle.rtmfp_lines.specs.Status.{status_code}
 use Rattle.rtmfp_node.specs.declared.served.Served.TheVariants as served
 use Rattle.rtmfp_play.specs.Play.{names_of, told_of}
@@ -21,7 +26,7 @@ use Rattle.rtmfp_cli.specs.declared.doing.Doing.{Doing}
 use Rattle.rtmfp_cli.specs.declared.doing.Doing.TheVariants.{Playing, Showing}
 use Rattle.rtmfp_cli.specs.Commands.{status_of}
 use Rattle.rtmfp_cli.specs.Doing.{Holds, limit_of, playing, showing}
-use Rattle.rtmfp_cli.specs.Script.{Runs, max_lines}
+use Rattle.rtmfp_cli.specs.Script.{Runs, ScriptEnds, max_lines}
 
 -- Whatever the lines of a script are, the history of the world that they leave holds, also where
 -- they are none.
@@ -84,6 +89,39 @@ EachScriptHasOneRun =
     (n : ℕ) (doing left other : Doing) (lines : List (List ℕ)) (text words : List ℕ) →
     Runs n doing lines left text → Runs n doing lines other words → AreSame left other ×
     (text ≡ words)
+
+-- What a run over lines has written where it is done: the text of all its lines.
+pub record WritesAll (doing : Doing) (lines : List (List ℕ)) (before after : Outside) : Type 0 where
+  pub left : Doing
+  pub text : List ℕ
+  pub ran : Runs 1 doing lines left text
+  pub written : Appends before.sink.written after.sink.written text
+
+-- The text of this script is written so, whatever the source tells besides.
+abbrev pub WritesOf : Status → (Doing → List (List ℕ) → Outside → Outside → Type 0) → Type 0
+WritesOf result Writes = (doing : Doing) (script : List ℕ) (before after : Outside) →
+    before.source.left ≡ Some script → ScriptEnds doing result before after →
+    Writes doing (lines_of script) before after
+
+-- Where all these lines can be done, a first part of their text was written.
+abbrev pub WritesAPart : Doing → List (List ℕ) → Outside → Outside → Type 0
+WritesAPart doing lines before after = (left : Doing) (text : List ℕ) →
+    Runs 1 doing lines left text → (part : List ℕ) × (rest : List ℕ) × (text ≡ part ++ rest) ×
+    Appends before.sink.written after.sink.written part
+
+-- The text of the lines before line n was written.
+abbrev pub WritesBefore : ℕ → Doing → List (List ℕ) → Outside → Outside → Type 0
+WritesBefore n doing lines before after = WritesAll doing (take (n - 1) lines) before after
+
+-- By its status a run over lines has written all, all before a line, or a first part.
+pub record EachRunWritesInOrder : Type 0 where
+  pub done : WritesOf status.Done WritesAll
+  pub bad : (n : ℕ) → WritesOf (status.BadScript n) (WritesBefore n)
+  pub forged : (n : ℕ) → WritesOf (status.Forged n) (WritesBefore n)
+  pub long : WritesOf status.ScriptLong (WritesBefore 1000001)
+  pub memory : WritesOf status.Memory WritesAPart
+  pub sink : WritesOf status.SinkFault WritesAPart
+  pub source : WritesOf status.SourceFault WritesAPart
 
 pub record Limits : Type 0 where
   pub lines : max_lines ≡ 1000000

@@ -1,5 +1,5 @@
 //! What holds of all runs over lines. The functions do nothing: the contract of each is its law.
-ghost use Rattle.rtmfp_cli.specs.Laws.{EachScriptHasOneRun, EachTextIsTheReport, EveryRunHandsOver};
+ghost use Rattle.rtmfp_cli.specs.Laws.{EachRunWritesInOrder, EachScriptHasOneRun, EachTextIsTheReport, EveryRunHandsOver};
 ghost use Rattle.rtmfp_cli.specs.Laws.{EveryRunHolds, EveryRunIsAgreed, Limits, NodeStatuses};
 
 /// No run of a script leaves two ends that keep different sessions with each other, or a flow that
@@ -22,6 +22,12 @@ pub fn each_text_is_the_report_of_its_journal()
 /// much room the outboxes of the journal have free, which is a matter of memory.
 pub fn each_script_has_one_run()
     ensures { EachScriptHasOneRun }
+{}
+
+/// A run over lines that is done has written the text of all its lines; one that ends at a line, of
+/// all before it; and any other a first part of what all its lines would give.
+pub fn each_run_writes_in_order()
+    ensures { EachRunWritesInOrder }
 {}
 
 /// The most lines of a source, and the longest line of each command in bytes without its LF (own).
