@@ -55,29 +55,34 @@ def datagram(keys, sid, number, plain):
     return be(sid ^ words, 4) + part
 
 
-STARTUP = (mac(GROUP, b"rtmfp startup enc"), mac(GROUP, b"rtmfp startup mac"))
+def startup_keys(group):
+    return mac(group, b"rtmfp startup enc"), mac(group, b"rtmfp startup mac")
 
 
-def session_keys(to_responder, ni, nr, print_i, print_r, sid_i, sid_r):
+def session_keys(to_responder, ni, nr, print_i, print_r, sid_i, sid_r, group=GROUP):
     way = b"i" if to_responder else b"r"
     values = ni + nr + print_i + print_r + be(sid_i, 4) + be(sid_r, 4)
-    return tuple(mac(GROUP, b"rtmfp session " + what + b" " + way + values) for what in (b"enc", b"mac"))
+    return tuple(mac(group, b"rtmfp session " + what + b" " + way + values) for what in (b"enc", b"mac"))
 
 
-def signed(payload):
-    return payload + mac(mac(GROUP, b"rtmfp sign"), payload)
+def signed(payload, group=GROUP):
+    return payload + mac(mac(group, b"rtmfp sign"), payload)
 
 
-def cookie(moment, host, port):
-    """For an address of IPv4 as it was observed: its flags byte has origin 2."""
-    body = be(moment, 8) + bytes([0x02]) + bytes(host) + be(port, 2)
-    return body + mac(COOKIE_SECRET, body)[:16]
+def observed(host, port):
+    """An address of IPv4 as it was observed: its flags byte has origin 2."""
+    return bytes([0x02]) + bytes(host) + be(port, 2)
 
 
-def startup_packet(cert, count, sid, body):
+def cookie(moment, host, port, secret=COOKIE_SECRET):
+    body = be(moment, 8) + observed(host, port)
+    return body + mac(secret, body)[:16]
+
+
+def startup_packet(cert, count, sid, body, group=GROUP):
     """Mode 3, no stamps; the number is the first 8 bytes of the sender's fingerprint and a count."""
     number = hashlib.sha256(cert).digest()[:8] + be(count, 8)
-    return datagram(STARTUP, sid, number, bytes([0x03]) + body)
+    return datagram(startup_keys(group), sid, number, bytes([0x03]) + body)
 
 
 def main():

@@ -3,6 +3,7 @@
 use rtmfp_forms::Address;
 use rtmfp_host::{Begun, Bound, Drawn, Entropy, Got, Link, Moments, Ran, Sent, Spawner};
 use rtmfp_net::{Generator, ProgramSpawner, SystemClock, UdpLink};
+use std::alloc::{AllocError, Global};
 use std::process;
 use std::test::Fail;
 
@@ -22,10 +23,30 @@ fn bind_somewhere(link: &mut UdpLink<HostRuntime>, first: u16) -> Option<Address
     None
 }
 
-/// What a link that waits for a moment is given: whether a datagram of these bytes, from here.
-fn hears(link: &mut UdpLink<HostRuntime>, from: Address, bytes: &[u8]) -> bool {
+/// A link, and where it is bound.
+#[derive(Drop)]
+struct Node {
+    link: UdpLink<HostRuntime>,
+    at: Address,
+}
+
+/// A link at a free port of this machine.
+fn bound_node(rt: &HostRuntime) -> Result<Node, Fail> {
+    let first = 20_000 + (process::id(rt.process()) % 40_000) as u16;
+    let mut link = UdpLink::new(rt.clone()?);
+    let at = bind_somewhere(&mut link, first).ok_or("no port")?;
+    Ok(Node { link, at })
+}
+
+/// The moment so many milliseconds from now on.
+fn moment_in(rt: &HostRuntime, limit: u64) -> u64 {
+    SystemClock::new(rt).now().saturating_add(limit)
+}
+
+/// Whether a link hears a datagram of these bytes, from here, before a moment.
+fn hears(link: &mut UdpLink<HostRuntime>, until: u64, from: Address, bytes: &[u8]) -> bool {
     let mut buf = [0; 2048];
-    match link.receive(u64::MAX, &mut buf) {
+    match link.receive(until, &mut buf) {
         Got::Datagram {
             from: place,
             length,
@@ -35,23 +56,75 @@ fn hears(link: &mut UdpLink<HostRuntime>, from: Address, bytes: &[u8]) -> bool {
     }
 }
 
-/// A link hears what it sends to itself, and then nothing until the moment has come.
-fn link_hears_itself(rt: &HostRuntime, link: &mut UdpLink<HostRuntime>, at: Address) -> bool {
-    let sent = link.send(&at, b"hello") == Sent::Done && hears(link, at, b"hello");
-    let soon = SystemClock::new(rt).now().saturating_add(2);
-    sent && link.receive(soon, &mut [0; 2048]) == Got::Quiet
+/// Whether one hears whole, or up to its 2,048 bytes, what the other sends it.
+fn goes_over(rt: &HostRuntime, one: &mut Node, other: &mut Node, bytes: &[u8]) -> bool {
+    let heard = bytes.get(..2048).unwrap_or(bytes);
+    let until = moment_in(rt, 10_000);
+    one.link.send(&other.at, bytes) == Sent::Done && hears(&mut other.link, until, one.at, heard)
+}
+
+/// How long the datagrams are that go there and back. What one has above 2,048 bytes is lost.
+const LENGTHS: &str = "1 1200 2048 2049";
+
+/// So many bytes, of which those near to each other differ.
+fn bytes_of(alloc: Global, length: usize) -> Result<Vec<u8>, AllocError> {
+    let mut bytes = Vec::new(alloc);
+    for place in 0..length {
+        bytes.push((place % 251) as u8)?;
+    }
+    Ok(bytes)
+}
+
+/// Whether a datagram of so many bytes goes there and back.
+fn goes(rt: &HostRuntime, one: &mut Node, other: &mut Node, length: &str) -> Result<bool, Fail> {
+    let bytes = bytes_of(rt.alloc(), length.parse::<usize>().unwrap_or(0))?;
+    let there = goes_over(rt, one, other, bytes.as_slice());
+    Ok(there && goes_over(rt, other, one, bytes.as_slice()))
 }
 
 #[test]
-fn a_socket_is_a_link(rt: HostRuntime) -> Result<(), Fail> {
-    let first = 20_000 + (process::id(rt.process()) % 40_000) as u16;
-    let mut link = UdpLink::new(rt.clone()?);
-    let place = bind_somewhere(&mut link, first);
-    assert!(rt; place.is_some());
-    if let Some(at) = place {
-        assert!(rt; link_hears_itself(&rt, &mut link, at));
-        assert!(rt; UdpLink::new(rt.clone()?).bind(&at) == Bound::Failed);
+fn datagrams_go_there_and_back(rt: HostRuntime) -> Result<(), Fail> {
+    let mut one = bound_node(&rt)?;
+    let mut other = bound_node(&rt)?;
+    for length in LENGTHS.split(' ') {
+        assert!(rt; goes(&rt, &mut one, &mut other, length)?, "{length} bytes");
     }
+    Ok(())
+}
+
+#[test]
+fn a_place_is_taken_once(rt: HostRuntime) -> Result<(), Fail> {
+    let node = bound_node(&rt)?;
+    assert!(rt; UdpLink::new(rt.clone()?).bind(&node.at) == Bound::Failed);
+    Ok(())
+}
+
+/// The milliseconds since a moment.
+fn since(rt: &HostRuntime, moment: u64) -> u64 {
+    SystemClock::new(rt).now().saturating_sub(moment)
+}
+
+#[test]
+fn a_link_waits_until_the_moment(rt: HostRuntime) -> Result<(), Fail> {
+    let mut node = bound_node(&rt)?;
+    let began = moment_in(&rt, 0);
+    let quiet = node.link.receive(began.saturating_add(60), &mut [0; 2048]) == Got::Quiet;
+    assert!(rt; quiet && since(&rt, began) >= 60);
+    Ok(())
+}
+
+#[test]
+fn a_link_waits_no_longer_than_for_a_datagram(rt: HostRuntime) -> Result<(), Fail> {
+    let mut node = bound_node(&rt)?;
+    let began = moment_in(&rt, 0);
+    let sent = node.link.send(&node.at, b"hello") == Sent::Done;
+    let heard = hears(
+        &mut node.link,
+        began.saturating_add(20_000),
+        node.at,
+        b"hello",
+    );
+    assert!(rt; sent && heard && since(&rt, began) < 10_000);
     Ok(())
 }
 
@@ -101,13 +174,12 @@ fn two_generators_of_the_machine_differ(rt: HostRuntime) {
     assert!(rt; first && second && one != other);
 }
 
-/// What a program with one word ends with: its status and its text.
-fn run(rt: &HostRuntime, program: &str, word: &str) -> Result<Option<Ran>, Fail> {
+/// What a program ends with that is started with these words, where it can be.
+fn run(rt: &HostRuntime, program: &str, words: &[String]) -> Result<Option<Ran>, Fail> {
     let alloc = rt.alloc();
     let program = String::from_str(alloc, program)?;
-    let words = Vec::from_array(alloc, [String::from_str(alloc, word)?])?;
     let mut spawner = ProgramSpawner::new(rt.clone()?, alloc, program);
-    match spawner.start(words.as_slice()) {
+    match spawner.start(words) {
         Begun::Child(child) => Ok(Some(spawner.wait(child))),
         Begun::Failed => Ok(None),
         Begun::Memory => Ok(None),
@@ -122,23 +194,76 @@ fn ended(ran: &Option<Ran>, wanted: i32, written: &[u8]) -> bool {
     }
 }
 
-/// Whether a program with one word ends so.
-fn ends(
-    rt: &HostRuntime,
-    program: &str,
-    word: &str,
-    wanted: i32,
-    written: &[u8],
-) -> Result<bool, Fail> {
-    let ran = run(rt, program, word)?;
-    Ok(ended(&ran, wanted, written))
+/// Rows: a program and its words with commas between them, its status, and what it writes. `cat`
+/// writes what its standard input has.
+const CHILDREN: &str = "\
+printf,%s|,b c,d,,e = 0|b c|d||e|
+cat,- = 0|
+false,- = 1|
+sh,-c,printf no; exit 7 = 7|no
+sh,-c,kill -9 $$ = 137|
+sh,-c,kill -15 $$ = 143|
+";
+
+/// Two texts, around a mark.
+fn sides<'a>(text: &'a str, mark: &str) -> (&'a str, &'a str) {
+    text.split_once(mark).unwrap_or(("", ""))
+}
+
+/// The words of a row.
+fn words_of(alloc: Global, text: &str) -> Result<Vec<String>, AllocError> {
+    let mut words = Vec::new(alloc);
+    for word in text.split(',') {
+        words.push(String::from_str(alloc, word)?)?;
+    }
+    Ok(words)
+}
+
+/// Whether a program with these words ends so.
+fn ends(rt: &HostRuntime, line: &str, end: &str) -> Result<bool, Fail> {
+    let (program, words) = sides(line, ",");
+    let (status, written) = sides(end, "|");
+    let words = words_of(rt.alloc(), words)?;
+    let ran = run(rt, program, words.as_slice())?;
+    let status = status.parse::<i32>().unwrap_or(-1);
+    Ok(ended(&ran, status, written.as_bytes()))
 }
 
 #[test]
 fn programs_are_started_and_waited_for(rt: HostRuntime) -> Result<(), Fail> {
-    let echo = ends(&rt, "echo", "hello", 0, b"hello\n")?;
-    let none = ends(&rt, "false", "hello", 1, b"")?;
-    let missing = run(&rt, "/no/such/program", "hello")?;
-    assert!(rt; echo && none && missing.is_none());
+    for row in CHILDREN.lines() {
+        let (line, end) = sides(row, " = ");
+        assert!(rt; ends(&rt, line, end)?, "{line}");
+    }
+    assert!(rt; run(&rt, "/no/such/program", &[])?.is_none());
+    Ok(())
+}
+
+/// A word of so many letters, of which those near to each other differ.
+fn long_word(alloc: Global, length: usize) -> Result<String, AllocError> {
+    let mut word = String::new(alloc);
+    for place in 0..length {
+        word.push(char::from(b'a' + (place % 23) as u8))?;
+    }
+    Ok(word)
+}
+
+/// A pipe of the system holds 65,536 bytes.
+#[test]
+fn a_child_writes_more_than_a_pipe_holds(rt: HostRuntime) -> Result<(), Fail> {
+    let word = long_word(rt.alloc(), 100_000)?;
+    let words = Vec::from_array(rt.alloc(), [word.clone()?])?;
+    let ran = run(&rt, "printf", words.as_slice())?;
+    assert!(rt; ended(&ran, 0, word.as_bytes()));
+    Ok(())
+}
+
+#[test]
+fn the_clock_counts_milliseconds(rt: HostRuntime) -> Result<(), Fail> {
+    let words = words_of(rt.alloc(), "0.06")?;
+    let began = moment_in(&rt, 0);
+    let slept = ended(&run(&rt, "sleep", words.as_slice())?, 0, b"");
+    let passed = since(&rt, began);
+    assert!(rt; slept && passed >= 60 && passed < 10_000);
     Ok(())
 }

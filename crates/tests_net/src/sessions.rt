@@ -10,7 +10,7 @@ use rtmfp_forms::Address;
 use rtmfp_host::{Given, MemoryEntropy, MemoryLink, MemoryMoments, MemorySink};
 use rtmfp_node::{Served, serve};
 use rtmfp_words::read_serve_words;
-use std::alloc::Global;
+use std::alloc::{AllocError, Global};
 use std::test::Fail;
 
 /// What `scripts/baseline/node.py` prints first: what a node is brought turn by turn, and behind
@@ -63,19 +63,16 @@ const INTRODUCER_REPORT: &str = "\
 4 self drop 1 not-selected
 ";
 
-/// A datagram from an address that ends so, of at most 2,048 bytes.
-fn datagram(alloc: Global, last: u8, bytes: &[u8]) -> Result<Given, Fail>
+/// A datagram of at most 2,048 bytes.
+pub(crate) fn datagram(alloc: Global, from: Address, bytes: &[u8]) -> Result<Given, AllocError>
     ensures { IfOk result IsShortGiven }
 {
     if bytes.len() > 2048 {
-        return Err(Fail::from("long"));
+        return Err(AllocError);
     }
     match Message::copy_of(alloc, bytes) {
-        Ok(bytes) => Ok(Given::Datagram {
-            from: Address::v4([10, 0, 0, last], 1935),
-            bytes,
-        }),
-        Err(_) => Err(Fail::from("memory")),
+        Ok(bytes) => Ok(Given::Datagram { from, bytes }),
+        Err(_) => Err(AllocError),
     }
 }
 
@@ -86,7 +83,8 @@ fn given(alloc: Global, line: &str) -> Result<Given, Fail>
     let (last, digits) = line.split_once(' ').unwrap_or(("", ""));
     let bytes = hex::decode(alloc, digits.as_bytes()).ok().ok_or("digits")?;
     let last = last.parse::<u8>().unwrap_or(0);
-    datagram(alloc, last, bytes.as_slice())
+    let from = Address::v4([10, 0, 0, last], 1935);
+    Ok(datagram(alloc, from, bytes.as_slice())?)
 }
 
 /// A link that gives the datagrams of these lines, one a turn.
