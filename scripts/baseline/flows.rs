@@ -1,5 +1,5 @@
 //! A plain Rust program of usual style that moves messages from a sender to a receiver in memory, for
-//! comparison with `bench_flows`: the same lines `move SIZE COUNT WAITING LOST WINDOW`, the same limits and
+//! comparison with `bench_parts`: the same lines `move SIZE COUNT WAITING LOST WINDOW`, the same limits and
 //! refusals, deadlines, abandoned numbers and notices, no proofs. It scans where that serves: what is lost, what is
 //! overdue, and what an ack counts against.
 #[path = "replay/flow.rs"]

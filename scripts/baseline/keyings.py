@@ -1,6 +1,6 @@
 #!/usr/bin/env python3
 """Startup chunks that a member of the group makes, of which the last values are wrong, too: rows of crates/examples/data, of
-the tables of places and stages of crates/examples, and of crates/tests_crypto.
+the tables of places and stages of crates/examples, and of crates/tests_sessions.
 
 It is written after RFC 7016 and docs/PROTOCOL.md, apart from the code of this repository, with Python's hashlib and hmac
 alone. It prints a row a chunk: the end that takes it (a called, b answers), under which session ID, and the packet in

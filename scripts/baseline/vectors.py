@@ -2,7 +2,7 @@
 """Values of the cryptography profile, computed with Python's hashlib and hmac from the profile's text alone, and not from the
 code of this repository: keys, sealed parts, datagrams of a session, cookies, and the four packets of a handshake.
 
-The tests in crates/tests_crypto hold these bytes. Run it without arguments; it prints one value a line, in hexadecimal.
+The tests in crates/tests_sessions hold these bytes. Run it without arguments; it prints one value a line, in hexadecimal.
 
 The profile in short: HMAC is RFC 2104 with SHA-256. Each key is an HMAC under the group secret. A sealed part is a tag of 16
 bytes, a number of 16 bytes and the plain packet XOR a keystream, whose block i is the HMAC of the number and of i in 8 bytes;

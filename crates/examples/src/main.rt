@@ -3,6 +3,8 @@
 //! but for `packets`, whose lines are packets, for texts of rows, each of which is a script with its
 //! report (`flows.rows` and the like), for texts of tables, of rows of two ends by hand
 //! (`flows.tables`), and for tables of a script with one of its calls failing (`handshake.faults`).
+//! The word `library` is no file: it has an end as a library do what README shows, and tells how
+//! much it is to send, tells and drops then.
 #![tactic(auto)]
 
 mod faults;
@@ -13,6 +15,7 @@ mod tables;
 use crate::running::played;
 use std::test::Fail;
 use std::{env, fs, io};
+use tests_base::library::counted_of_an_end;
 
 fn main(rt: HostRuntime) -> Result<(), Fail> {
     for name in env::args(&rt)?.skip(1) {
@@ -32,7 +35,20 @@ fn play(rt: &HostRuntime, name: &str) -> Result<(), Fail> {
     if let Some(front) = name.strip_suffix(".faults") {
         return Ok(play_faults(rt, front)?);
     }
+    if name == "library" {
+        return play_library(rt);
+    }
     Ok(play_script(rt, name)?)
+}
+
+/// Tells what an end as a library is to send, and what happened at it.
+fn play_library(rt: &HostRuntime) -> Result<(), Fail> {
+    let counted = counted_of_an_end(rt.alloc())?;
+    println!(rt;
+        "an end as a library sends {}, tells {}, drops {}",
+        counted.sent, counted.told, counted.dropped
+    )?;
+    Ok(())
 }
 
 fn play_rows(rt: &HostRuntime, name: &str) -> io::Result<()> {

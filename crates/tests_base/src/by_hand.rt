@@ -11,11 +11,11 @@ use rtmfp_forms::Address;
 use std::alloc::{AllocError, Global};
 use std::test::Fail;
 
-pub const GROUP: [u8; 32] = [7; 32];
+pub(crate) const GROUP: [u8; 32] = [7; 32];
 
-pub const ANSWERER: &[u8] = b"0123456789abcdefanswerer";
+pub(crate) const ANSWERER: &[u8] = b"0123456789abcdefanswerer";
 
-pub const CALLER: &[u8] = b"0123456789abcdefcaller";
+pub(crate) const CALLER: &[u8] = b"0123456789abcdefcaller";
 
 fn end(
     alloc: Global,
@@ -46,7 +46,7 @@ fn address(last: u8) -> Address {
     Address::v4([10, 0, 0, last], 1935)
 }
 
-pub fn draws(word: u32) -> Draws {
+pub(crate) fn draws(word: u32) -> Draws {
     let mut nonce = [0; 16];
     nonce[15] = (word % 256) as u8;
     let mut token = nonce;

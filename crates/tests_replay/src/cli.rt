@@ -13,12 +13,12 @@ use std::test::Fail;
 /// for a carriage return, and `forge` for the script and the text below. The input comes one byte
 /// at a time where the third field says so. A write that fails takes so many of its bytes.
 ///
-/// `done`: a last line without an end is done, too. `flush 2` is the flush before the read that
-/// finds the end, and `flush 3` the last one. The text before a bad line is passed on, and where
-/// that fails it is the sink's fault. A read that fails isn't tried again; the text so far is
-/// passed on before it. The datagram that is injected was made apart from this program: a plain
-/// packet that opens, and that nobody sent. The lines of generated runs are what the plain program
-/// of `scripts/baseline` prints, which was written apart from this one.
+/// `done`: a last line without an end is done, too. Behind a bad line nothing is read. `flush 2` is
+/// the flush before the read that finds the end, and `flush 3` the last one. The text before a bad
+/// line is passed on, and where that fails it is the sink's fault. A read that fails isn't tried
+/// again; the text so far is passed on before it. The datagram that is injected was made apart from
+/// this program: a plain packet that opens, and that nobody sent. The lines of generated runs are
+/// what the plain program of `scripts/baseline` prints, which was written apart from this one.
 const ROWS: &str = "done|show|-|~|bad empty~|10
 sink-fault|show|flush 2|~|bad empty~|0
 sink-fault|show|flush 3|~|bad empty~|10
@@ -33,6 +33,7 @@ source-fault|replay|read 1|forge||0
 done|show|bytes|~~|bad empty~bad empty~|20
 done|show|-|||0
 bad-script 1|show|-|03 ff||0
+bad-script 1|show|read 2|zz~||0
 bad-script 1|show|-|-~||0
 bad-script 1|show|-|030~||0
 bad-script 2|show|-|~03^~|bad empty~|10
@@ -44,6 +45,10 @@ bad-words|show show|-|~||0
 bad-words|Show|-|~||0
 bad-script 4|replay|-|# a comment~~end a 1 1 0123456789abcdefx~deliver 1 a 10.0.0.1:1935||0
 bad-script 2|replay|-|at 5~at 4~||0
+bad-script 4|replay|-|end a 65536 4096 The quick brown fox jumps over the lazy dog~end b 65536 4096 The quick brown fox jumps over the lazy dog.~open a b 10.0.0.2:1935~deliver 99 b 10.0.0.1:1935~|forge|67
+bad-script 4|replay|-|end i 65536 4096 abcdbcdecdefdefgefghfghighijhijkijkljklmklmnlmnomnopnopq~end a 65536 4096 The quick brown fox jumps over the lazy dog~end b 65536 4096 The quick brown fox jumps over the lazy dog.~redirect i b~||0
+bad-script 4|replay|-|end i 65536 4096 abcdbcdecdefdefgefghfghighijhijkijkljklmklmnlmnomnopnopq~end a 65536 4096 The quick brown fox jumps over the lazy dog~end b 65536 4096 The quick brown fox jumps over the lazy dog.~redirect i b 10.3.0.1:1 10.3.0.2:1 10.3.0.3:1 10.3.0.4:1 10.3.0.5:1 10.3.0.6:1 10.3.0.7:1 10.3.0.8:1 10.3.0.9:1 10.3.0.10:1 10.3.0.11:1 10.3.0.12:1 10.3.0.13:1 10.3.0.14:1 10.3.0.15:1 10.3.0.16:1 10.3.0.17:1~||0
+bad-script 4|replay|-|end i 65536 4096 abcdbcdecdefdefgefghfghighijhijkijkljklmklmnlmnomnopnopq~end a 65536 4096 The quick brown fox jumps over the lazy dog~end b 65536 4096 The quick brown fox jumps over the lazy dog.~redirect i b 10.3.0.1:1 10.3.0.1:1 10.3.0.1:1 10.3.0.1:1 10.3.0.1:1 10.3.0.1:1 10.3.0.1:1 10.3.0.1:1 10.3.0.1:1 10.3.0.1:1 10.3.0.1:1 10.3.0.1:1 10.3.0.1:1 10.3.0.1:1 10.3.0.1:1 10.3.0.1:1 10.3.0.1:1~||0
 forged 3|replay|-|end a 65536 4096 The quick brown fox jumps over the lazy dog~end b 65536 4096 The quick brown fox jumps over the lazy dog.~inject b 10.0.0.1:1935 f3c13152dd4b532b2e8a6279421e678998a7793cffffffffffffffffffffffffffffffffe7c11d5a60~open b a 10.0.0.1:1935~||0
 done|replay --generate 7 --steps 0|-||ends=8 steps=0 sent=0 started=0 born=0 opened=0 confirmed=0 ended=0 dropped=0 kept=0~|85
 done|replay --generate 7 --steps 1|-||ends=8 steps=1 sent=0 started=0 born=0 opened=0 confirmed=0 ended=0 dropped=0 kept=0~|85
@@ -194,12 +199,22 @@ fn a_long_run_ends_so(rt: HostRuntime) -> Result<(), Fail> {
     Ok(())
 }
 
+/// How a run of a command ends over these bytes.
+pub(crate) fn status_of_bytes(
+    alloc: Global,
+    word: &str,
+    bytes: Vec<u8>,
+    sink: &mut MemorySink,
+) -> Result<Status, AllocError> {
+    let words = words_of(alloc, word)?;
+    let mut source = MemorySource::new(bytes);
+    Ok(run_over(alloc, words.as_slice(), &mut source, sink))
+}
+
 /// How a run of a command ends over so many times a byte.
 fn status_over(alloc: Global, word: &str, byte: u8, count: usize) -> Result<Status, AllocError> {
-    let words = words_of(alloc, word)?;
-    let mut source = MemorySource::new(vec![in alloc; byte; count]?);
-    let mut sink = MemorySink::new(alloc);
-    Ok(run_over(alloc, words.as_slice(), &mut source, &mut sink))
+    let bytes = vec![in alloc; byte; count]?;
+    status_of_bytes(alloc, word, bytes, &mut MemorySink::new(alloc))
 }
 
 /// A source has a million lines at most.

@@ -1,7 +1,7 @@
-//! The tests of the program's crates and of those of scripts and reports, a module a crate, and of
-//! whole scripts, each run alone, through public items alone: what the two programs `rtmfp` and
-//! `rtmfp_refused` don't show already, whose files `stdin` and `stdout` are the rows of packets and
-//! of scripts.
+//! The tests of the program's crates and of those of scripts and reports, a module a crate, through
+//! public items alone: what the two programs `rtmfp` and `rtmfp_called` don't show already, whose
+//! files `stdin` and `stdout` are the rows of packets and of scripts. Whole scripts that are done are
+//! rows in the files of `examples`.
 #![tactic(auto)]
 
 #[cfg(test)]
@@ -16,7 +16,5 @@ mod report;
 mod running;
 #[cfg(test)]
 mod script;
-#[cfg(test)]
-mod transcripts;
 #[cfg(test)]
 mod words;

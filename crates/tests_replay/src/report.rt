@@ -1,4 +1,4 @@
-//! The lines of a report that the script of the program `rtmfp_refused` doesn't show: each cause
+//! The lines of a report that the script of the program `rtmfp_called` doesn't show: each cause
 //! and each end by its name, what is told of a datagram, why a row isn't added, and a refusal that no
 //! script comes to.
 

@@ -1,5 +1,5 @@
 //! Lines that are outside the grammar of a script, and the limits of its fields. What lines say is
-//! shown by the script of the program `rtmfp_refused`; what bytes count, here.
+//! shown by the script of the program `rtmfp_called`; what bytes count, here.
 
 use crate::cli::field;
 use rtmfp_script::{Said, ScriptLine, read_line};
