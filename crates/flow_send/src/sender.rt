@@ -35,19 +35,12 @@ use crate::row::HeldRow;
 use crate::rows::Rows;
 use crate::waiting::{MessageOptions, Waiting};
 use rtmfp_base::Memory;
+use rtmfp_base::limits::{BACKLOG, FRAGMENTS, MESSAGE};
 use rtmfp_data_chunks::{AckedSpans, Part, UserData, spell_flow_options};
 use rtmfp_forms::{Options, options_len, read_options};
 use rtmfp_vlu::vlu_len;
 use std::alloc::{AllocError, Global};
 use std::marker::Model;
-
-/// The most bytes of a message (own).
-const LONGEST: u64 = 1_048_576;
-
-/// The most bytes and fragments of messages that wait (own).
-const MOST_BYTES: u64 = 2_097_152;
-
-const MOST_FRAGMENTS: u64 = 65_536;
 
 /// The sender of a flow. Contracts see its id, options and priority, and what it keeps of its
 /// messages: the rows of the numbers above the forward number, and the messages that wait.
@@ -222,12 +215,12 @@ impl FlowSender {
         if self.finish.is_some() {
             return Some(QueueRefusal::Finished);
         }
-        if length > LONGEST {
-            return Some(QueueRefusal::TooLong(LONGEST));
+        if length > MESSAGE {
+            return Some(QueueRefusal::TooLong(MESSAGE));
         }
         let count = fragments_of(length);
         let held = self.waiting.bytes();
-        if held + length > MOST_BYTES || self.waiting.fragments() + count > MOST_FRAGMENTS {
+        if held + length > BACKLOG || self.waiting.fragments() + count > FRAGMENTS {
             return Some(QueueRefusal::Backlog(held));
         }
         if self.next() + u128::from(count) - 1 > u128::from(u64::MAX - 1) {

@@ -21,7 +21,8 @@ use Rattle.glare_core.specs.Standing.{starts_in, held, seen, count}
 use Rattle.glare_core.specs.Things.{near_of}
 use Rattle.glare_core.specs.Stands.{Stands, MakesWay, Ends}
 use Rattle.glare_core.specs.Ledger.{PeerRows, row_in, rows_after, rows_after_if, Ledger, new_ledger, held_with, floor_of, row_count, noted, noted_if}
-use Rattle.glare_core.specs.Calls.{where_true, first_that_stands, peers_full, start_held, start_refusal, started_fact, again_of, again_or, glare_of, birth_refusal, hear_refusal, way_made, born_fact, heard, heard_facts, heard_noted, opened_fact, confirmed_fact, ended_fact, MayEnd, IsOf}
+use Rattle.rtmfp_base.specs.Reasons.{where_true, first_that_stands}
+use Rattle.glare_core.specs.Calls.{peers_full, start_held, start_refusal, started_fact, again_of, again_or, glare_of, birth_refusal, hear_refusal, way_made, born_fact, heard, heard_facts, heard_noted, opened_fact, confirmed_fact, ended_fact, MayEnd, IsOf}
 use Rattle.glare_core.specs.Rows.{IsRoom}
 use Rattle.std.specs.FinMap.{len, contains_key}
 use Rattle.glare_core.specs.Account.{Fulfils, IsSettled, StandsFor, Gave}

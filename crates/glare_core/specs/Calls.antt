@@ -1,6 +1,7 @@
 -- What each call on a ledger answers.
 use Rattle.std.specs.Prelude.{ℕ, List, [], ◌∷◌, ◌+◌, ◌-◌, ◌^◌, ◌==◌, Bool, not, ◌&&◌, nat_le, Option, Some, None, Result, Ok, Err, is_some, is_none, if◌then◌else◌, ◌≡◌, IsSome}
 use Rattle.std.specs.Str.{bytes_eq}
+use Rattle.rtmfp_base.specs.Reasons.{where_true, first_that_stands}
 use Rattle.identity.specs.Order.{is_above}
 use Rattle.glare_core.specs.declared.facts.Why.{Why}
 use Rattle.glare_core.specs.declared.facts.Why.TheVariants.{Cancelled, Expired, Unconfirmed, Near, Far, Idle, Glare as ForGlare, Override as ForOverride}
@@ -19,16 +20,6 @@ use Rattle.glare_core.specs.declared.answers.HearRefusal.TheVariants.{Stale, Gla
 use Rattle.glare_core.specs.Standing.{peer_of, starts_in}
 use Rattle.glare_core.specs.Things.{IsAttempt, IsHalfOpen, IsSession, IsKept, near_of}
 use Rattle.glare_core.specs.Ledger.{noted, Ledger, held_with, floor_of, knows, row_count}
-
--- this answer where the test passes
-abbrev pub where_true : {A : Type 0} → Bool → A → Option A
-where_true test answer = if test then Some answer else None
-
--- the first of these that stands
-abbrev pub first_that_stands : {A : Type 0} → List (Option A) → Option A
-first_that_stands [] = None
-first_that_stands (None ∷ rest) = first_that_stands rest
-first_that_stands (Some answer ∷ rest) = Some answer
 
 -- The peer has no row, and there are as many rows as may be.
 abbrev pub peers_full : Ledger → List ℕ → Bool

@@ -7,7 +7,8 @@ ghost use Rattle.std.specs.Str.{bytes_eq};
 ghost use Rattle.glare_core.specs.declared.facts.Fact.{Fact};
 ghost use Rattle.glare_core.specs.Standing.{held, seen, count, peers_in};
 ghost use Rattle.glare_core.specs.Ledger.{held_with, floor_of, knows, row_count, new_ledger, noted, noted_if};
-ghost use Rattle.glare_core.specs.Calls.{where_true, start_refusal, started_fact, birth_refusal, hear_refusal, judged, heard, heard_facts, heard_noted, opened_fact, confirmed_fact, ended_fact, MayEnd};
+ghost use Rattle.rtmfp_base.specs.Reasons.{where_true};
+ghost use Rattle.glare_core.specs.Calls.{start_refusal, started_fact, birth_refusal, hear_refusal, judged, heard, heard_facts, heard_noted, opened_fact, confirmed_fact, ended_fact, MayEnd};
 ghost use Rattle.glare_core.specs.Account.{StandsFor, Gave};
 
 use crate::answers::{HearRefusal, Heard, Keying, StartRefusal};

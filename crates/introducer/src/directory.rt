@@ -10,12 +10,10 @@ use crate::refusal::RowRefusal;
 use crate::rows::Rows;
 use identity::Epd;
 use rtmfp_base::Memory;
+use rtmfp_base::limits::CANDIDATES;
 use rtmfp_forms::Address;
 use std::alloc::Global;
 use std::marker::Model;
-
-/// The most addresses of a row.
-const MOST_CANDIDATES: usize = 16;
 
 /// The most rows.
 const MOST_ROWS: usize = 1024;
@@ -67,7 +65,7 @@ impl Directory {
     pub fn row_refusal(&self, print: &[u8; 32], count: usize) -> Option<RowRefusal>
         ensures { result ≡ row_refusal self.now.rows print.now count }
     {
-        if count == 0 || count > MOST_CANDIDATES {
+        if count == 0 || count > CANDIDATES {
             return Some(RowRefusal::Candidates(count as u64));
         }
         if self.is_full_for(print) {

@@ -11,9 +11,6 @@ use std::marker::Model;
 /// The most addresses of an `open` (own).
 pub(crate) const MOST_CANDIDATES: usize = 32;
 
-/// The most addresses of a `redirect` (own).
-pub(crate) const MOST_OF_A_ROW: usize = 16;
-
 /// At most 32 addresses, in the order of the line.
 #[derive(Drop)]
 pub struct Candidates {

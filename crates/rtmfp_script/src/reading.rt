@@ -7,20 +7,12 @@ use crate::address::{address, addresses};
 use crate::bytes::bytes;
 use crate::fields::{cert, name, number, number32, split};
 use crate::flows::{read_abandon, read_finish, read_flow, read_queue};
-use crate::line::{Candidates, MOST_OF_A_ROW, Said, ScriptLine};
+use crate::line::{Candidates, Said, ScriptLine};
+use rtmfp_base::limits::{CANDIDATES, LINE, PLAIN, TAKEN};
 use rtmfp_base::{Memory, Message};
 use rtmfp_forms::Address;
 use rtmfp_text::Name;
 use std::alloc::Global;
-
-/// The most bytes of a line without its LF (own).
-const LONGEST: usize = 2_097_664;
-
-/// The most bytes of an `inject` (own).
-const INJECTED: usize = 2048;
-
-/// The most bytes of a `forge` (own).
-const FORGED: usize = 1164;
 
 #[tactic(auto, unfolding(crate::specs::Lines::end_of))]
 fn read_end(rest: &[u8]) -> Option<ScriptLine>
@@ -57,7 +49,7 @@ fn read_redirect(rest: &[u8]) -> Option<ScriptLine>
 fn row_said(name: Name, peer: Name, addresses: Candidates) -> Option<ScriptLine>
     ensures { result ≡ row_said name peer addresses }
 {
-    if addresses.as_slice().len() > MOST_OF_A_ROW {
+    if addresses.as_slice().len() > CANDIDATES {
         return None;
     }
     Some(ScriptLine::Redirect {
@@ -194,7 +186,7 @@ fn read_inject(alloc: Global, rest: &[u8]) -> Result<Option<ScriptLine>, Memory>
     ensures value { IfOk result (λ said. said ≡ inject_of rest.now) }
     ensures memory { IfErr result (λ _. StepTakesMemory (inject_of rest.now)) }
 {
-    let Some((name, from, bytes)) = bytes_at(alloc, rest, INJECTED)? else {
+    let Some((name, from, bytes)) = bytes_at(alloc, rest, TAKEN)? else {
         return Ok(None);
     };
     Ok(Some(ScriptLine::Inject { name, from, bytes }))
@@ -205,7 +197,7 @@ fn read_forge(alloc: Global, rest: &[u8]) -> Result<Option<ScriptLine>, Memory>
     ensures value { IfOk result (λ said. said ≡ forge_of rest.now) }
     ensures memory { IfErr result (λ _. StepTakesMemory (forge_of rest.now)) }
 {
-    let Some((name, from, bytes)) = bytes_at(alloc, rest, FORGED)? else {
+    let Some((name, from, bytes)) = bytes_at(alloc, rest, PLAIN)? else {
         return Ok(None);
     };
     Ok(Some(ScriptLine::Forge { name, from, bytes }))
@@ -274,7 +266,7 @@ fn read_step(alloc: Global, line: &[u8]) -> Result<Option<ScriptLine>, Memory>
     ensures value { IfOk result (λ said. said ≡ step_of line.now) }
     ensures memory { IfErr result (λ _. StepTakesMemory (step_of line.now)) }
 {
-    if line.len() > LONGEST {
+    if line.len() > LINE {
         return Ok(None);
     }
     match split(b' ', line) {

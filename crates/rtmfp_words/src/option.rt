@@ -4,10 +4,8 @@ ghost use Rattle.rtmfp_script.specs.Fields.{number_of};
 ghost use Rattle.rtmfp_words.specs.Reading.{seed_of, steps_of, setting_of, joined_of, apart_of, option_of};
 
 use crate::words::{behind, next_word};
+use rtmfp_base::limits::STEPS;
 use rtmfp_script::read_number;
-
-/// The most steps that a script is made of (own).
-const MOST_STEPS: u64 = 100_000;
 
 /// What an option says.
 #[derive(Clone, Copy)]
@@ -39,7 +37,7 @@ fn read_steps(value: &[u8]) -> Option<Setting>
     ensures { result ≡ steps_of value.now }
 {
     let steps = read_value(value)?;
-    if steps > MOST_STEPS {
+    if steps > STEPS {
         return None;
     }
     Some(Setting::Steps(steps))

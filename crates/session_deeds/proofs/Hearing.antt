@@ -18,10 +18,10 @@ use Rattle.flow_exchange.specs.Sending.{Sending, AbandonsFirst, Finishes, Hears,
 use Rattle.flow_exchange.specs.Sending.{abandons, finishes}
 use Rattle.flow_history.specs.Flow.{alone}
 use Rattle.flow_history.specs.Deeds.{Piece, Ack}
-use Rattle.glare_core.specs.Calls.{where_true, first_that_stands}
+use Rattle.rtmfp_base.specs.Reasons.{where_true, first_that_stands}
 use Rattle.session_core.specs.Closing.{is_held}
-use Rattle.session_flows.specs.declared.cause.FlowCause.{FlowCause}
-use Rattle.session_flows.specs.declared.cause.FlowCause.TheVariants.{WrongState, AckBeyond}
+use Rattle.rtmfp_base.specs.declared.cause.Cause.{Cause}
+use Rattle.rtmfp_base.specs.declared.cause.Cause.TheVariants.{WrongState, AckBeyond}
 use Rattle.session_flows.specs.declared.taking.TakingFlow.{TakingFlow}
 use Rattle.session_flows.specs.Keeping.{FlowsState, sending_at, with_flow, with_sending}
 use Rattle.session_flows.specs.Keeping.{with_taking, Stated, Abandoned, Did, nothing}
@@ -48,7 +48,7 @@ none_beyond : (o : Option ℕ) → option_map AckBeyond o ≡ None → o ≡ Non
 none_beyond None e = refl
 none_beyond (Some n) e = absurd cc
 
-last_cause : (a : Bool) (o : Option FlowCause) →
+last_cause : (a : Bool) (o : Option Cause) →
     first_that_stands (where_true a WrongState ∷ o ∷ []) ≡ None → o ≡ None
 last_cause true o e = absurd cc
 last_cause false None e = refl

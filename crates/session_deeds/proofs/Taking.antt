@@ -11,12 +11,12 @@ use Rattle.flow_recv.specs.Receiver.{Receiver, span, fresh, add_span, next_run, 
 use Rattle.flow_recv.proofs.Knowing.{apart_add}
 use Rattle.flow_history.specs.Run.{message_in, handed_next_by}
 use Rattle.flow_history.specs.Deeds.{Piece, Data}
-use Rattle.glare_core.specs.Calls.{where_true, first_that_stands}
+use Rattle.rtmfp_base.specs.Reasons.{where_true, first_that_stands}
 use Rattle.session_core.specs.Session.{SessionState}
 use Rattle.session_core.specs.Closing.{is_held}
-use Rattle.session_flows.specs.declared.cause.FlowCause.{FlowCause}
-use Rattle.session_flows.specs.declared.cause.FlowCause.TheVariants.{WrongState, UnknownFlow}
-use Rattle.session_flows.specs.declared.cause.FlowCause.TheVariants.{FlowsFull}
+use Rattle.rtmfp_base.specs.declared.cause.Cause.{Cause}
+use Rattle.rtmfp_base.specs.declared.cause.Cause.TheVariants.{WrongState, UnknownFlow}
+use Rattle.rtmfp_base.specs.declared.cause.Cause.TheVariants.{FlowsFull}
 use Rattle.session_flows.specs.declared.taking.TakingFlow.{TakingFlow}
 use Rattle.session_flows.specs.Told.{begins_with_a}
 use Rattle.session_flows.specs.Keeping.{FlowsState, taking_at, with_changed, new_taking, nothing}
@@ -81,7 +81,7 @@ all_false true b d h = absurd cc
 all_false false true d h = absurd cc
 all_false false false d h = refl
 
-early_none : (e r : Option FlowCause) → first_that_stands (e ∷ r ∷ []) ≡ None → e ≡ None
+early_none : (e r : Option Cause) → first_that_stands (e ∷ r ∷ []) ≡ None → e ≡ None
 early_none None r h = refl
 early_none (Some x) r h = absurd cc
 
