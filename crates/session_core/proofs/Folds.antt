@@ -162,10 +162,20 @@ secret_once s call =
     stays (λ (t : SessionState). t.secret)
     (record { stage = λ s x. refl; since = λ s x. refl; close_sent = λ s x. refl; keepalive = λ s x. refl; window = λ s x. refl; sealed = λ s x. refl }) s call
 
+generation_once : (s : SessionState) (call : Call) → (after_call s call).generation ≡ s.generation
+generation_once s (TakeStamps head moment) = refl
+generation_once s (MoveTo address) = refl
+generation_once s (Acknowledge bytes) = refl
+generation_once s (Lose by_time) = refl
+generation_once s call =
+    stays (λ (t : SessionState). t.generation)
+    (record { stage = λ s x. refl; since = λ s x. refl; close_sent = λ s x. refl; keepalive = λ s x. refl; window = λ s x. refl; sealed = λ s x. refl }) s call
+
 pub ends_stay : EndsStay
 ends_stay s calls = (
   kept_by_calls (λ (t : SessionState). t.joined) joined_once s calls,
   kept_by_calls (λ (t : SessionState). t.own) own_once s calls,
   kept_by_calls (λ (t : SessionState). t.role) role_once s calls,
   kept_by_calls (λ (t : SessionState). t.secret) secret_once s calls,
+  kept_by_calls (λ (t : SessionState). t.generation) generation_once s calls,
 )

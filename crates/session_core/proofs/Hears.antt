@@ -32,10 +32,10 @@ hears_by_taken s taken part e =
 
 -- ---- opening
 
-fits : (j : Joined) (own : List ℕ) (role : Role) (outward : Bool) (number : List ℕ)
-    → (take 8 number ≡ replicate 8 0) ↔ NumberFits (context_between j own role outward) number
-fits j own Initiator outward number = ((λ e. e), (λ e. e))
-fits j own Responder outward number = ((λ e. e), (λ e. e))
+fits : (g : ℕ) (j : Joined) (own : List ℕ) (role : Role) (outward : Bool) (number : List ℕ)
+    → (take 8 number ≡ replicate 8 0) ↔ NumberFits (context_between g j own role outward) number
+fits g j own Initiator outward number = ((λ e. e), (λ e. e))
+fits g j own Responder outward number = ((λ e. e), (λ e. e))
 
 both_true : (refusal : Option SealFault) (zeros : Bool) → (is_none refusal && zeros) ≡ true → (refusal ≡ None) × (zeros ≡ true)
 both_true None true h = (refl, refl)
@@ -50,7 +50,7 @@ opens_some_plain s part =
     let number : List ℕ = number_of part in
     let refusal : Option SealFault = open_refusal (inward_keys s) s.joined.near part in
     let zeros = bytes_eq-Decides (take 8 number) (replicate 8 0) in
-    let fit = fits s.joined s.own s.role false number in (
+    let fit = fits s.generation s.joined s.own s.role false number in (
       (λ h.
           let test = both_true refusal (is_session_number number) h in
           let plain : List ℕ = plain_of (inward_keys s) part in

@@ -19,16 +19,17 @@ not-not : (b : Bool) → not (not b) ≡ b
 not-not true = refl
 not-not false = refl
 
-meets : (a b : Joined) (own there : List ℕ) (role other : Role) (outward : Bool) → a.ni ≡ b.ni → a.nr ≡ b.nr → own ≡ b.peer → a.peer ≡ there
-    → a.near ≡ b.far → a.far ≡ b.near → role ≡ other_role other → context_between a own role outward ≡ context_between b there other (not outward)
-meets a b own there Initiator Responder outward ni nr first second near far roles = let e = not-not outward in cc
-meets a b own there Responder Initiator outward ni nr first second near far roles = cc
-meets a b own there Initiator Initiator outward ni nr first second near far roles = absurd (cc)
-meets a b own there Responder Responder outward ni nr first second near far roles = absurd (cc)
+meets : (g h : ℕ) (a b : Joined) (own there : List ℕ) (role other : Role) (outward : Bool) → a.ni ≡ b.ni → a.nr ≡ b.nr → own ≡ b.peer → a.peer ≡ there
+    → a.near ≡ b.far → a.far ≡ b.near → role ≡ other_role other → g ≡ h
+    → context_between g a own role outward ≡ context_between h b there other (not outward)
+meets g h a b own there Initiator Responder outward ni nr first second near far roles same = let e = not-not outward in cc
+meets g h a b own there Responder Initiator outward ni nr first second near far roles same = cc
+meets g h a b own there Initiator Initiator outward ni nr first second near far roles same = absurd (cc)
+meets g h a b own there Responder Responder outward ni nr first second near far roles same = absurd (cc)
 
 pub contexts_meet : ContextsMeet
 contexts_meet a b outward e =
-    meets a.joined b.joined a.own b.own a.role b.role outward e.ni e.nr e.first e.second e.near e.far e.roles
+    meets a.generation b.generation a.joined b.joined a.own b.own a.role b.role outward e.ni e.nr e.first e.second e.near e.far e.roles e.generation
 
 opens_where : (keys : Keys) (sid : ℕ) (part : List ℕ) → open_refusal keys sid part ≡ None → is_session_number (number_of part) ≡ true
     → opens_under keys sid part ≡ true

@@ -1,6 +1,6 @@
 -- How sessions end, and what is due of them.
 use Rattle.std.specs.Prelude.{ℕ, ◌-◌, [], ◌∷◌, Bool, true, false, ◌||◌, ◌&&◌, nat_le, if◌then◌else◌, Option, None, Some}
-use Rattle.glare_core.specs.Calls.{where_true, first_that_stands}
+use Rattle.rtmfp_base.specs.Reasons.{where_true, first_that_stands}
 use Rattle.session_core.specs.declared.stage.Stage.{Stage}
 use Rattle.session_core.specs.declared.stage.Stage.TheVariants.{Opening, Open, NearClose, FarLinger, Closed}
 use Rattle.session_core.specs.declared.stage.SessionDue.{SessionDue}

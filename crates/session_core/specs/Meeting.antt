@@ -11,10 +11,11 @@ abbrev pub other_role : Role → Role
 other_role Initiator = Responder
 other_role Responder = Initiator
 
--- these are the two ends of one session: they have its nonces, and each other's fingerprints and
--- session IDs
+-- these are the two ends of one session: they have its secret of one generation, its nonces, and
+-- each other's fingerprints and session IDs
 pub record AreEnds (a b : SessionState) : Type 0 where
   pub secret : a.secret ≡ b.secret
+  pub generation : a.generation ≡ b.generation
   pub ni : a.joined.ni ≡ b.joined.ni
   pub nr : a.joined.nr ≡ b.joined.nr
   pub first : a.own ≡ b.joined.peer

@@ -25,8 +25,9 @@ pub record SessionState : Type 0 where
   -- the own fingerprint
   pub own : List ℕ
   pub role : Role
-  -- the group secret
+  -- the group secret, and its generation
   pub secret : List ℕ
+  pub generation : ℕ
   -- where datagrams of the session are sent
   pub address : AddressParts
   pub stage : Stage
@@ -49,21 +50,22 @@ pub record SessionState : Type 0 where
 
 -- ---- the contexts
 
--- the context of packets away from an end of this role, or towards it: both ends name the
--- initiator's values first
-abbrev pub context_between : Joined → List ℕ → Role → Bool → Context
-context_between j own Initiator outward = SessionContext j.ni j.nr own j.peer j.near j.far outward
-context_between j own Responder outward = SessionContext j.ni j.nr j.peer own j.far j.near
-    (not outward)
+-- the context of packets of a generation, away from an end of this role or towards it: both ends
+-- name the initiator's values first
+abbrev pub context_between : ℕ → Joined → List ℕ → Role → Bool → Context
+context_between generation j own Initiator outward =
+    SessionContext generation j.ni j.nr own j.peer j.near j.far outward
+context_between generation j own Responder outward =
+    SessionContext generation j.ni j.nr j.peer own j.far j.near (not outward)
 
 abbrev pub context_of : SessionState → Bool → Context
-context_of s outward = context_between s.joined s.own s.role outward
+context_of s outward = context_between s.generation s.joined s.own s.role outward
 
 -- the keys of both directions are those of their contexts
-pub record IsKeyed (secret own : List ℕ) (joined : Joined) (role : Role) (inward outward : Keys)
-    : Type 0 where
-  pub towards : inward ≡ keys_of secret (context_between joined own role false)
-  pub away : outward ≡ keys_of secret (context_between joined own role true)
+pub record IsKeyed (secret : List ℕ) (generation : ℕ) (own : List ℕ) (joined : Joined) (role : Role)
+    (inward outward : Keys) : Type 0 where
+  pub towards : inward ≡ keys_of secret (context_between generation joined own role false)
+  pub away : outward ≡ keys_of secret (context_between generation joined own role true)
 
 -- ---- a new session
 
@@ -72,12 +74,14 @@ abbrev pub first_stage : Role → Stage
 first_stage Initiator = Open
 first_stage Responder = Opening
 
-abbrev pub new_session : Joined → List ℕ → Role → AddressParts → List ℕ → ℕ → SessionState
-new_session joined own role address secret begun = record {
+-- under a group secret of a generation
+abbrev pub new_session_under : ℕ → Joined → List ℕ → Role → AddressParts → List ℕ → ℕ → SessionState
+new_session_under generation joined own role address secret begun = record {
   joined = joined;
   own = own;
   role = role;
   secret = secret;
+  generation = generation;
   address = address;
   stage = first_stage role;
   since = begun;
@@ -90,6 +94,11 @@ new_session joined own role address secret begun = record {
   trip = None;
   congestion = first_congestion;
 }
+
+-- under the first group secret
+abbrev pub new_session : Joined → List ℕ → Role → AddressParts → List ℕ → ℕ → SessionState
+new_session joined own role address secret begun =
+    new_session_under 0 joined own role address secret begun
 
 -- ---- confirming
 

@@ -266,16 +266,16 @@ pub fn a_head_has_its_stamp_and_mode()
 /// Packets from the initiator are in the direction to the responder, and name the initiator's
 /// values first at both ends.
 pub fn a_context_names_the_initiator_first()
-    ensures out { (j : Joined) (own : List ℕ) →
-        context_between j own Initiator true ≡ SessionContext j.ni j.nr own j.peer j.near j.far
+    ensures out { (generation : ℕ) (j : Joined) (own : List ℕ) →
+        context_between generation j own Initiator true ≡ SessionContext generation j.ni j.nr own j.peer j.near j.far
         true }
-    ensures back { (j : Joined) (own : List ℕ) →
-        context_between j own Initiator false ≡ SessionContext j.ni j.nr own j.peer j.near j.far
+    ensures back { (generation : ℕ) (j : Joined) (own : List ℕ) →
+        context_between generation j own Initiator false ≡ SessionContext generation j.ni j.nr own j.peer j.near j.far
         false }
-    ensures responder_out { (j : Joined) (own : List ℕ) →
-        context_between j own Responder true ≡ SessionContext j.ni j.nr j.peer own j.far j.near
+    ensures responder_out { (generation : ℕ) (j : Joined) (own : List ℕ) →
+        context_between generation j own Responder true ≡ SessionContext generation j.ni j.nr j.peer own j.far j.near
         false }
-    ensures responder_back { (j : Joined) (own : List ℕ) →
-        context_between j own Responder false ≡ SessionContext j.ni j.nr j.peer own j.far j.near
+    ensures responder_back { (generation : ℕ) (j : Joined) (own : List ℕ) →
+        context_between generation j own Responder false ≡ SessionContext generation j.ni j.nr j.peer own j.far j.near
         true }
 {}

@@ -3,8 +3,8 @@
 ghost use Rattle.std.specs.Prelude.{◌≡◌, ◌↔◌, ◌+◌, ◌<◌, ◌^◌, IsTrue, List, ℕ, false, true, is_none, ◌≤◌, length, IfSome};
 ghost use Rattle.crypto_profile.specs.Keys.{keys_of};
 ghost use Rattle.crypto_profile.specs.Sealing.{Opens};
-ghost use Rattle.glare_core.specs.Calls.{where_true};
-ghost use Rattle.session_core.specs.Session.{SessionState, context_between, context_of, first_stage, new_session, is_opening, confirmed, mode_of, head_at, with_stamps, moved_to};
+ghost use Rattle.rtmfp_base.specs.Reasons.{where_true};
+ghost use Rattle.session_core.specs.Session.{SessionState, context_between, context_of, first_stage, new_session, new_session_under, is_opening, confirmed, mode_of, head_at, with_stamps, moved_to};
 ghost use Rattle.session_core.specs.Closing.{is_held, is_near_close, closed_near, asked_to_close, close_answered, first_due, after_due, needs_keepalive, kept_alive, with_acknowledged, with_loss};
 ghost use Rattle.session_core.specs.Deadline.{deadline};
 ghost use Rattle.session_core.specs.Congestion.{IsCongestion};
@@ -55,6 +55,7 @@ pub struct Session {
     own: [u8; 32],
     role: Role,
     secret: [u8; 32],
+    generation: u64,
     inward: Keys,
     outward: Keys,
     address: Address,
@@ -81,6 +82,7 @@ impl Model for Session {
       own = s.own;
       role = s.role;
       secret = s.secret;
+      generation = s.generation;
       address = s.address;
       stage = s.stage;
       since = s.since;
@@ -95,16 +97,23 @@ impl Model for Session {
       congestion = s.congestion;
     } };
 
-    ghost invariant = { λ s. IsKeyed s.secret s.own s.joined s.role s.inward s.outward ×
+    ghost invariant = { λ s. IsKeyed s.secret s.generation s.own s.joined s.role s.inward s.outward ×
         IsCongestion s.congestion };
 }
 
-/// The context of packets away from an end, or towards it.
-fn context_between(joined: &Joined, own: &[u8; 32], role: Role, outward: bool) -> Context
-    ensures { result ≡ context_between joined.now own.now role outward }
+/// The context of packets of a generation, away from an end or towards it.
+fn context_between(
+    generation: u64,
+    joined: &Joined,
+    own: &[u8; 32],
+    role: Role,
+    outward: bool,
+) -> Context
+    ensures { result ≡ context_between generation joined.now own.now role outward }
 {
     match role {
         Role::Initiator => Context::Session {
+            generation,
             ni: joined.ni,
             nr: joined.nr,
             fp_i: *own,
@@ -114,6 +123,7 @@ fn context_between(joined: &Joined, own: &[u8; 32], role: Role, outward: bool) -
             to_responder: outward,
         },
         Role::Responder => Context::Session {
+            generation,
             ni: joined.ni,
             nr: joined.nr,
             fp_i: joined.peer,
@@ -156,27 +166,37 @@ impl Session {
     ) -> Session
         ensures { result ≡ new_session joined.now own.now role address secret.now moment }
     {
-        Session::under(joined, own, role, address, &HmacKey::of(secret), moment)
+        Session::under(joined, own, role, address, &HmacKey::of(secret), 0, moment)
     }
 
-    /// The same under the group secret, which was hashed before.
+    /// The same under a group secret of this generation, which was hashed before. The session stays
+    /// in its generation (own).
     pub fn under(
         joined: &Joined,
         own: &[u8; 32],
         role: Role,
         address: Address,
         secret: &HmacKey,
+        generation: u64,
         moment: u64,
     ) -> Session
-        ensures { result ≡ new_session joined.now own.now role address secret.now moment }
+        ensures { result ≡ new_session_under generation joined.now own.now role address
+            secret.now moment }
     {
         Session {
             joined: *joined,
             own: *own,
             role,
             secret: *secret.bytes(),
-            inward: Keys::under(secret, &context_between(joined, own, role, false)),
-            outward: Keys::under(secret, &context_between(joined, own, role, true)),
+            generation,
+            inward: Keys::under(
+                secret,
+                &context_between(generation, joined, own, role, false),
+            ),
+            outward: Keys::under(
+                secret,
+                &context_between(generation, joined, own, role, true),
+            ),
             address,
             stage: first_stage(role),
             since: moment,
@@ -221,7 +241,7 @@ impl Session {
     pub fn context(&self, outward: bool) -> Context
         ensures { result ≡ context_of self.now outward }
     {
-        context_between(&self.joined, &self.own, self.role, outward)
+        context_between(self.generation, &self.joined, &self.own, self.role, outward)
     }
 
     /// The key of the keystream of packets away from this end, by which they are deciphered and
@@ -230,6 +250,13 @@ impl Session {
         ensures { result.now ≡ (keys_of self.now.secret (context_of self.now true)).enc }
     {
         self.outward.stream()
+    }
+
+    /// The generation of the group secret, which the session was begun in.
+    pub fn generation(&self) -> u64
+        ensures { result ≡ self.now.generation }
+    {
+        self.generation
     }
 
     /// The group secret.

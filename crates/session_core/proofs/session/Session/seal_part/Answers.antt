@@ -11,6 +11,7 @@ returns-clause-sealed c =
       own = c.self.inside.own;
       role = c.self.inside.role;
       secret = c.self.inside.secret;
+      generation = c.self.inside.generation;
       address = c.self.inside.address;
       stage = c.self.inside.stage;
       since = c.self.inside.since;
