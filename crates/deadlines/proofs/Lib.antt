@@ -5,4 +5,5 @@ pub mod Below
 pub mod Finding
 pub mod Widening
 pub mod Keeping
+pub mod Halving
 pub mod Rows

@@ -1,8 +1,10 @@
--- How the deadlines are kept: a heap whose first places are the entries, and for each slot its
--- place.
+-- How the deadlines are kept: two heaps, in each of which the first places are the entries, and for
+-- each slot its place.
 use Rattle.std.specs.Prelude.{ℕ, ◌≡◌, ◌≢◌, ◌≤◌, ◌<◌, ◌-◌, ◌/◌, zero, suc, ltb, List, map, length, slice_index_or, Option, Some, None, if◌then◌else◌}
-use Rattle.deadlines.specs.Deadlines.{Deadline, Slots, IsNamedApart}
+use Rattle.deadlines.specs.Deadlines.{Deadline, Slots}
 use Rattle.deadlines.specs.declared.entry.Entry.{Entry}
+use Rattle.deadlines.specs.declared.entry.Order.{Order}
+use Rattle.deadlines.specs.declared.entry.Order.TheVariants.{ByDeadline, ByNearId}
 
 abbrev pub blank : Entry
 blank = record { slot = 0; at = 0; near = 0 }
@@ -15,6 +17,14 @@ at_of entries place = (entry_at entries place).at
 
 abbrev pub near_of : List Entry → ℕ → ℕ
 near_of entries place = (entry_at entries place).near
+
+-- the number by which an entry stands in an order
+abbrev pub key_of : Order → Entry → ℕ
+key_of ByDeadline e = e.at
+key_of ByNearId e = e.near
+
+abbrev pub keys_of : Order → List Entry → ℕ → ℕ
+keys_of by entries place = key_of by (entry_at entries place)
 
 abbrev pub place_of : List ℕ → ℕ → ℕ
 place_of places slot = slice_index_or places slot 0
@@ -41,15 +51,15 @@ slots_of entries places count = map (kept_at entries count) places
 abbrev pub parent : ℕ → ℕ
 parent place = (place - 1) / 2
 
--- no entry is due before the one above it
+-- no entry comes before the one above it
 abbrev pub IsHeap : (ℕ → ℕ) → ℕ → Type 0
 IsHeap at count = (j : ℕ) → 0 < j → j < count → at (parent j) ≤ at j
 
--- what stands below the hole isn't due before what stands above it
+-- what stands below the hole doesn't come before what stands above it
 abbrev pub IsOver : (ℕ → ℕ) → ℕ → ℕ → Type 0
 IsOver at count hole = (j : ℕ) → 0 < j → j < count → parent j ≡ hole → 0 < hole → at (parent hole) ≤ at j
 
--- a heap, but that what stands at the hole may be too early or too late for its place
+-- a heap, but that what stands at the hole may come too early or too late for its place
 pub record IsHeapBut (at : ℕ → ℕ) (count hole : ℕ) : Type 0 where
   pub edges : (j : ℕ) → 0 < j → j < count → j ≢ hole → parent j ≢ hole → at (parent j) ≤ at j
   pub over : IsOver at count hole
@@ -72,14 +82,18 @@ IsBelow top place = (steps : ℕ) × (above steps place ≡ top)
 abbrev pub NoneBelow : List Entry → ℕ → ℕ → ℕ → Type 0
 NoneBelow entries count moment top = (place : ℕ) → place < count → IsBelow top place → moment < at_of entries place
 
+-- An entry that is due.
+pub record IsDuePlace (entries : List Entry) (count moment place : ℕ) : Type 0 where
+  pub inside : place < count
+  pub is_due : at_of entries place ≤ moment
+
 -- Among the entries at or below a place, that with the lowest near id of those that are due.
 pub record IsLowestBelow (entries : List Entry) (count moment top place : ℕ) : Type 0 where
   pub inside : place < count
   pub is_due : at_of entries place ≤ moment
   pub lowest : (other : ℕ) → other < count → IsBelow top other → at_of entries other ≤ moment → near_of entries place ≤ near_of entries other
 
-pub record IsKept (entries : List Entry) (places : List ℕ) (count : ℕ) : Type 0 where
+pub record IsKept (by : Order) (entries : List Entry) (places : List ℕ) (count : ℕ) : Type 0 where
   pub tied : IsTied entries places
   pub fits : count ≤ length places
-  pub heap : IsHeap (at_of entries) count
-  pub apart : IsNamedApart (slots_of entries places count)
+  pub heap : IsHeap (keys_of by entries) count

@@ -1,3 +1,4 @@
 pub mod Deadlines
 pub mod Inside
+pub mod Halves
 pub mod Edges

@@ -3,9 +3,9 @@
 ghost use Rattle.std.specs.Prelude.{◌≡◌, ◌+◌, [], IfSome, IfNone, IsOk, OnOk, OnErr};
 ghost use Rattle.deadlines.specs.Deadlines.{HasRoom, IsFreeFor, IsNextDue, NoneIsDue, deadline_set, deadline_cleared, with_room};
 
-use crate::edits::{put, take_out, widen};
-use crate::entry::Entry;
-use crate::search::lowest_due;
+use crate::entry::Order;
+use crate::halves::move_due;
+use crate::heap::Heap;
 use rtmfp_base::Memory;
 use std::alloc::Global;
 use std::marker::Model;
@@ -15,28 +15,32 @@ use std::marker::Model;
 /// Contracts see the slots that have room, which are those below a number, each with its entry or
 /// none. No two entries have one near id.
 ///
-/// It is a binary heap by deadlines, beside which each slot keeps the place of its entry. `set` and
-/// `clear` move an entry along one way through the heap; `due` looks at no more than twice the
-/// entries that are due and one.
+/// It is two binary heaps, in each of which each slot keeps the place of its entry: by deadlines
+/// what is due after the latest moment that `advance` was told, and by near ids what was due then.
+/// `set` and `clear` move an entry along one way through each heap. `advance` moves each entry that
+/// came due once, at a logarithm. `due` looks at one entry of each heap where the moment is the
+/// latest that `advance` was told, however many are due. At a later moment it looks at no more than
+/// twice the entries that came due since and two, at an earlier one at no more than twice those that
+/// came due since and two.
 #[derive(Drop)]
 pub struct Deadlines {
-    /// One for each slot with room: first the entries, as a heap, then the slots that have none.
-    entries: Vec<Entry>,
-    /// The place at which each slot stands.
-    places: Vec<usize>,
-    /// How many entries there are.
-    count: usize,
+    /// By deadlines: the entries that are due after the floor.
+    later: Heap,
+    /// By near ids: the entries that are due at the floor.
+    ready: Heap,
+    /// The latest moment that `advance` was told; 0 before.
+    floor: u64,
 }
 
 impl Model for Deadlines {
     ghost use Rattle.deadlines.specs.Deadlines.{Slots};
-    ghost use Rattle.deadlines.specs.Inside.{slots_of, IsKept};
+    ghost use Rattle.deadlines.specs.Halves.{IsParted, merged};
 
     ghost Value = { Slots };
 
-    ghost view = { λ d. slots_of d.entries.items d.places.items d.count };
+    ghost view = { λ d. merged d.later d.ready };
 
-    ghost invariant = { λ d. IsKept d.entries.items d.places.items d.count };
+    ghost invariant = { λ d. IsParted d.later d.ready d.floor };
 }
 
 impl Deadlines {
@@ -45,9 +49,9 @@ impl Deadlines {
         ensures { result ≡ [] }
     {
         Deadlines {
-            entries: Vec::new(alloc),
-            places: Vec::new(alloc),
-            count: 0,
+            later: Heap::new(alloc, Order::ByDeadline),
+            ready: Heap::new(alloc, Order::ByNearId),
+            floor: 0,
         }
     }
 
@@ -58,22 +62,14 @@ impl Deadlines {
         ensures room { OnOk result (HasRoom self.new slot) }
         ensures held { HasRoom self.old slot → IsOk result }
     {
-        if slot < self.places.len() {
-            return Ok(());
-        }
-        let Some(room) = slot.checked_add(1) else {
-            return Err(Memory);
-        };
-        let more = room.saturating_sub(self.places.len());
-        match self.entries.reserve(more) {
+        match self.later.reserve(slot) {
             Ok(()) => {}
             Err(_) => return Err(Memory),
         }
-        match self.places.reserve(more) {
+        match self.ready.reserve(slot) {
             Ok(()) => {}
             Err(_) => return Err(Memory),
         }
-        widen(&mut self.entries, &mut self.places, room);
         Ok(())
     }
 
@@ -83,22 +79,34 @@ impl Deadlines {
         requires free { IsFreeFor self.old slot near }
         ensures { self.new ≡ deadline_set self.old slot at near }
     {
-        self.count = put(
-            &mut self.entries,
-            &mut self.places,
-            self.count,
-            Entry { slot, at, near },
-        );
+        if at <= self.floor as u128 {
+            self.later.clear(slot);
+            self.ready.set(slot, at, near);
+            return;
+        }
+        self.ready.clear(slot);
+        self.later.set(slot, at, near);
     }
 
     /// Takes out the slot's entry, where there is one, and leaves its room. It takes no memory.
     pub fn clear(&mut self, slot: usize)
         ensures { self.new ≡ deadline_cleared self.old slot }
     {
-        if slot >= self.places.len() {
+        self.later.clear(slot);
+        self.ready.clear(slot);
+    }
+
+    /// Tells that `moment` has come, so that `due` finds what is due then at once. It changes
+    /// nothing that contracts see, and takes no memory. A moment that isn't after each one told
+    /// before changes nothing at all.
+    pub fn advance(&mut self, moment: u64)
+        ensures { self.new ≡ self.old }
+    {
+        if moment <= self.floor {
             return;
         }
-        self.count = take_out(&mut self.entries, &mut self.places, self.count, slot);
+        self.floor = moment;
+        move_due(&mut self.later, &mut self.ready, moment);
     }
 
     /// Of the slots with a deadline at most `moment` the one with the lowest near id; None where
@@ -107,9 +115,20 @@ impl Deadlines {
         ensures some { IfSome result (IsNextDue self.now moment) }
         ensures none { IfNone result (NoneIsDue self.now moment) }
     {
-        match lowest_due(&self.entries, self.count, 0, moment) {
-            None => None,
-            Some(place) => Some(self.entries[place].slot),
+        match self.ready.lowest_due(moment) {
+            None => match self.later.lowest_due(moment) {
+                None => None,
+                Some(later) => Some(later.slot),
+            },
+            Some(ready) => match self.later.lowest_due(moment) {
+                None => Some(ready.slot),
+                Some(later) => {
+                    if later.near < ready.near {
+                        return Some(later.slot);
+                    }
+                    Some(ready.slot)
+                }
+            },
         }
     }
 }

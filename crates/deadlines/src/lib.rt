@@ -1,4 +1,5 @@
-//! Deadlines of things that stand in slots: a binary heap in which an entry can move and go.
+//! Deadlines of things that stand in slots: two binary heaps in which an entry can move and go, of
+//! what is due later and of what came due.
 //!
 //! Only `Deadlines::reserve` takes memory.
 #![tactic(auto)]
@@ -7,6 +8,8 @@ mod deadlines;
 pub mod edges;
 mod edits;
 mod entry;
+mod halves;
+mod heap;
 mod order;
 mod places;
 mod search;

@@ -1,28 +1,28 @@
-//! Moves of one entry that is too early or too late for its place.
+//! Moves of one entry that stands too high or too low in its heap.
 
 ghost use Rattle.std.specs.Prelude.{◌≡◌, ◌<◌, ◌≤◌, ℕ, length, IfSome, IfNone};
-ghost use Rattle.deadlines.specs.Inside.{IsTied, IsHeap, IsHeapBut, IsHeapAbove, slots_of, at_of, parent};
+ghost use Rattle.deadlines.specs.Inside.{IsTied, IsHeap, IsHeapBut, IsHeapAbove, slots_of, keys_of, parent};
 
-use crate::entry::Entry;
+use crate::entry::{Entry, Order};
 use crate::places::exchange;
 
-/// Moves the entry at a place up, past each entry that is due later, and gives the place to which
+/// Moves the entry at a place up, past each entry that comes after it, and gives the place to which
 /// it came.
-fn rise(entries: &mut [Entry], places: &mut [usize], count: usize, from: usize) -> usize
+fn rise(by: Order, entries: &mut [Entry], places: &mut [usize], count: usize, from: usize) -> usize
     requires tied { IsTied entries.old places.old }
     requires within { from < count }
     requires fits { count ≤ length places.old }
-    requires but { IsHeapBut (at_of entries.old) count from }
+    requires but { IsHeapBut (keys_of by entries.old) count from }
     ensures tied { IsTied entries.new places.new }
     ensures long { length places.new ≡ length places.old }
     ensures slots { slots_of entries.new places.new count ≡ slots_of entries.old places.old count }
     ensures within { result < count }
-    ensures risen { IsHeapAbove (at_of entries.new) count result }
+    ensures risen { IsHeapAbove (keys_of by entries.new) count result }
 {
     let mut place = from;
     while place > 0 {
         let up = (place - 1) / 2;
-        if entries[up].at <= entries[place].at {
+        if by.key(entries[up]) <= by.key(entries[place]) {
             return place;
         }
         exchange(entries, places, place, up);
@@ -31,44 +31,44 @@ fn rise(entries: &mut [Entry], places: &mut [usize], count: usize, from: usize) 
     place
 }
 
-/// Of the places below a place that with the earlier entry; None where there are no such places.
-fn first_below(entries: &[Entry], count: usize, place: usize) -> Option<usize>
+/// Of the places below a place that whose entry comes first; None where there are no such places.
+fn first_below(by: Order, entries: &[Entry], count: usize, place: usize) -> Option<usize>
     requires fits { count ≤ length entries.now }
     ensures none { IfNone result ((j : ℕ) → 0 < j → parent j ≡ place → count ≤ j) }
     ensures below { IfSome result (λ child. parent child ≡ place) }
     ensures inside { IfSome result (λ child. child < count) }
     ensures under { IfSome result (λ child. 0 < child) }
     ensures first { IfSome result (λ child. (j : ℕ) → 0 < j → j < count → parent j ≡ place
-        → at_of entries.now child ≤ at_of entries.now j) }
+        → keys_of by entries.now child ≤ keys_of by entries.now j) }
 {
     if place >= count / 2 {
         return None;
     }
     let left = 2 * place + 1;
     let right = left + 1;
-    if right < count && entries[right].at < entries[left].at {
+    if right < count && by.key(entries[right]) < by.key(entries[left]) {
         return Some(right);
     }
     Some(left)
 }
 
-/// Moves the entry at a place down, past each entry that is due earlier.
-fn sink(entries: &mut [Entry], places: &mut [usize], count: usize, from: usize)
+/// Moves the entry at a place down, past each entry that comes before it.
+fn sink(by: Order, entries: &mut [Entry], places: &mut [usize], count: usize, from: usize)
     requires tied { IsTied entries.old places.old }
     requires within { from < count }
     requires fits { count ≤ length places.old }
-    requires above { IsHeapAbove (at_of entries.old) count from }
+    requires above { IsHeapAbove (keys_of by entries.old) count from }
     ensures tied { IsTied entries.new places.new }
     ensures long { length places.new ≡ length places.old }
     ensures slots { slots_of entries.new places.new count ≡ slots_of entries.old places.old count }
-    ensures heap { IsHeap (at_of entries.new) count }
+    ensures heap { IsHeap (keys_of by entries.new) count }
 {
     let mut place = from;
     loop {
-        let Some(child) = first_below(entries, count, place) else {
+        let Some(child) = first_below(by, entries, count, place) else {
             return;
         };
-        if entries[place].at <= entries[child].at {
+        if by.key(entries[place]) <= by.key(entries[child]) {
             return;
         }
         exchange(entries, places, place, child);
@@ -77,16 +77,16 @@ fn sink(entries: &mut [Entry], places: &mut [usize], count: usize, from: usize)
 }
 
 /// Moves the entry at a place to where it belongs.
-pub fn settle(entries: &mut [Entry], places: &mut [usize], count: usize, place: usize)
+pub fn settle(by: Order, entries: &mut [Entry], places: &mut [usize], count: usize, place: usize)
     requires tied { IsTied entries.old places.old }
     requires within { place < count }
     requires fits { count ≤ length places.old }
-    requires but { IsHeapBut (at_of entries.old) count place }
+    requires but { IsHeapBut (keys_of by entries.old) count place }
     ensures tied { IsTied entries.new places.new }
     ensures long { length places.new ≡ length places.old }
     ensures slots { slots_of entries.new places.new count ≡ slots_of entries.old places.old count }
-    ensures heap { IsHeap (at_of entries.new) count }
+    ensures heap { IsHeap (keys_of by entries.new) count }
 {
-    let risen = rise(entries, places, count, place);
-    sink(entries, places, count, risen);
+    let risen = rise(by, entries, places, count, place);
+    sink(by, entries, places, count, risen);
 }
