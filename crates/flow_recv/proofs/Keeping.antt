@@ -1,7 +1,7 @@
 -- The runs as a map by their first numbers, and the numbers of those that are whole.
 use Rattle.std.proofs.Common.{◌≡◌, ℕ, ◌+◌, ◌<◌, ◌≤◌, nat_lt, ◌==◌, cond, Bool, true, false, ◌&&◌, List, [], ◌∷◌, length, Option, Some, None, refl, ap, sym, ◌∙◌, subst, arith, inl, inr}
 use Rattle.std.specs.Prelude.{IfSome}
-use Rattle.std.specs.Option.{IsSomeAnd}
+use Rattle.std.specs.Option.{IsSomeAnd, option_map, unwrap_or}
 use Rattle.std.proofs.lemmas.Map.Steps.{set_value_same}
 use Rattle.std.specs.Ordering.{nat_cmp, match_ordering}
 use Rattle.std.specs.declared.cmp.Ordering.TheVariants.{Less}
@@ -336,63 +336,72 @@ keys_changed : (f : Run → Run) (n : ℕ) (es : List (ℕ × Run)) → keys_of 
 keys_changed f n [] = refl
 keys_changed f n (e ∷ es) = keys_if f n e es (e.0 == n) (keys_changed f n es)
 
-rises : (es : List (ℕ × Run)) (ks : List ℕ) → IsKept es ks → Rising 0 (values_of es)
-rises es ks k = rising_keyed (values_of es) (subst (λ ds. IsStrictlySortedBy nat_cmp (keys_of ds)) k.keyed k.order)
+and_is : (i w : Bool) → i ≡ true → (i && w) ≡ w
+and_is true w e = refl
+and_is false w e = absurd cc
+
+-- what is marked where the whole runs are indexed
+unmarked : (i w : Bool) (n : ℕ) (ks ls : List ℕ) → ls ≡ marked (i && w) n ks → i ≡ true → ls ≡ marked w n ks
+unmarked i w n ks ls e t = e ∙ ap (λ v. marked v n ks) (and_is i w t)
+
+rises : (i : Bool) (es : List (ℕ × Run)) (ks : List ℕ) → IsKept i es ks → Rising 0 (values_of es)
+rises i es ks k = rising_keyed (values_of es) (subst (λ ds. IsStrictlySortedBy nat_cmp (keys_of ds)) k.keyed k.order)
 
 values_are : (fs : List (ℕ × Run)) (xs : List Run) → fs ≡ keyed xs → values_of fs ≡ xs
 values_are fs xs e = ap (λ ds. values_of ds) e ∙ values_keyed xs
 
-kept_from : (fs : List (ℕ × Run)) (ls : List ℕ) (xs : List Run) → IsStrictlySortedBy nat_cmp (keys_of fs) → fs ≡ keyed xs → ls ≡ whole_firsts xs → IsKept fs ls
-kept_from fs ls xs o e w =
+kept_from : (i : Bool) (fs : List (ℕ × Run)) (ls : List ℕ) (xs : List Run) → IsStrictlySortedBy nat_cmp (keys_of fs) → fs ≡ keyed xs → (i ≡ true → ls ≡ whole_firsts xs) → IsKept i fs ls
+kept_from i fs ls xs o e w =
     let v = sym (values_are fs xs e) in
-    record { order = o; keyed = e ∙ ap keyed v; whole = w ∙ ap whole_firsts v }
+    record { order = o; keyed = e ∙ ap keyed v; whole = λ t. w t ∙ ap whole_firsts v }
 
-pub kept_changed : (es fs : List (ℕ × Run)) (ks ls : List ℕ) (to : Run → Run) (r w : Bool) (n : ℕ) → IsKept es ks → fs ≡ changed_entry to n es → Rears to r → w ≡ (front_of (lookup (is_key n) es) && r) → ls ≡ marked w n ks
-    → IfSome (run_at n (values_of es)) (λ y. is_whole y ≡ false) → IsKept fs ls × (values_of fs ≡ changed_run to n (values_of es))
-kept_changed es fs ks ls to r w n k e f g h i =
+pub kept_changed : (i : Bool) (es fs : List (ℕ × Run)) (ks ls : List ℕ) (to : Run → Run) (r w : Bool) (n : ℕ) → IsKept i es ks → fs ≡ changed_entry to n es → Rears to r → w ≡ (front_of (lookup (is_key n) es) && r) → ls ≡ marked (i && w) n ks
+    → IfSome (run_at n (values_of es)) (λ y. is_whole y ≡ false) → IsKept i fs ls × (values_of fs ≡ changed_run to n (values_of es))
+kept_changed i es fs ks ls to r w n k e f g h l =
     let xs = values_of es in
     let all : fs ≡ keyed (changed_run to n xs) = e ∙ (ap (changed_entry to n) k.keyed ∙ changed_keyed to n xs f.first) in
     let order = subst (λ qs. IsStrictlySortedBy nat_cmp qs) (sym (ap keys_of e ∙ keys_changed to n es)) k.order in
     let w' : w ≡ (front_of (run_at n xs) && r) = g ∙ ap (λ o. front_of o && r) (ap (λ ds. lookup (is_key n) ds) k.keyed ∙ lookup_keyed n xs) in
-    let whole : ls ≡ whole_firsts (changed_run to n xs) = h ∙ (ap (λ v. marked v n ks) w' ∙ (ap (λ qs. marked (front_of (run_at n xs) && r) n qs) k.whole ∙ sym (whole_changed to r n 0 xs f (rises es ks k) i))) in
-    (kept_from fs ls (changed_run to n xs) order all whole, values_are fs (changed_run to n xs) all)
+    let whole : i ≡ true → ls ≡ whole_firsts (changed_run to n xs) = λ t. unmarked i w n ks ls h t ∙ (ap (λ v. marked v n ks) w' ∙ (ap (λ qs. marked (front_of (run_at n xs) && r) n qs) (k.whole t) ∙ sym (whole_changed to r n 0 xs f (rises i es ks k) l))) in
+    (kept_from i fs ls (changed_run to n xs) order all whole, values_are fs (changed_run to n xs) all)
 
-pub kept_undone : (es fs : List (ℕ × Run)) (ks ls : List ℕ) (w : Bool) (n : ℕ) → IsKept es ks → fs ≡ es → ls ≡ remove_key (is_key n) (marked w n ks) → IfSome (run_at n (values_of es)) (λ y. is_whole y ≡ false) → IsKept fs ls
-kept_undone es fs ks ls w n k e f i =
-    let lacks = subst (Lacks n) (sym k.whole) (lacks_not_whole n 0 (values_of es) (rises es ks k) i) in
-    let ls' : ls ≡ ks = f ∙ undo w n ks lacks in
-    subst (λ ds. IsKept ds ls) (sym e) (subst (IsKept es) (sym ls') k)
+pub kept_undone : (i : Bool) (es fs : List (ℕ × Run)) (ks ls : List ℕ) (w : Bool) (n : ℕ) → IsKept i es ks → fs ≡ es → ls ≡ remove_key (is_key n) (marked (i && w) n ks) → IfSome (run_at n (values_of es)) (λ y. is_whole y ≡ false) → IsKept i fs ls
+kept_undone i es fs ks ls w n k e f l =
+    let whole : i ≡ true → ls ≡ whole_firsts (values_of es) = λ t.
+    let lacks = subst (Lacks n) (sym (k.whole t)) (lacks_not_whole n 0 (values_of es) (rises i es ks k) l) in
+    f ∙ (undo (i && w) n ks lacks ∙ k.whole t) in
+    subst (λ ds. IsKept i ds ls) (sym e) (record { order = k.order; keyed = k.keyed; whole = whole })
 
 absent : (o : Option Run) → o ≡ None → IfSome o (λ y. is_whole y ≡ false)
 absent None e = tt
 absent (Some y) e = absurd cc
 
-pub kept_with : (es fs : List (ℕ × Run)) (ks ls : List ℕ) (x : Run) (n : ℕ) (w : Bool) → IsKept es ks → IsStrictlySortedBy nat_cmp (keys_of fs) → fs ≡ insert_entry nat_cmp es n x → n ≡ x.first → w ≡ is_whole x → ls ≡ marked w n ks
-    → run_at x.first (values_of es) ≡ None → IsKept fs ls × (values_of fs ≡ with_run x (values_of es))
-kept_with es fs ks ls x n w k o e f g h none =
+pub kept_with : (i : Bool) (es fs : List (ℕ × Run)) (ks ls : List ℕ) (x : Run) (n : ℕ) (w : Bool) → IsKept i es ks → IsStrictlySortedBy nat_cmp (keys_of fs) → fs ≡ insert_entry nat_cmp es n x → n ≡ x.first → w ≡ is_whole x → ls ≡ marked (i && w) n ks
+    → run_at x.first (values_of es) ≡ None → IsKept i fs ls × (values_of fs ≡ with_run x (values_of es))
+kept_with i es fs ks ls x n w k o e f g h none =
     let xs = values_of es in
     let all : fs ≡ keyed (with_run x xs) = e ∙ (ap (λ m. insert_entry nat_cmp es m x) f ∙ (ap (λ ds. insert_entry nat_cmp ds x.first x) k.keyed ∙ insert_keyed x xs none)) in
-    let whole : ls ≡ whole_firsts (with_run x xs) = h ∙ (ap (λ v. marked v n ks) g ∙ (ap (λ m. marked (is_whole x) m ks) f ∙ (ap (marked (is_whole x) x.first) k.whole ∙ sym (whole_with x 0 xs (rises es ks k) none)))) in
-    (kept_from fs ls (with_run x xs) o all whole, values_are fs (with_run x xs) all)
+    let whole : i ≡ true → ls ≡ whole_firsts (with_run x xs) = λ t. unmarked i w n ks ls h t ∙ (ap (λ v. marked v n ks) g ∙ (ap (λ m. marked (is_whole x) m ks) f ∙ (ap (marked (is_whole x) x.first) (k.whole t) ∙ sym (whole_with x 0 xs (rises i es ks k) none)))) in
+    (kept_from i fs ls (with_run x xs) o all whole, values_are fs (with_run x xs) all)
 
-pub kept_unchanged : (es fs : List (ℕ × Run)) (ks ls : List ℕ) (n m : ℕ) (w : Bool) → IsKept es ks → fs ≡ es → ls ≡ remove_key (is_key n) (marked w n ks) → n ≡ m → run_at m (values_of es) ≡ None → IsKept fs ls
-kept_unchanged es fs ks ls n m w k e f s none = kept_undone es fs ks ls w n k e f (absent (run_at n (values_of es)) (ap (λ q. run_at q (values_of es)) s ∙ none))
+pub kept_unchanged : (i : Bool) (es fs : List (ℕ × Run)) (ks ls : List ℕ) (n m : ℕ) (w : Bool) → IsKept i es ks → fs ≡ es → ls ≡ remove_key (is_key n) (marked (i && w) n ks) → n ≡ m → run_at m (values_of es) ≡ None → IsKept i fs ls
+kept_unchanged i es fs ks ls n m w k e f s none = kept_undone i es fs ks ls w n k e f (absent (run_at n (values_of es)) (ap (λ q. run_at q (values_of es)) s ∙ none))
 
-pub kept_without : (es fs : List (ℕ × Run)) (ks ls : List ℕ) (n : ℕ) → IsKept es ks → IsStrictlySortedBy nat_cmp (keys_of fs) → fs ≡ remove_entry (is_key n) es → ls ≡ remove_key (is_key n) ks
-    → IsKept fs ls × (values_of fs ≡ without_run n (values_of es))
-kept_without es fs ks ls n k o e f =
+pub kept_without : (i : Bool) (es fs : List (ℕ × Run)) (ks ls : List ℕ) (n : ℕ) → IsKept i es ks → IsStrictlySortedBy nat_cmp (keys_of fs) → fs ≡ remove_entry (is_key n) es → ls ≡ remove_key (is_key n) ks
+    → IsKept i fs ls × (values_of fs ≡ without_run n (values_of es))
+kept_without i es fs ks ls n k o e f =
     let xs = values_of es in
     let all : fs ≡ keyed (without_run n xs) = e ∙ (ap (remove_entry (is_key n)) k.keyed ∙ remove_keyed n xs) in
-    let whole : ls ≡ whole_firsts (without_run n xs) = f ∙ (ap (remove_key (is_key n)) k.whole ∙ sym (whole_without n 0 xs (rises es ks k))) in
-    (kept_from fs ls (without_run n xs) o all whole, values_are fs (without_run n xs) all)
+    let whole : i ≡ true → ls ≡ whole_firsts (without_run n xs) = λ t. f ∙ (ap (remove_key (is_key n)) (k.whole t) ∙ sym (whole_without n 0 xs (rises i es ks k))) in
+    (kept_from i fs ls (without_run n xs) o all whole, values_are fs (without_run n xs) all)
 
 -- a run is changed, and a later one is dropped
-pub kept_joined : (es fs : List (ℕ × Run)) (ks ms ls : List ℕ) (to : Run → Run) (r w : Bool) (n g : ℕ) → IsKept es ks → IsStrictlySortedBy nat_cmp (keys_of fs) → fs ≡ remove_entry (is_key g) (changed_entry to n es) → Rears to r
-    → w ≡ (front_of (lookup (is_key n) es) && r) → ms ≡ marked w n ks → ls ≡ remove_key (is_key g) ms → IfSome (run_at n (values_of es)) (λ y. is_whole y ≡ false)
-    → IsKept fs ls × (values_of fs ≡ without_run g (changed_run to n (values_of es)))
-kept_joined es fs ks ms ls to r w n g k o e f h m l i =
-    let c = kept_changed es (changed_entry to n es) ks ms to r w n k refl f h m i in
-    let d = kept_without (changed_entry to n es) fs ms ls g c.0 o e l in
+pub kept_joined : (i : Bool) (es fs : List (ℕ × Run)) (ks ms ls : List ℕ) (to : Run → Run) (r w : Bool) (n g : ℕ) → IsKept i es ks → IsStrictlySortedBy nat_cmp (keys_of fs) → fs ≡ remove_entry (is_key g) (changed_entry to n es) → Rears to r
+    → w ≡ (front_of (lookup (is_key n) es) && r) → ms ≡ marked (i && w) n ks → ls ≡ remove_key (is_key g) ms → IfSome (run_at n (values_of es)) (λ y. is_whole y ≡ false)
+    → IsKept i fs ls × (values_of fs ≡ without_run g (changed_run to n (values_of es)))
+kept_joined i es fs ks ms ls to r w n g k o e f h m l q =
+    let c = kept_changed i es (changed_entry to n es) ks ms to r w n k refl f h m q in
+    let d = kept_without i (changed_entry to n es) fs ms ls g c.0 o e l in
     (d.0, d.1 ∙ ap (without_run g) c.1)
 
 -- ---- a run that is taken out and put back, or not
@@ -457,13 +466,48 @@ some_and None f h = h
 some_and (Some z) f h = f z refl h
 
 -- the first whole run is taken out
-pub kept_taken : (es fs : List (ℕ × Run)) (ks ls : List ℕ) (n : ℕ) → IsKept es ks → IsStrictlySortedBy nat_cmp (keys_of fs) → fs ≡ remove_entry (is_key n) es → ks ≡ n ∷ ls
-    → IsKept fs ls × (values_of fs ≡ without_first is_whole (values_of es)) × (lookup (is_key n) es ≡ first_of is_whole (values_of es))
-kept_taken es fs ks ls n k o e f =
+pub kept_taken : (i : Bool) (es fs : List (ℕ × Run)) (ks ls : List ℕ) (n : ℕ) → i ≡ true → IsKept i es ks → IsStrictlySortedBy nat_cmp (keys_of fs) → fs ≡ remove_entry (is_key n) es → ks ≡ n ∷ ls
+    → IsKept i fs ls × (values_of fs ≡ without_first is_whole (values_of es)) × (lookup (is_key n) es ≡ first_of is_whole (values_of es))
+kept_taken i es fs ks ls n t k o e f =
     let xs = values_of es in
-    let first = first_whole n ls 0 xs (rises es ks k) (sym k.whole ∙ f) in
-    let r = kept_without es fs ks ls n k o e (sym (ap (remove_key (is_key n)) f ∙ remove_first n ls)) in
+    let first = first_whole n ls 0 xs (rises i es ks k) (sym (k.whole t) ∙ f) in
+    let r = kept_without i es fs ks ls n k o e (sym (ap (remove_key (is_key n)) f ∙ remove_first n ls)) in
     (r.0, r.1 ∙ first.1, ap (λ ds. lookup (is_key n) ds) k.keyed ∙ (lookup_keyed n xs ∙ first.0))
+
+-- the same where they aren't indexed, by the number of the first one
+listed_if : (y : Run) (later : List Run) (n : ℕ) (w : Bool) → Some n ≡ option_map (λ y. y.first) (cond w (Some y) (first_of is_whole later))
+    → (Some n ≡ option_map (λ y. y.first) (first_of is_whole later) → (ks : List ℕ) × (whole_firsts later ≡ n ∷ ks)) → (ks : List ℕ) × (cond w (y.first ∷ whole_firsts later) (whole_firsts later) ≡ n ∷ ks)
+listed_if y later n true s ih = let m : n ≡ y.first = ap (λ (o : Option ℕ). unwrap_or o n) s in (whole_firsts later, ap (λ k. k ∷ whole_firsts later) (sym m))
+listed_if y later n false s ih = ih s
+
+pub first_listed : (xs : List Run) (n : ℕ) → Some n ≡ option_map (λ y. y.first) (first_of is_whole xs) → (ks : List ℕ) × (whole_firsts xs ≡ n ∷ ks)
+first_listed [] n e = absurd cc
+first_listed (y ∷ later) n e = listed_if y later n (is_whole y) e (λ s. first_listed later n s)
+
+unlisted_if : (y : Run) (later : List Run) (w : Bool) → None ≡ option_map (λ y. y.first) (cond w (Some y) (first_of is_whole later))
+    → (None ≡ option_map (λ y. y.first) (first_of is_whole later) → whole_firsts later ≡ []) → cond w (y.first ∷ whole_firsts later) (whole_firsts later) ≡ []
+unlisted_if y later true s ih = absurd cc
+unlisted_if y later false s ih = ih s
+
+pub none_listed : (xs : List Run) → None ≡ option_map (λ y. y.first) (first_of is_whole xs) → whole_firsts xs ≡ []
+none_listed [] e = refl
+none_listed (y ∷ later) e = unlisted_if y later (is_whole y) e (λ s. none_listed later s)
+
+pub kept_unlisted : (es fs : List (ℕ × Run)) (n : ℕ) → IsKept false es [] → IsStrictlySortedBy nat_cmp (keys_of fs) → fs ≡ remove_entry (is_key n) es → Some n ≡ option_map (λ y. y.first) (first_of is_whole (values_of es))
+    → IsKept false fs [] × (values_of fs ≡ without_first is_whole (values_of es)) × (lookup (is_key n) es ≡ first_of is_whole (values_of es))
+kept_unlisted es fs n k o e f =
+    let xs = values_of es in
+    let p = first_listed xs n f in
+    let first = first_whole n p.0 0 xs (rises false es [] k) p.1 in
+    let r = kept_without false es fs [] [] n k o e refl in
+    (r.0, r.1 ∙ first.1, ap (λ ds. lookup (is_key n) ds) k.keyed ∙ (lookup_keyed n xs ∙ first.0))
+
+-- keys that aren't those of the whole runs don't matter
+pub kept_anyway : (i : Bool) (es : List (ℕ × Run)) (ks ls : List ℕ) → i ≡ false → IsKept i es ks → IsKept false es ls
+kept_anyway i es ks ls f k = record { order = k.order; keyed = k.keyed; whole = λ t. absurd (Rattle.std.proofs.lemmas.Bool.false≢true t) }
+
+pub kept_again : (i : Bool) (es : List (ℕ × Run)) (ks ls : List ℕ) → i ≡ false → IsKept false es ks → IsKept i es ls
+kept_again i es ks ls f k = record { order = k.order; keyed = k.keyed; whole = λ t. absurd (Rattle.std.proofs.lemmas.Bool.false≢true (sym f ∙ t)) }
 
 pub no_keys : (ks : List ℕ) → (0 < length ks → false ≡ true) → ks ≡ []
 no_keys [] h = refl

@@ -1,11 +1,10 @@
 -- Whole runs stay.
-use Rattle.std.proofs.Common.{◌≡◌, ℕ, ◌+◌, ◌-◌, ◌≤◌, nat_lt, cond, not, Bool, true, false, ◌||◌, List, [], ◌∷◌, Some, length, refl, ap, ◌∙◌, arith}
+use Rattle.std.proofs.Common.{◌≡◌, ℕ, ◌+◌, ◌-◌, ◌≤◌, cond, not, Bool, true, false, ◌||◌, List, [], ◌∷◌, Option, Some, None, length, refl, ap, ◌∙◌, arith}
 use Rattle.std.specs.List.{filter}
-use Rattle.std.specs.Option.{is_some}
-use Rattle.std.proofs.lemmas.Bool.{lt-ltb}
+use Rattle.std.specs.Option.{is_some, option_map}
 use Rattle.flow_recv.specs.declared.spans.Span.{Span}
 use Rattle.rtmfp_data_chunks.specs.Runs.{Run, is_whole}
-use Rattle.flow_recv.specs.Receiver.{lacks, is_alive, first_of}
+use Rattle.flow_recv.specs.Receiver.{lacks, is_alive}
 use Rattle.flow_recv.specs.Keyed.{AllWhole, whole_firsts, stays, is_between}
 
 shorter_if : (n : ℕ) (ks : List ℕ) (later : List Run) (t : Bool) → length ks ≤ length later → length (cond t (n ∷ ks) ks) ≤ length later + 1
@@ -27,15 +26,10 @@ all_whole (y ∷ later) e =
     let p = all_if y.first (whole_firsts later) later (is_whole y) (whole_few later) (omega (arith, e)) in
     (p.0, all_whole later p.1)
 
-some_if : (y : Run) (later : List Run) (t : Bool) → nat_lt 0 (length (whole_firsts later)) ≡ is_some (first_of is_whole later)
-    → nat_lt 0 (length (cond t (y.first ∷ whole_firsts later) (whole_firsts later))) ≡ is_some (cond t (Some y) (first_of is_whole later))
-some_if y later true e = lt-ltb 0 (length (y.first ∷ whole_firsts later)) (omega arith)
-some_if y later false e = e
-
--- a run is whole where there is a number of one
-pub some_whole : (runs : List Run) → nat_lt 0 (length (whole_firsts runs)) ≡ is_some (first_of is_whole runs)
-some_whole [] = refl
-some_whole (y ∷ later) = some_if y later (is_whole y) (some_whole later)
+-- a run is there where its number is
+pub some_first : (o : Option Run) → is_some (option_map (λ y. y.first) o) ≡ is_some o
+some_first None = refl
+some_first (Some y) = refl
 
 alive_if : (f r before after : Bool) → cond f r false ≡ true → not (cond f (cond r false (not after)) (cond before (cond r false (not after)) true)) ≡ true
 alive_if true true before after e = refl

@@ -7,7 +7,8 @@ use Rattle.std.specs.Map.{keys_of, values_of}
 use Rattle.std.specs.Ordering.{nat_cmp}
 use Rattle.std.specs.List.Sorted.{IsStrictlySortedBy}
 use Rattle.flow_recv.specs.declared.spans.Span.{Span}
-use Rattle.rtmfp_data_chunks.specs.Runs.{Run, is_whole, fits}
+use Rattle.rtmfp_data_chunks.specs.declared.user_data.Part.TheVariants.{Whole}
+use Rattle.rtmfp_data_chunks.specs.Runs.{Run, single, is_whole, fits}
 use Rattle.rtmfp_data_chunks.specs.HandsOver.{IsIn}
 use Rattle.flow_recv.specs.Receiver.{is_alive, hands}
 
@@ -37,9 +38,9 @@ changed_entry f n [] = []
 changed_entry f n (e ∷ later) = if e.0 == n then (e.0, f e.1) ∷ later
     else e ∷ changed_entry f n later
 
--- without its bytes
+-- a fragment without bytes in its place
 abbrev pub emptied : Run → Run
-emptied y = record { first = y.first; last = y.last; front = y.front; rear = y.rear; bytes = [] }
+emptied y = single y.first Whole []
 
 -- two runs and the bytes between them, joined
 abbrev pub over : Run → List ℕ → Run → Run
@@ -74,11 +75,11 @@ AllWhole [] = Unit {0}
 AllWhole (y ∷ later) = (is_whole y ≡ true) × AllWhole later
 
 -- the entries rise and have the numbers that their runs begin with, and the keys are those of the
--- whole runs
-pub record IsKept (entries : List (ℕ × Run)) (keys : List ℕ) : Type 0 where
+-- whole runs, where these are indexed
+pub record IsKept (indexed : Bool) (entries : List (ℕ × Run)) (keys : List ℕ) : Type 0 where
   pub order : IsStrictlySortedBy nat_cmp (keys_of entries)
   pub keyed : entries ≡ keyed (values_of entries)
-  pub whole : keys ≡ whole_firsts (values_of entries)
+  pub whole : indexed ≡ true → keys ≡ whole_firsts (values_of entries)
 
 -- the first of those that begin at a number or above it
 abbrev pub IsFirstFrom : ℕ → List Run → Option ℕ → Type 0

@@ -8,4 +8,5 @@ pub mod Order
 pub mod Above
 pub mod Keyed
 pub mod Edges
+pub mod Forms
 pub mod Sums

@@ -4,7 +4,7 @@ ghost use Rattle.std.specs.Prelude.{◌≡◌, ◌<◌, ◌+◌, [], IfSome, IsS
 ghost use Rattle.std.specs.Prelude.{OnErr, IfErr, List, true, false, ◌==◌, if◌then◌else◌, ◌&&◌};
 ghost use Rattle.std.specs.Prelude.{◌^◌, length};
 ghost use Rattle.std.specs.Option.{option_copied, option_map, is_some, IsSomeAnd};
-ghost use Rattle.std.specs.Map.{remove_entry};
+ghost use Rattle.std.specs.Map.{remove_entry, values_of};
 ghost use Rattle.std.specs.Ordering.{nat_cmp};
 ghost use Rattle.std.specs.BTreeMap.{get, is_at, IsOrdered};
 ghost use Rattle.std.specs.BTreeSet.{insert_key};
@@ -12,7 +12,7 @@ ghost use Rattle.rtmfp_data_chunks.specs.Runs.{single, joined, fits, is_whole};
 ghost use Rattle.flow_recv.specs.Receiver.{first_of, without_first};
 ghost use Rattle.flow_recv.specs.Keyed.{AllWhole, run_at, without_run, with_run, changed_run};
 ghost use Rattle.flow_recv.specs.Keyed.{changed_entry, front_of, rear_of, emptied, over};
-ghost use Rattle.flow_recv.specs.Keyed.{IsFirstFrom, IsLastBelow};
+ghost use Rattle.flow_recv.specs.Keyed.{IsFirstFrom, IsLastBelow, IsKept};
 
 use crate::run::{HeldRun, has_rear};
 use rtmfp_data_chunks::Part;
@@ -21,10 +21,12 @@ use std::collections::{BTreeMap, BTreeSet};
 use std::marker::Model;
 use std::ops::Bound;
 
-/// The runs of a flow. Contracts see them by rising number.
+/// The runs of a flow. Contracts see them by rising number. Where they are indexed, the first whole
+/// one is found at once; else all before it are gone through.
 #[derive(Drop)]
 pub struct HeldRuns {
     map: BTreeMap<u64, HeldRun>,
+    indexed: bool,
     whole: BTreeSet<u64>,
 }
 
@@ -38,15 +40,16 @@ impl Model for HeldRuns {
 
     ghost view = { λ r. values_of r.map.entries };
 
-    ghost invariant = { λ r. IsKept r.map.entries r.whole.keys };
+    ghost invariant = { λ r. IsKept r.indexed r.map.entries r.whole.keys };
 }
 
 impl HeldRuns {
-    pub fn new(alloc: Global) -> HeldRuns
+    pub fn new(alloc: Global, indexed: bool) -> HeldRuns
         ensures { result ≡ [] }
     {
         HeldRuns {
             map: BTreeMap::new(alloc),
+            indexed,
             whole: BTreeSet::new(alloc),
         }
     }
@@ -59,10 +62,13 @@ impl HeldRuns {
         self.map.len()
     }
 
-    /// Whether each run is whole.
+    /// Whether each run is known to be whole. Where they aren't indexed it isn't known.
     pub fn are_whole(&self) -> bool
         ensures { result ≡ true → AllWhole self.now }
     {
+        if !self.indexed {
+            return false;
+        }
         self.map.len() == self.whole.len()
     }
 
@@ -133,7 +139,7 @@ impl HeldRuns {
         ensures back { IfErr result (λ y. y ≡ run) }
     {
         let first = run.first();
-        let Ok(()) = mark_whole(&mut self.whole, first, run.is_whole()) else {
+        let Ok(()) = mark_whole(&mut self.whole, self.indexed, first, run.is_whole()) else {
             return Err(run);
         };
         match self.map.insert(first, run) {
@@ -148,6 +154,7 @@ impl HeldRuns {
     /// Appends a fragment to the run that begins with a number and that it follows and fits.
     pub fn append(
         &mut self,
+        alloc: Global,
         first: u64,
         number: u64,
         part: Part,
@@ -159,8 +166,8 @@ impl HeldRuns {
         ensures unchanged { OnErr result (self.new ≡ self.old) }
     {
         let whole = becomes_whole(&self.map, first, has_rear(part));
-        mark_whole(&mut self.whole, first, whole)?;
-        if append_at(&mut self.map, first, number, part, bytes).is_ok() {
+        mark_whole(&mut self.whole, self.indexed, first, whole)?;
+        if append_at(&mut self.map, alloc, first, number, part, bytes).is_ok() {
             return Ok(());
         }
         self.whole.remove(&first);
@@ -184,7 +191,7 @@ impl HeldRuns {
     {
         let rear = has_rear_at(&self.map, later);
         let whole = becomes_whole(&self.map, first, rear);
-        mark_whole(&mut self.whole, first, whole)?;
+        mark_whole(&mut self.whole, self.indexed, first, whole)?;
         if join_at(&mut self.map, alloc, first, later, bytes).is_ok() {
             self.whole.remove(&later);
             return Ok(());
@@ -197,13 +204,16 @@ impl HeldRuns {
     pub fn any_whole(&self) -> bool
         ensures { result ≡ is_some (first_of is_whole self.now) }
     {
-        self.whole.len() > 0
+        self.first_whole().is_some()
     }
 
     /// The number that the first run that is whole begins with.
     pub fn first_whole(&self) -> Option<u64>
         ensures { result ≡ option_map (λ y. y.first) (first_of is_whole self.now) }
     {
+        if !self.indexed {
+            return first_whole_in(&self.map);
+        }
         match self.whole.first() {
             Some(first) => Some(*first),
             None => None,
@@ -215,11 +225,39 @@ impl HeldRuns {
         ensures run { result ≡ first_of is_whole self.old }
         ensures rest { self.new ≡ without_first is_whole self.old }
     {
+        if !self.indexed {
+            return take_whole_in(&mut self.map);
+        }
         let Some(first) = self.whole.pop_first() else {
             return None;
         };
         self.map.remove(&first)
     }
+}
+
+/// The number that the first run that is whole begins with.
+fn first_whole_in(map: &BTreeMap<u64, HeldRun>) -> Option<u64>
+    ensures { result ≡ option_map (λ y. y.first) (first_of is_whole (values_of map.now.entries)) }
+{
+    for run in map.values() {
+        if run.is_whole() {
+            return Some(run.first());
+        }
+    }
+    None
+}
+
+/// Takes out the first run that is whole.
+fn take_whole_in(map: &mut BTreeMap<u64, HeldRun>) -> Option<HeldRun>
+    requires { IsKept false map.old.entries [] }
+    ensures run { result ≡ first_of is_whole (values_of map.old.entries) }
+    ensures rest { values_of map.new.entries ≡ without_first is_whole (values_of map.old.entries) }
+    ensures kept { IsKept false map.new.entries [] }
+{
+    let Some(first) = first_whole_in(map) else {
+        return None;
+    };
+    map.remove(&first)
 }
 
 /// Whether the run that begins with a number is whole with a rear like this.
@@ -232,13 +270,18 @@ fn becomes_whole(map: &BTreeMap<u64, HeldRun>, first: u64, rear: bool) -> bool
     }
 }
 
-/// Notes that the run which begins with a number is whole, where it is.
-fn mark_whole(whole: &mut BTreeSet<u64>, first: u64, is_whole: bool) -> Result<(), AllocError>
-    ensures marked { OnOk result (whole.new.keys
-        ≡ (if is_whole then insert_key nat_cmp whole.old.keys first else whole.old.keys)) }
+/// Notes that the run which begins with a number is whole, where it is and where that is noted.
+fn mark_whole(
+    whole: &mut BTreeSet<u64>,
+    indexed: bool,
+    first: u64,
+    is_whole: bool,
+) -> Result<(), AllocError>
+    ensures marked { OnOk result (whole.new.keys ≡ (if indexed && is_whole
+        then insert_key nat_cmp whole.old.keys first else whole.old.keys)) }
     ensures unchanged { OnErr result (whole.new.keys ≡ whole.old.keys) }
 {
-    if is_whole {
+    if indexed && is_whole {
         whole.insert(first)?;
     }
     Ok(())
@@ -247,6 +290,7 @@ fn mark_whole(whole: &mut BTreeSet<u64>, first: u64, is_whole: bool) -> Result<(
 /// Appends a fragment to the run that begins with a number.
 fn append_at(
     map: &mut BTreeMap<u64, HeldRun>,
+    alloc: Global,
     first: u64,
     number: u64,
     part: Part,
@@ -257,7 +301,7 @@ fn append_at(
     ensures unchanged { OnErr result (map.new.entries ≡ map.old.entries) }
 {
     match map.get_mut(&first) {
-        Some(run) => run.append(number, part, bytes),
+        Some(run) => run.append(alloc, number, part, bytes),
         None => Ok(()),
     }
 }
@@ -272,13 +316,13 @@ fn has_rear_at(map: &BTreeMap<u64, HeldRun>, first: u64) -> bool
     }
 }
 
-/// Takes out the run that begins with a number. Its numbers stay, with no bytes.
-fn take_out_at(map: &mut BTreeMap<u64, HeldRun>, alloc: Global, first: u64) -> Option<HeldRun>
+/// Takes out the run that begins with a number. A fragment without bytes stays there.
+fn take_out_at(map: &mut BTreeMap<u64, HeldRun>, first: u64) -> Option<HeldRun>
     ensures run { result ≡ get nat_cmp map.old first }
     ensures left { map.new.entries ≡ changed_entry emptied first map.old.entries }
 {
     match map.get_mut(&first) {
-        Some(run) => Some(run.take_out(alloc)),
+        Some(run) => Some(run.take_out()),
         None => None,
     }
 }
@@ -329,7 +373,7 @@ fn join_at(
     ensures ordered { OnOk result (IsOrdered nat_cmp map.new) }
     ensures unchanged { OnErr result (map.new.entries ≡ map.old.entries) }
 {
-    let Some(mut run) = take_out_at(map, alloc, later) else {
+    let Some(mut run) = take_out_at(map, later) else {
         return Err(AllocError);
     };
     match append_both_at(map, alloc, first, bytes, &mut run) {

@@ -6,6 +6,7 @@ mod above;
 mod acking;
 mod bytes;
 pub mod edges;
+mod filled;
 mod held;
 mod newest;
 mod outcome;

@@ -39,12 +39,12 @@ impl Model for NewestRuns {
 }
 
 impl NewestRuns {
-    pub fn new(alloc: Global) -> NewestRuns
+    pub fn new(alloc: Global, indexed: bool) -> NewestRuns
         ensures { result ≡ [] }
     {
         NewestRuns {
             newest: None,
-            older: SummedRuns::new(alloc),
+            older: SummedRuns::new(alloc, indexed),
         }
     }
 
@@ -60,7 +60,7 @@ impl NewestRuns {
         }
     }
 
-    /// Whether each run is whole.
+    /// Whether each run is known to be whole.
     pub fn are_whole(&self) -> bool
         ensures { result ≡ true → AllWhole self.now }
     {
@@ -145,6 +145,7 @@ impl NewestRuns {
     /// Appends a fragment to the run that begins with a number and that it follows and fits.
     pub fn append(
         &mut self,
+        alloc: Global,
         first: u64,
         number: u64,
         part: Part,
@@ -158,9 +159,9 @@ impl NewestRuns {
         ensures unchanged { OnErr result (self.new ≡ self.old) }
     {
         if begins(&self.newest, first) {
-            return append_to(&mut self.newest, number, part, bytes);
+            return append_to(alloc, &mut self.newest, number, part, bytes);
         }
-        self.older.append(first, number, part, bytes)
+        self.older.append(alloc, first, number, part, bytes)
     }
 
     /// Joins a fragment and the run after it to the run that it follows and fits.
@@ -253,6 +254,7 @@ fn begins(run: &Option<HeldRun>, first: u64) -> bool
 
 /// Appends a fragment to a run.
 fn append_to(
+    alloc: Global,
     run: &mut Option<HeldRun>,
     number: u64,
     part: Part,
@@ -263,7 +265,7 @@ fn append_to(
     ensures unchanged { OnErr result (run.new ≡ run.old) }
 {
     match run {
-        Some(run) => run.append(number, part, bytes),
+        Some(run) => run.append(alloc, number, part, bytes),
         None => Ok(()),
     }
 }

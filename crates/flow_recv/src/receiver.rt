@@ -86,7 +86,7 @@ impl FlowReceiver {
             arriving: first_metadata == ARRIVING,
             through: 0,
             above: Above::new(alloc),
-            runs: NewestRuns::new(alloc),
+            runs: NewestRuns::new(alloc, first_metadata == ARRIVING),
             held: 0,
             last: None,
             highest: 0,
@@ -173,7 +173,7 @@ impl FlowReceiver {
         };
         self.held -= run.len() as u64;
         let number = run.first();
-        Ok(Some((number, Message::of(run.into_bytes()))))
+        Ok(Some((number, Message::of(run.into_bytes(self.alloc)))))
     }
 
     /// How many stretches of fragments it holds, each of which becomes one message at most.

@@ -84,7 +84,7 @@ fn extend(
     ensures unchanged { OnErr result (runs.new ≡ runs.old) }
 {
     let Some(later) = following(runs, number, part) else {
-        return runs.append(first, number, part, bytes);
+        return runs.append(alloc, first, number, part, bytes);
     };
     runs.join(alloc, first, later, bytes)
 }

@@ -37,11 +37,11 @@ impl Model for SummedRuns {
 }
 
 impl SummedRuns {
-    pub fn new(alloc: Global) -> SummedRuns
+    pub fn new(alloc: Global, indexed: bool) -> SummedRuns
         ensures { result ≡ [] }
     {
         SummedRuns {
-            runs: HeldRuns::new(alloc),
+            runs: HeldRuns::new(alloc, indexed),
             sums: Sums::new(alloc),
         }
     }
@@ -54,7 +54,7 @@ impl SummedRuns {
         self.runs.len()
     }
 
-    /// Whether each run is whole.
+    /// Whether each run is known to be whole.
     pub fn are_whole(&self) -> bool
         ensures { result ≡ true → AllWhole self.now }
     {
@@ -119,6 +119,7 @@ impl SummedRuns {
     /// Appends a fragment to the run that begins with a number and that it follows and fits.
     pub fn append(
         &mut self,
+        alloc: Global,
         first: u64,
         number: u64,
         part: Part,
@@ -133,7 +134,7 @@ impl SummedRuns {
     {
         let before = open_at(&self.runs, first);
         self.sums.make(1)?;
-        self.runs.append(first, number, part, bytes)?;
+        self.runs.append(alloc, first, number, part, bytes)?;
         let after = open_at(&self.runs, first);
         self.sums.take(before);
         self.sums.add(after);

@@ -17,14 +17,14 @@ join_at-requires-clause-there c =
     subst IsSome (sym (get_is c.args.later es (values_of es) c.self.invariant.keyed ∙ ap (run_at c.args.later) c.self.view_is)) c.requires.there
 
 parts : (c : goal.After-remove) → IsSomeAnd (lookup (is_key c.args.later) c.self.inside.map.entries)
-    (λ z. IsKept c.join_at.new.map.entries c.remove.new.self.keys × (values_of c.join_at.new.map.entries ≡ without_run c.args.later (changed_run (λ y. over y c.args.bytes.now z) c.args.first (values_of c.self.inside.map.entries))))
+    (λ z. IsKept c.self.inside.indexed c.join_at.new.map.entries c.remove.new.self.keys × (values_of c.join_at.new.map.entries ≡ without_run c.args.later (changed_run (λ y. over y c.args.bytes.now z) c.args.first (values_of c.self.inside.map.entries))))
 parts c =
     let i = c.self.inside in
     let open' = subst (λ (xs : List Run). IfSome (run_at c.args.first xs) (λ y. is_whole y ≡ false)) (sym c.self.view_is) c.requires.open in
     some_and {P = λ z. c.join_at.new.map.entries ≡ remove_entry (is_key c.args.later) (changed_entry (λ y. over y c.args.bytes.now z) c.args.first i.map.entries)} (lookup (is_key c.args.later) i.map.entries)
     (λ z e h.
     let rear : c.has_rear_at-rear.result ≡ z.rear = c.has_rear_at-rear.ensures ∙ ap rear_of e in
-    kept_joined i.map.entries c.join_at.new.map.entries i.whole.keys c.mark_whole.new.whole.keys c.remove.new.self.keys (λ y. over y c.args.bytes.now z) c.has_rear_at-rear.result c.becomes_whole-whole.result c.args.first c.args.later c.self.invariant
+    kept_joined i.indexed i.map.entries c.join_at.new.map.entries i.whole.keys c.mark_whole.new.whole.keys c.remove.new.self.keys (λ y. over y c.args.bytes.now z) c.has_rear_at-rear.result c.becomes_whole-whole.result c.args.first c.args.later c.self.invariant
     (from_ok c.join_at.result c.if-is_ok.ensures.value c.join_at.ensures.ordered) h
     (record { first = λ y. refl; whole = λ y. ap (λ r. cond y.front r false) (sym rear) ∙ both y.front c.has_rear_at-rear.result })
     c.becomes_whole-whole.ensures c.in_ok-mark_whole.ensures.marked c.remove.ensures.keys open')
@@ -44,5 +44,5 @@ pub invariant_of-self-2 : goal.invariant_of-self-2
 invariant_of-self-2 c =
     let i = c.self.inside in
     let open' = subst (λ (xs : List Run). IfSome (run_at c.args.first xs) (λ y. is_whole y ≡ false)) (sym c.self.view_is) c.requires.open in
-    kept_undone i.map.entries c.join_at.new.map.entries i.whole.keys c.remove-2.new.self.keys c.becomes_whole-whole.result c.args.first c.self.invariant
+    kept_undone i.indexed i.map.entries c.join_at.new.map.entries i.whole.keys c.remove-2.new.self.keys c.becomes_whole-whole.result c.args.first c.self.invariant
     (from_err c.join_at.result c.if-is_ok.ensures.value c.join_at.ensures.unchanged) (c.remove-2.ensures.keys ∙ ap (remove_key (is_key c.args.first)) c.in_ok-mark_whole.ensures.marked) open'

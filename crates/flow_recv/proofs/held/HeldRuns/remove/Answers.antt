@@ -5,10 +5,10 @@ use Rattle.flow_recv.proofs.Keeping.{kept_without}
 use Rattle.flow_recv.proofs.Finding.{get_is}
 use Rattle.flow_recv.proofs.held.HeldRuns.remove.Goals as goal
 
-both : (c : goal.After-remove-2) → IsKept c.remove-2.new.self.entries c.remove.new.self.keys × (values_of c.remove-2.new.self.entries ≡ without_run c.args.first (values_of c.self.inside.map.entries))
+both : (c : goal.After-remove-2) → IsKept c.self.inside.indexed c.remove-2.new.self.entries c.remove.new.self.keys × (values_of c.remove-2.new.self.entries ≡ without_run c.args.first (values_of c.self.inside.map.entries))
 both c =
     let i = c.self.inside in
-    kept_without i.map.entries c.remove-2.new.self.entries i.whole.keys c.remove.new.self.keys c.args.first c.self.invariant c.remove-2.ensures.ordered c.remove-2.ensures.entries c.remove.ensures.keys
+    kept_without i.indexed i.map.entries c.remove-2.new.self.entries i.whole.keys c.remove.new.self.keys c.args.first c.self.invariant c.remove-2.ensures.ordered c.remove-2.ensures.entries c.remove.ensures.keys
 
 pub invariant_of-self : goal.invariant_of-self
 invariant_of-self c = (both c).0
