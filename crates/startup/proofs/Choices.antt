@@ -1,8 +1,8 @@
 -- Which attempts are chosen.
 use Rattle.std.proofs.Common.{ℕ, ◌≡◌, true, List, [], ◌∷◌, Option, Some, None, is_some, sym, ap, ◌∙◌, refl}
 use Rattle.std.specs.FinMap.{get}
-use Rattle.glare_core.specs.Calls.{first_that_stands, where_true}
-use Rattle.startup.specs.declared.cause.Cause.{Cause}
+use Rattle.rtmfp_base.specs.Reasons.{first_that_stands, where_true}
+use Rattle.rtmfp_base.specs.declared.cause.Cause.{Cause}
 use Rattle.startup.specs.State.{AttemptState, Attempts}
 use Rattle.startup.specs.Attempts.{has_cookie, if_cookie, changed, wide, none_to_change, change_cause_among}
 use Rattle.startup.specs.declared.rows.FoundAttempt.{FoundAttempt}

@@ -7,6 +7,9 @@ use Rattle.std.proofs.lemmas.Option.{none-some, same_Some}
 use Rattle.rtmfp_base.proofs.Maps.{found_inserted, found_left, get_inserted, get_beside, get_left}
 use Rattle.rtmfp_base.proofs.Lowest.{lowest_is_first, none_is_first}
 use Rattle.glare_core.proofs.Tails.{same_end}
+use Rattle.startup.specs.declared.aim.Aim.{Aim}
+use Rattle.startup.specs.declared.aim.Aim.TheVariants.{AtPeer}
+use Rattle.startup.specs.Aims.{aim_word, is_numbered}
 use Rattle.startup.specs.State.{AttemptState, Attempts}
 use Rattle.startup.specs.Attempts.{lowest, has_number, has_tag}
 use Rattle.startup.specs.declared.attempt.Change.{Change}
@@ -66,8 +69,12 @@ tag_stays Repeated moment a = refl
 same_number : (m n : ℕ) → (m == n) ≡ true → m ≡ n
 same_number m n t = grind (arith, nat_tests)
 
+-- the attempt with this number has it as its word
+numbered : (number : ℕ) (aim : Aim) → is_numbered number aim ≡ true → aim_word aim ≡ number
+numbered number (AtPeer peer n) t = same_number n number t
+
 pub found_by_number : (words : Words) (attempts : Attempts) (n : ℕ) → IsIndexed number_word words attempts → IsFoundBy (has_number n) words n attempts
-found_by_number words attempts n is whole near a there t = ap (get words.nears) (sym (same_number a.n n t)) ∙ is whole near a there
+found_by_number words attempts n is whole near a there t = ap (get words.nears) (sym (numbered n a.aim t)) ∙ is whole near a there
 
 pub found_by_tag : (words : Words) (attempts : Attempts) (tag : List ℕ) → IsIndexed tag_word words attempts → IsFoundBy (has_tag tag) words (word_of tag) attempts
 found_by_tag words attempts tag is whole near a there t = elim (same_end a.tag tag) [

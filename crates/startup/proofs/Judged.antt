@@ -10,9 +10,10 @@ use Rattle.glare_core.specs.declared.answers.Keying.{Keying}
 use Rattle.glare_core.specs.declared.answers.HearRefusal.{HearRefusal}
 use Rattle.glare_core.specs.declared.answers.HearRefusal.TheVariants.{Stale, PeersFull, SessionsFull}
 use Rattle.glare_core.specs.Ledger.{Ledger, held_with, floor_of, row_count, knows}
-use Rattle.glare_core.specs.Calls.{where_true, first_that_stands, again_of, peers_full, glare_of, birth_refusal, hear_refusal}
-use Rattle.startup.specs.declared.cause.Cause.{Cause}
-use Rattle.startup.specs.declared.cause.Cause.TheVariants.{BadSignature}
+use Rattle.rtmfp_base.specs.Reasons.{where_true, first_that_stands}
+use Rattle.glare_core.specs.Calls.{again_of, peers_full, glare_of, birth_refusal, hear_refusal}
+use Rattle.rtmfp_base.specs.declared.cause.Cause.{Cause}
+use Rattle.rtmfp_base.specs.declared.cause.Cause.TheVariants.{BadSignature}
 use Rattle.startup.specs.declared.answer.Keyed.{Keyed}
 use Rattle.startup.specs.declared.answer.Keyed.TheVariants as keyed
 use Rattle.startup.specs.declared.judging.Hearing.TheVariants.{Change, Again, Birth}

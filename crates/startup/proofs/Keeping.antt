@@ -1,5 +1,5 @@
 -- The attempts and the ledger name the same things after each call on attempts, and after what time makes due.
-use Rattle.std.proofs.Common.{inl, inr, is_some, ◌⊎◌, ◌==◌, if◌then◌else◌, ◌∷◌, ℕ, List, ◌≡◌, Bool, true, false, cond, refl, sym, ap, subst, ◌∙◌, Option, Some, None}
+use Rattle.std.proofs.Common.{inl, inr, is_some, ◌⊎◌, ◌==◌, if◌then◌else◌, ◌∷◌, ℕ, ◌+◌, List, ◌≡◌, Bool, true, false, cond, refl, sym, ap, subst, ◌∙◌, Option, Some, None}
 use Rattle.std.specs.FinMap.{get, insert}
 use Rattle.rtmfp_base.proofs.Maps.{same_or_not, none_is_some, get_inserted, get_beside, found_inserted}
 use Rattle.rtmfp_base.proofs.Lowest.{first_is_there}
@@ -11,12 +11,16 @@ use Rattle.glare_core.specs.declared.facts.Held.{Held}
 use Rattle.glare_core.specs.declared.facts.Held.TheVariants.{Opening, HalfOpen, KeptAsResponder, KeptAsInitiator}
 use Rattle.glare_core.specs.Standing.{peer_of, after, confirmed}
 use Rattle.glare_core.specs.Ledger.{Ledger, held_with, noted, noted_if}
-use Rattle.glare_core.specs.Calls.{start_refusal, start_held, started_fact, confirmed_fact, ended_fact, first_that_stands, where_true}
+use Rattle.rtmfp_base.specs.Reasons.{first_that_stands, where_true}
+use Rattle.glare_core.specs.Calls.{start_refusal, start_held, started_fact, confirmed_fact, ended_fact}
 use Rattle.glare_core.proofs.Tails.{same_end}
+use Rattle.startup.specs.declared.aim.Aim.{Aim}
+use Rattle.startup.specs.declared.aim.Aim.TheVariants.{AtPeer}
 use Rattle.startup.specs.declared.attempt.Stage.{Stage}
+use Rattle.startup.specs.Aims.{peer_of_aim, IsHeldAs, end_of_aim}
 use Rattle.startup.specs.declared.attempt.Stage.TheVariants.{Hello, Keying}
 use Rattle.startup.specs.State.{AttemptState, Attempts, StartupState, IsSound, peer_of_attempt}
-use Rattle.startup.specs.Attempts.{lowest, has_cookie, with_ledger, with_attempt, without_attempt, begun_attempt, after_begin, ended_attempt, after_confirm, session_in, after_end, is_cookie_of, again_signed, if_cookie, changed}
+use Rattle.startup.specs.Attempts.{lowest, has_cookie, with_ledger, with_attempt, without_attempt_by, begun_attempt, after_begin, after_confirm, session_in, after_end, is_cookie_of, again_signed, if_cookie, changed}
 use Rattle.startup.specs.Keyings.{opening_id, without}
 use Rattle.startup.proofs.Stepping.{held_after, held_after_own, sound_after}
 
@@ -46,6 +50,14 @@ second_is_none (Some x) b rest e = absurd (cc)
 pub startable_is_unheld : (l : Ledger) (peer : List ℕ) → start_refusal l peer ≡ None → held_with l peer ≡ None
 startable_is_unheld l peer e = unheld_start (held_with l peer) (second_is_none _ _ _ e)
 
+-- what is held as it aims at still is after a fact of a peer with which nothing was held
+held_beside : (l : Ledger) (fact : Fact) → held_with l (peer_of fact) ≡ None → (near : ℕ) (ni : List ℕ) (aim : Aim) → IsHeldAs l near ni aim → IsHeldAs (noted l fact) near ni aim
+held_beside l fact unheld near ni (AtPeer peer n) was =
+    held_after l fact peer ∙ elim (same_end (peer_of fact) peer) [
+      | inl d ↦ absurd (none_is_some (Opening n near ni) (held_with l peer) (ap (held_with l) (sym d.0) ∙ unheld) was)
+      | inr d ↦ ap (λ b. cond b (after fact (held_with l (peer_of fact))) (held_with l peer)) d.1 ∙ was
+    ]
+
 -- They do after an attempt has begun, under a near id that no attempt has, with a peer with which nothing is held.
 pub begun_is_sound : (s : StartupState) (peer : List ℕ) (candidates : List AddressParts) (near : ℕ) (ni tag : List ℕ) (moment : ℕ) →
     IsSound s → get s.attempts near ≡ None → held_with s.ledger peer ≡ None → IsSound (after_begin s peer candidates near ni tag moment)
@@ -56,18 +68,13 @@ begun_is_sound s peer candidates near ni tag moment sound free unheld =
       own = sound.own;
       held = λ k b e. elim (found_inserted s.attempts near a k b e) [
         | inl here ↦
-            subst (λ (c : AttemptState). held_with (noted s.ledger fact) c.peer ≡ Some (Opening c.n k c.ni)) here.1
-            (held_after_own s.ledger fact ∙ ap (λ (id : ℕ). Some (Opening a.n id ni)) (sym here.0))
-        | inr other ↦
-            let was : held_with s.ledger b.peer ≡ Some (Opening b.n k b.ni) = sound.held k b other.1 in
-            held_after s.ledger fact b.peer ∙ elim (same_end peer b.peer) [
-              | inl d ↦ absurd (none_is_some (Opening b.n k b.ni) (held_with s.ledger b.peer) (ap (held_with s.ledger) (sym d.0) ∙ unheld) was)
-              | inr d ↦ ap (λ b'. cond b' (after fact (held_with s.ledger peer)) (held_with s.ledger b.peer)) d.1 ∙ was
-            ]
+            subst (λ (c : AttemptState). IsHeldAs (noted s.ledger fact) k c.ni c.aim) here.1
+            (held_after_own s.ledger fact ∙ ap (λ (id : ℕ). Some (Opening (s.ledger.started + 1) id ni)) (sym here.0))
+        | inr other ↦ held_beside s.ledger fact unheld k b.ni b.aim (sound.held k b other.1)
       ];
       there = λ q n k ki e. elim (same_end peer q) [
         | inl d ↦
-            let here : Some (Opening a.n near ni) ≡ Some (Opening n k ki) = sym (held_after_own s.ledger fact) ∙ ap (held_with (noted s.ledger fact)) d.0 ∙ e in
+            let here : Some (Opening (s.ledger.started + 1) near ni) ≡ Some (Opening n k ki) = sym (held_after_own s.ledger fact) ∙ ap (held_with (noted s.ledger fact)) d.0 ∙ e in
             let id : near ≡ k = cc in
             ap (λ (i : ℕ). peer_of_attempt (get (insert s.attempts near a) i)) (sym id) ∙ ap peer_of_attempt (get_inserted s.attempts near a) ∙ ap (λ (p : List ℕ). Some p) d.0
         | inr d ↦
@@ -82,17 +89,18 @@ begun_is_sound s peer candidates near ni tag moment sound free unheld =
 
 -- ---- an attempt goes on
 
--- They do after an attempt was changed that is still the same attempt with the same peer.
-pub changed_is_sound : (s : StartupState) (near : ℕ) (a b : AttemptState) → IsSound s → get s.attempts near ≡ Some a → b.peer ≡ a.peer → b.n ≡ a.n → b.ni ≡ a.ni → IsSound (with_attempt s near b)
-changed_is_sound s near a b sound at same_peer same_n same_ni =
-    let was : held_with s.ledger a.peer ≡ Some (Opening a.n near a.ni) = sound.held near a at in
+-- They do after an attempt was changed that is still towards the same, with the same nonce.
+pub changed_is_sound : (s : StartupState) (near : ℕ) (a b : AttemptState) → IsSound s → get s.attempts near ≡ Some a → b.aim ≡ a.aim → b.ni ≡ a.ni → IsSound (with_attempt s near b)
+changed_is_sound s near a b sound at same_aim same_ni =
+    let was : IsHeldAs s.ledger near a.ni a.aim = sound.held near a at in
+    let now : IsHeldAs s.ledger near b.ni b.aim =
+    subst (λ (aim : Aim). IsHeldAs s.ledger near b.ni aim) (sym same_aim) (subst (λ (ni : List ℕ). IsHeldAs s.ledger near ni a.aim) (sym same_ni) was) in
     record {
       own = sound.own;
       held = λ k c e. elim (found_inserted s.attempts near b k c e) [
         | inl here ↦
-            subst (λ (x : AttemptState). held_with s.ledger x.peer ≡ Some (Opening x.n k x.ni)) here.1
-            (ap (held_with s.ledger) same_peer ∙ was
-            ∙ (ap (λ (n : ℕ). Some (Opening n near a.ni)) (sym same_n) ∙ ap (λ (i : List ℕ). Some (Opening b.n near i)) (sym same_ni) ∙ ap (λ (id : ℕ). Some (Opening b.n id b.ni)) (sym here.0)))
+            subst (λ (x : AttemptState). IsHeldAs s.ledger k x.ni x.aim) here.1
+            (subst (λ (id : ℕ). IsHeldAs s.ledger id b.ni b.aim) (sym here.0) now)
         | inr other ↦ sound.held k c other.1
       ];
       there = λ q n k ki e.
@@ -100,7 +108,7 @@ changed_is_sound s near a b sound at same_peer same_n same_ni =
           elim (same_or_not k near) [
             | inl is ↦
                 ap (λ (i : ℕ). peer_of_attempt (get (insert s.attempts near b) i)) is.0 ∙ ap peer_of_attempt (get_inserted s.attempts near b)
-                ∙ ap (λ (p : List ℕ). Some p) same_peer ∙ sym (ap peer_of_attempt at) ∙ ap (λ (i : ℕ). peer_of_attempt (get s.attempts i)) (sym is.0) ∙ old
+                ∙ ap peer_of_aim same_aim ∙ sym (ap peer_of_attempt at) ∙ ap (λ (i : ℕ). peer_of_attempt (get s.attempts i)) (sym is.0) ∙ old
             | inr is ↦ ap peer_of_attempt (get_beside s.attempts near b k is.0) ∙ old
           ];
     }
@@ -108,11 +116,14 @@ changed_is_sound s near a b sound at same_peer same_n same_ni =
 -- ---- an attempt ends
 
 -- They do after the end of an attempt that is there.
-pub end_is_sound : (s : StartupState) (e : ℕ × AttemptState) (why : Why) → IsSound s → get s.attempts e.0 ≡ Some e.1 → IsSound (without_attempt s e.0 (ended_attempt e why))
-end_is_sound s e why sound at =
-    let was : held_with s.ledger e.1.peer ≡ Some (Opening e.1.n e.0 e.1.ni) = sound.held e.0 e.1 at in
-    subst (λ (gone : Option ℕ). IsSound (record s { ledger = noted s.ledger (ended_attempt e why); attempts = without s.attempts gone })) (ap opening_id was)
-    (sound_after s (ended_attempt e why) sound (ap opening_id (held_after_own s.ledger (ended_attempt e why))))
+end_by_aim : (s : StartupState) (near : ℕ) (why : Why) (ni : List ℕ) (aim : Aim) → IsSound s → IsHeldAs s.ledger near ni aim → IsSound (without_attempt_by s near (end_of_aim near why aim))
+end_by_aim s near why ni (AtPeer peer n) sound was =
+    subst (λ (gone : Option ℕ). IsSound (record s { ledger = noted s.ledger (Ended peer near why); attempts = without s.attempts gone })) (ap opening_id was)
+    (sound_after s (Ended peer near why) sound (ap opening_id (held_after_own s.ledger (Ended peer near why))))
+
+pub end_is_sound : (s : StartupState) (e : ℕ × AttemptState) (why : Why) → IsSound s → get s.attempts e.0 ≡ Some e.1 →
+    IsSound (without_attempt_by s e.0 (end_of_aim e.0 why e.1.aim))
+end_is_sound s e why sound at = end_by_aim s e.0 why e.1.ni e.1.aim sound (sound.held e.0 e.1 at)
 
 -- ---- a session is confirmed or ends
 

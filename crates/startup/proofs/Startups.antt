@@ -4,21 +4,21 @@ use Rattle.std.specs.FinMap.{get, insert, remove}
 use Rattle.rtmfp_forms.specs.Address.{AddressParts}
 use Rattle.glare_core.specs.Standing.{starts_in}
 use Rattle.glare_core.specs.Calls.{start_refusal, started_fact}
+use Rattle.startup.specs.declared.aim.Aim.TheVariants.{AtPeer}
 use Rattle.startup.specs.declared.attempt.Stage.TheVariants.{Hello}
+use Rattle.startup.specs.Aims.{IsHeldAs, end_of_aim}
 use Rattle.glare_core.specs.declared.facts.Why.{Why}
 use Rattle.glare_core.specs.declared.facts.Fact.{Fact}
-use Rattle.glare_core.specs.declared.facts.Held.TheVariants.{Opening}
-use Rattle.glare_core.specs.Ledger.{Ledger, held_with, noted}
+use Rattle.glare_core.specs.Ledger.{Ledger, noted, noted_if}
 use Rattle.startup.specs.State.{AttemptState, Attempts, StartupState, IsSound}
 use Rattle.startup.specs.Rows.{state_of, IsStartup}
 use Rattle.startup.specs.Table.{in_attempt, with_changed}
-use Rattle.startup.specs.Attempts.{with_ledger, with_attempt, without_attempt, ended_attempt, end_of, after_end_of, distinct_candidates, begun_attempt, after_begin}
+use Rattle.startup.specs.Attempts.{with_ledger, with_attempt, without_attempt_by, end_of, after_end_of, distinct_candidates, begun_attempt, after_begin}
 use Rattle.startup.proofs.Keeping.{changed_is_sound, end_is_sound, begun_is_sound, startable_is_unheld}
 
--- an attempt that goes on is still the same attempt with the same peer
+-- an attempt that goes on is still towards the same, with the same nonce
 pub record GoesOn (change : AttemptState → AttemptState) : Type 0 where
-  pub peer : (a : AttemptState) → (change a).peer ≡ a.peer
-  pub n : (a : AttemptState) → (change a).n ≡ a.n
+  pub aim : (a : AttemptState) → (change a).aim ≡ a.aim
   pub ni : (a : AttemptState) → (change a).ni ≡ a.ni
 
 -- an attempt that is there is changed
@@ -27,7 +27,7 @@ changed_there change attempts near a there = ap (with_changed change attempts ne
 
 module _ (cert print secret sign cookies : List ℕ) (ledger : Ledger) (attempts : Attempts) (is : IsStartup cert print secret sign cookies ledger attempts) (near : ℕ) (a : AttemptState) (there : get attempts near ≡ Some a) where
   -- an attempt that is there is held
-  pub held_at : (b : AttemptState) → get attempts near ≡ Some b → held_with ledger b.peer ≡ Some (Opening b.n near b.ni)
+  pub held_at : (b : AttemptState) → get attempts near ≡ Some b → IsHeldAs ledger near b.ni b.aim
   held_at b at = is.sound.held near b at
 
   -- ---- an attempt changes
@@ -40,14 +40,14 @@ module _ (cert print secret sign cookies : List ℕ) (ledger : Ledger) (attempts
       print_is = is.print_is;
       sign_is = is.sign_is;
       sound = subst IsSound (sym changed_state)
-          (changed_is_sound (state_of cert secret cookies ledger attempts) near a (change a) is.sound there (goes.peer a) (goes.n a) (goes.ni a));
+          (changed_is_sound (state_of cert secret cookies ledger attempts) near a (change a) is.sound there (goes.aim a) (goes.ni a));
     }
 
   -- ---- an attempt ends
-  module _ (why : Why) (fact : Fact) (ends : (b : AttemptState) → get attempts near ≡ Some b → fact ≡ ended_attempt (near, b) why)
+  module _ (why : Why) (fact : Fact) (ends : (b : AttemptState) → get attempts near ≡ Some b → end_of_aim near why b.aim ≡ Some fact)
       (after : Ledger) (new : Attempts) (noted_is : after ≡ noted ledger fact) (gone : new ≡ remove attempts near) where
-    pub ended_state : state_of cert secret cookies after new ≡ without_attempt (state_of cert secret cookies ledger attempts) near (ended_attempt (near, a) why)
-    ended_state = λ i. record { cert = cert; secret = secret; cookie_secret = cookies; ledger = (noted_is ∙ ap (noted ledger) (ends a there)) i; attempts = gone i }
+    pub ended_state : state_of cert secret cookies after new ≡ without_attempt_by (state_of cert secret cookies ledger attempts) near (end_of_aim near why a.aim)
+    ended_state = λ i. record { cert = cert; secret = secret; cookie_secret = cookies; ledger = (noted_is ∙ ap (noted_if ledger) (sym (ends a there))) i; attempts = gone i }
 
     pub ended_is_kept : IsStartup cert print secret sign cookies after new
     ended_is_kept = record {
@@ -58,7 +58,7 @@ module _ (cert print secret sign cookies : List ℕ) (ledger : Ledger) (attempts
 
     -- where it is the one that is chosen
     pub end_told : (chosen : Option (ℕ × AttemptState)) → chosen ≡ Some (near, a) → Some fact ≡ end_of chosen why
-    end_told chosen at = ap (λ (f : Fact). Some f) (ends a there) ∙ sym (ap (λ o. end_of o why) at)
+    end_told chosen at = sym (ends a there) ∙ sym (ap (λ o. end_of o why) at)
 
     pub end_left : (chosen : Option (ℕ × AttemptState)) → chosen ≡ Some (near, a) → state_of cert secret cookies after new ≡ after_end_of (state_of cert secret cookies ledger attempts) chosen why
     end_left chosen at = ended_state ∙ sym (ap (λ o. after_end_of (state_of cert secret cookies ledger attempts) o why) at)
@@ -86,7 +86,7 @@ module _ (cert print secret sign cookies : List ℕ) (ledger : Ledger) (attempts
 -- the attempt that is made when one begins
 pub begun_attempt_is : (s : StartupState) (peer : List ℕ) (candidates : List AddressParts) (near : ℕ) (ni tag : List ℕ) (moment n : ℕ) (places : List AddressParts) (after : Ledger) (fact : Fact) →
     n ≡ after.started → after ≡ noted s.ledger fact → fact ≡ started_fact s.ledger peer near ni → places ≡ distinct_candidates candidates →
-    ◌≡◌ {A = AttemptState} (record { peer = peer; n = n; ni = ni; tag = tag; start = moment; candidates = places; stage = Hello; last = moment; gap = 0 }) (begun_attempt s peer candidates ni tag moment)
+    ◌≡◌ {A = AttemptState} (record { aim = AtPeer peer n; ni = ni; tag = tag; start = moment; candidates = places; stage = Hello; last = moment; gap = 0 }) (begun_attempt s peer candidates ni tag moment)
 begun_attempt_is s peer candidates near ni tag moment n places after fact n_is after_is fact_is places_are =
     let number : n ≡ s.ledger.started + 1 = n_is ∙ ap (λ (l : Ledger). l.started) after_is ∙ ap (λ (f : Fact). s.ledger.started + starts_in f) fact_is in
-    λ i. record { peer = peer; n = number i; ni = ni; tag = tag; start = moment; candidates = places_are i; stage = Hello; last = moment; gap = 0 }
+    λ i. record { aim = AtPeer peer (number i); ni = ni; tag = tag; start = moment; candidates = places_are i; stage = Hello; last = moment; gap = 0 }

@@ -21,9 +21,13 @@ use Rattle.glare_core.specs.declared.answers.Heard.{Heard}
 use Rattle.glare_core.specs.declared.answers.Heard.TheVariants.{Birth}
 use Rattle.glare_core.specs.Standing.{peer_of, after}
 use Rattle.glare_core.specs.Ledger.{Ledger, PeerRow, row_in, row_after, held_with, noted}
-use Rattle.glare_core.specs.Calls.{where_true, is_born_of, again_of, heard, heard_noted, again_or, way_made, born_fact, opened_fact}
+use Rattle.rtmfp_base.specs.Reasons.{where_true}
+use Rattle.glare_core.specs.Calls.{is_born_of, again_of, heard, heard_noted, again_or, way_made, born_fact, opened_fact}
 use Rattle.glare_core.proofs.Tails.{same_end}
 use Rattle.glare_core.proofs.Maps.{row_inserted}
+use Rattle.startup.specs.declared.aim.Aim.{Aim}
+use Rattle.startup.specs.declared.aim.Aim.TheVariants.{AtPeer}
+use Rattle.startup.specs.Aims.{peer_of_aim, IsHeldAs}
 use Rattle.startup.specs.State.{AttemptState, Attempts, StartupState, IsSound, peer_of_attempt}
 use Rattle.startup.specs.Keyings.{again_or_birth, session_answer, born_session, ResponderKeying, repeated_session, attempt_gone, opening_id, without, after_again_or_birth, opened_with, after_opening}
 
@@ -94,6 +98,11 @@ attempt_is (Some (KeptAsInitiator j)) near e = absurd (cc)
 abbrev pub stepped : StartupState → Fact → StartupState
 stepped s fact = record s { ledger = noted s.ledger fact; attempts = without s.attempts (opening_id (held_with s.ledger (peer_of fact))) }
 
+-- what is held as it aims at still is after a fact of a peer whose attempt, if any, is another one
+still_held : (l : Ledger) (fact : Fact) (near : ℕ) (ni : List ℕ) (aim : Aim) → (opening_id (held_with l (peer_of fact)) ≡ Some near → ⊥) → IsHeldAs l near ni aim → IsHeldAs (noted l fact) near ni aim
+still_held l fact near ni (AtPeer peer n) other is =
+    held_after_other l fact peer (λ same. other (ap (λ q. opening_id (held_with l q)) same ∙ ap opening_id is)) ∙ is
+
 -- Where a fact leaves no attempt with its peer, and that attempt isn't kept, all is sound.
 pub sound_after : (s : StartupState) (fact : Fact) → IsSound s → opening_id (held_with (noted s.ledger fact) (peer_of fact)) ≡ None → IsSound (stepped s fact)
 sound_after s fact sound none =
@@ -103,8 +112,7 @@ sound_after s fact sound none =
       own = sound.own;
       held = λ near a e.
           let there = left s.attempts gone near a e in
-          let is = sound.held near a there.was in
-          held_after_other s.ledger fact a.peer (λ same. there.other (ap (λ q. opening_id (held_with s.ledger q)) same ∙ ap opening_id is)) ∙ is;
+          still_held s.ledger fact near a.ni a.aim there.other (sound.held near a there.was);
       there = λ peer n near ni e.
           elim (same_end p peer) [
             | inl d ↦
@@ -191,12 +199,11 @@ keyed_by_is_sound s keying near nr None is sound =
 -- ---- what a responder's keying leaves
 
 -- They do after the opening of an attempt.
-pub after_opening_is_sound : (s : StartupState) (near : ℕ) (a : AttemptState) (keying : ResponderKeying) → IsSound s → get s.attempts near ≡ Some a
-    → IsSound (after_opening s near (opened_with near keying a))
-after_opening_is_sound s near a keying sound there =
-    let fact : Fact = opened_with near keying a in
-    let held_is : held_with s.ledger a.peer ≡ Some (Opening a.n near a.ni) = sound.held near a there in
-    let none : opening_id (held_with (noted s.ledger fact) a.peer) ≡ None = ap opening_id (held_after_own s.ledger fact ∙ ap (after fact) held_is) in
+pub after_opening_is_sound : (s : StartupState) (near : ℕ) (peer : List ℕ) (n : ℕ) (ni : List ℕ) (keying : ResponderKeying) → IsSound s → held_with s.ledger peer ≡ Some (Opening n near ni)
+    → IsSound (after_opening s near (opened_with near keying peer n ni))
+after_opening_is_sound s near peer n ni keying sound held_is =
+    let fact : Fact = opened_with near keying peer n ni in
+    let none : opening_id (held_with (noted s.ledger fact) peer) ≡ None = ap opening_id (held_after_own s.ledger fact ∙ ap (after fact) held_is) in
     subst (λ (t : Option ℕ). IsSound (record s { ledger = noted s.ledger fact; attempts = without s.attempts t })) (ap opening_id held_is) (sound_after s fact sound none)
 
 -- ---- a birth in the code
@@ -225,29 +232,51 @@ born_is_birth s keying from near nr ended born answer fresh is told =
 
 -- ---- an opening in the code
 
--- the attempt under a near id
-pub attempt_there : (found : Option AttemptState) (peer : List ℕ) → peer_of_attempt found ≡ Some peer → (a : AttemptState) × (found ≡ Some a) × (a.peer ≡ peer)
-attempt_there None peer e = absurd (cc)
-attempt_there (Some a) peer e = (a, refl, cc)
+-- the attempt under a near id is one towards a peer, with which it is held
+pub record IsTowards (s : StartupState) (near : ℕ) (peer : List ℕ) : Type 0 where
+  pub attempt : AttemptState
+  pub n : ℕ
+  pub there : get s.attempts near ≡ Some attempt
+  pub aims : attempt.aim ≡ AtPeer peer n
+  pub is_held : held_with s.ledger peer ≡ Some (Opening n near attempt.ni)
 
--- the attempt is held with its peer, and its session is opened
-pub answered_is_opened : (s : StartupState) (near : ℕ) (peer : List ℕ) (keying : ResponderKeying) (a : AttemptState) → IsSound s → get s.attempts near ≡ Some a → a.peer ≡ peer
-    → opened_fact (held_with s.ledger peer) peer keying.part.nr keying.near keying.part.k ≡ Some (opened_with near keying a)
-answered_is_opened s near peer keying a sound there is =
-    ap (λ q. opened_fact (held_with s.ledger q) q keying.part.nr keying.near keying.part.k) (sym is)
-    ∙ ap (λ thing. opened_fact thing a.peer keying.part.nr keying.near keying.part.k) (sound.held near a there)
+pub attempt_there : (s : StartupState) (near : ℕ) (peer : List ℕ) → IsSound s → peer_of_attempt (get s.attempts near) ≡ Some peer → IsTowards s near peer
+attempt_there s near peer sound there = go (get s.attempts near) refl there
+  where
+    by_aim : (a : AttemptState) → get s.attempts near ≡ Some a → (aim : Aim) → a.aim ≡ aim → peer_of_aim aim ≡ Some peer → IsTowards s near peer
+    by_aim a at (AtPeer p n) aims e =
+        let same : p ≡ peer = cc in
+        let held_is : held_with s.ledger p ≡ Some (Opening n near a.ni) = subst (λ (aim : Aim). IsHeldAs s.ledger near a.ni aim) aims (sound.held near a at) in
+        record {
+          attempt = a;
+          n = n;
+          there = at;
+          aims = aims ∙ ap (λ (q : List ℕ). AtPeer q n) same;
+          is_held = ap (held_with s.ledger) (sym same) ∙ held_is;
+        }
+
+    go : (o : Option AttemptState) → get s.attempts near ≡ o → peer_of_attempt o ≡ Some peer → IsTowards s near peer
+    go None at e = absurd (cc)
+    go (Some a) at e = by_aim a at a.aim refl e
+
+-- its session is opened
+pub answered_is_opened : (s : StartupState) (near : ℕ) (peer : List ℕ) (keying : ResponderKeying) (to : IsTowards s near peer)
+    → opened_fact (held_with s.ledger peer) peer keying.part.nr keying.near keying.part.k ≡ Some (opened_with near keying peer to.n to.attempt.ni)
+answered_is_opened s near peer keying to =
+    ap (λ thing. opened_fact thing peer keying.part.nr keying.near keying.part.k) to.is_held
 
 -- the attempt's opening was noted, and the attempt left
 pub opened_is_kept_sound : (s : StartupState) (near : ℕ) (peer : List ℕ) (keying : ResponderKeying) (fact : Fact) (ledger : Ledger) (attempts : Attempts) → IsSound s
     → peer_of_attempt (get s.attempts near) ≡ Some peer → Some fact ≡ opened_fact (held_with s.ledger peer) peer keying.part.nr keying.near keying.part.k
     → ledger ≡ noted s.ledger fact → attempts ≡ remove s.attempts near → IsSound (record s { ledger = ledger; attempts = attempts })
 opened_is_kept_sound s near peer keying fact ledger attempts sound there told noted_is left_is =
-    let at = attempt_there (get s.attempts near) peer there in
-    let both : Some fact ≡ Some (opened_with near keying at.0) = told ∙ answered_is_opened s near peer keying at.0 sound at.1 at.2 in
-    let fact_is : fact ≡ opened_with near keying at.0 = cc in
-    let ledgers : ledger ≡ noted s.ledger (opened_with near keying at.0) = noted_is ∙ ap (noted s.ledger) fact_is in
-    let states : record s { ledger = ledger; attempts = attempts } ≡ after_opening s near (opened_with near keying at.0) = λ i. record s { ledger = ledgers i; attempts = left_is i } in
-    subst IsSound (sym states) (after_opening_is_sound s near at.0 keying sound at.1)
+    let at : IsTowards s near peer = attempt_there s near peer sound there in
+    let opens : Fact = opened_with near keying peer at.n at.attempt.ni in
+    let both : Some fact ≡ Some opens = told ∙ answered_is_opened s near peer keying at in
+    let fact_is : fact ≡ opens = cc in
+    let ledgers : ledger ≡ noted s.ledger opens = noted_is ∙ ap (noted s.ledger) fact_is in
+    let states : record s { ledger = ledger; attempts = attempts } ≡ after_opening s near opens = λ i. record s { ledger = ledgers i; attempts = left_is i } in
+    subst IsSound (sym states) (after_opening_is_sound s near peer at.n at.attempt.ni keying sound at.is_held)
 
 -- where there are no attempts none is found
 pub none_without_attempts : (s : StartupState) (near : ℕ) → s.attempts ≡ empty → get s.attempts near ≡ None

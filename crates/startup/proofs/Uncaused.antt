@@ -13,9 +13,10 @@ use Rattle.glare_core.specs.declared.answers.Keying.{Keying}
 use Rattle.glare_core.specs.declared.answers.HearRefusal.{HearRefusal}
 use Rattle.glare_core.specs.declared.answers.HearRefusal.TheVariants.{Stale, Glare, PeersFull, SessionsFull, Memory}
 use Rattle.glare_core.specs.Ledger.{Ledger, held_with, floor_of, row_count}
-use Rattle.glare_core.specs.Calls.{where_true, first_that_stands, again_of, peers_full, glare_of, birth_refusal, hear_refusal}
-use Rattle.startup.specs.declared.cause.Cause.{Cause}
-use Rattle.startup.specs.declared.cause.Cause.TheVariants.{OwnCertificate, BadSignature, WrongResponder}
+use Rattle.rtmfp_base.specs.Reasons.{where_true, first_that_stands}
+use Rattle.glare_core.specs.Calls.{again_of, peers_full, glare_of, birth_refusal, hear_refusal}
+use Rattle.rtmfp_base.specs.declared.cause.Cause.{Cause}
+use Rattle.rtmfp_base.specs.declared.cause.Cause.TheVariants.{OwnCertificate, BadSignature, WrongResponder}
 use Rattle.startup.specs.Packets.{is_signed}
 use Rattle.startup.specs.State.{StartupState}
 use Rattle.startup.specs.Attempts.{wide}

@@ -9,18 +9,21 @@ use Rattle.rtmfp_forms.specs.Address.{AddressParts, is_same_place}
 use Rattle.glare_core.specs.declared.facts.Why.{Why}
 use Rattle.glare_core.specs.declared.facts.Why.TheVariants.{Cancelled}
 use Rattle.glare_core.specs.declared.facts.Fact.{Fact}
-use Rattle.glare_core.specs.declared.facts.Fact.TheVariants.{Ended}
 use Rattle.glare_core.specs.declared.facts.Held.{Held}
 use Rattle.glare_core.specs.declared.facts.Held.TheVariants.{Opening, HalfOpen, KeptAsResponder, KeptAsInitiator}
 use Rattle.glare_core.specs.Ledger.{Ledger, held_with, noted, noted_if}
-use Rattle.glare_core.specs.Calls.{where_true, first_that_stands, started_fact, confirmed_fact, ended_fact}
+use Rattle.rtmfp_base.specs.Reasons.{where_true, first_that_stands}
+use Rattle.glare_core.specs.Calls.{started_fact, confirmed_fact, ended_fact}
 use Rattle.startup.specs.declared.attempt.Stage.{Stage}
 use Rattle.startup.specs.declared.attempt.Stage.TheVariants.{Hello, Keying}
 use Rattle.startup.specs.declared.answer.Answer.{Answer}
-use Rattle.startup.specs.declared.cause.Cause.{Cause}
-use Rattle.startup.specs.declared.cause.Cause.TheVariants.{Wide, NoAttempt, WrongState, WrongPeer}
+use Rattle.rtmfp_base.specs.declared.cause.Cause.{Cause}
+use Rattle.rtmfp_base.specs.declared.cause.Cause.TheVariants.{Wide, NoAttempt, WrongState, WrongPeer}
+use Rattle.startup.specs.declared.aim.Aim.{Aim}
+use Rattle.startup.specs.declared.aim.Aim.TheVariants.{AtPeer}
+use Rattle.startup.specs.Aims.{is_numbered, is_towards, discriminator_of_aim, keying_of_aim, end_of_aim}
 use Rattle.startup.specs.State.{AttemptState, Attempts, StartupState, SpreadParts}
-use Rattle.startup.specs.Packets.{ihello_packet, iikeying_signed}
+use Rattle.startup.specs.Packets.{ihello_packet}
 
 -- ---- finding attempts
 
@@ -29,7 +32,7 @@ abbrev pub lowest : (AttemptState → Bool) → Attempts → Option (ℕ × Atte
 lowest test attempts = find (λ e. test e.1) (entries attempts)
 
 abbrev pub has_number : ℕ → AttemptState → Bool
-has_number n a = a.n == n
+has_number n a = is_numbered n a.aim
 
 abbrev pub has_tag : List ℕ → AttemptState → Bool
 has_tag tag a = bytes_eq a.tag tag
@@ -51,6 +54,13 @@ with_ledger s ledger = record s { ledger = ledger }
 abbrev pub with_attempt : StartupState → ℕ → AttemptState → StartupState
 with_attempt s near a = record s { attempts = insert s.attempts near a }
 
+-- an end noted, where there is one, and the attempt with this near id forgotten
+abbrev pub without_attempt_by : StartupState → ℕ → Option Fact → StartupState
+without_attempt_by s near fact = record s {
+  ledger = noted_if s.ledger fact;
+  attempts = remove s.attempts near;
+}
+
 -- a fact noted, and the attempt with this near id forgotten
 abbrev pub without_attempt : StartupState → ℕ → Fact → StartupState
 without_attempt s near fact = record s {
@@ -62,7 +72,7 @@ without_attempt s near fact = record s {
 
 -- the hellos of an attempt, to these addresses
 abbrev pub hello_spread : AttemptState → List AddressParts → SpreadParts
-hello_spread a to = record { to = to; plain = ihello_packet (0x01 ∷ a.peer) a.tag }
+hello_spread a to = record { to = to; plain = ihello_packet (discriminator_of_aim a.aim) a.tag }
 
 -- the keying of an attempt, to an address with a cookie: under the signature key, with the own
 -- certificate
@@ -70,7 +80,7 @@ abbrev pub keying_signed : List ℕ → List ℕ → ℕ → AttemptState → Ad
 keying_signed key cert near a to cookie = record {
   to = to;
   sid = 0;
-  plain = iikeying_signed key near cookie cert a.ni a.n a.peer;
+  plain = keying_of_aim key near cookie cert a.ni a.aim;
 }
 
 abbrev pub keying_answer : StartupState → ℕ → AttemptState → AddressParts → List ℕ → Answer
@@ -91,8 +101,7 @@ abbrev pub begun_attempt : StartupState → List ℕ → List AddressParts → L
     AttemptState
 begun_attempt s peer candidates ni tag moment =
     record {
-      peer = peer;
-      n = s.ledger.started + 1;
+      aim = AtPeer peer (s.ledger.started + 1);
       ni = ni;
       tag = tag;
       start = moment;
@@ -115,16 +124,13 @@ begin_spread s peer candidates ni tag moment =
 
 -- ---- an attempt is given up
 
-abbrev pub ended_attempt : ℕ × AttemptState → Why → Fact
-ended_attempt e why = Ended e.1.peer e.0 why
-
 abbrev pub end_of : Option (ℕ × AttemptState) → Why → Option Fact
 end_of None why = None
-end_of (Some e) why = Some (ended_attempt e why)
+end_of (Some e) why = end_of_aim e.0 why e.1.aim
 
 abbrev pub after_end_of : StartupState → Option (ℕ × AttemptState) → Why → StartupState
 after_end_of s None why = s
-after_end_of s (Some e) why = without_attempt s e.0 (ended_attempt e why)
+after_end_of s (Some e) why = without_attempt_by s e.0 (end_of_aim e.0 why e.1.aim)
 
 -- the fact with which the attempt of this number is cancelled, and what is kept after it
 abbrev pub cancel_fact : StartupState → ℕ → Option Fact
@@ -163,13 +169,13 @@ abbrev pub wide : List ℕ → Option Cause
 wide bytes = where_true (nat_lt 128 (length bytes)) (Wide (length bytes))
 
 -- why an attempt isn't answered by the hello of an end with this fingerprint
-abbrev pub hello_cause : Stage → List ℕ → List ℕ → Option Cause
-hello_cause Hello peer print = if bytes_eq peer print then None else Some WrongPeer
-hello_cause (Keying at cookie) peer print = Some WrongState
+abbrev pub hello_cause : Stage → Aim → List ℕ → Option Cause
+hello_cause Hello aim print = if is_towards print aim then None else Some WrongPeer
+hello_cause (Keying at cookie) aim print = Some WrongState
 
 abbrev pub hello_cause_at : Option (ℕ × AttemptState) → List ℕ → Option Cause
 hello_cause_at None print = Some NoAttempt
-hello_cause_at (Some e) print = hello_cause e.1.stage e.1.peer print
+hello_cause_at (Some e) print = hello_cause e.1.stage e.1.aim print
 
 abbrev pub hello_cause_among : Attempts → List ℕ → List ℕ → List ℕ → Option Cause
 hello_cause_among attempts tag cookie print =

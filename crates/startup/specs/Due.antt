@@ -3,13 +3,17 @@ use Rattle.std.specs.Prelude.{ℕ, ◌+◌, ◌==◌, ◌||◌, Bool, nat_le, if
 use Rattle.rtmfp_forms.specs.Address.{AddressParts}
 use Rattle.crypto_profile.specs.Keys.{sign_key_of}
 use Rattle.glare_core.specs.declared.facts.Why.TheVariants.{Expired}
+use Rattle.glare_core.specs.declared.facts.Fact.TheVariants.{Ended}
 use Rattle.rtmfp_base.specs.Counts.{count_where}
 use Rattle.startup.specs.declared.attempt.Stage.{Stage}
 use Rattle.startup.specs.declared.attempt.Stage.TheVariants.{Hello, Keying}
 use Rattle.startup.specs.declared.answer.Due.{Due}
 use Rattle.startup.specs.declared.answer.Due.TheVariants.{Ended as EndDue, Hello as HelloDue, Keying as KeyingDue}
 use Rattle.startup.specs.State.{AttemptState, StartupState}
-use Rattle.startup.specs.Attempts.{lowest, with_attempt, without_attempt, ended_attempt, hello_spread, keying_signed}
+use Rattle.startup.specs.declared.aim.Aim.{Aim}
+use Rattle.startup.specs.declared.aim.Aim.TheVariants.{AtPeer}
+use Rattle.startup.specs.Aims.{end_of_aim}
+use Rattle.startup.specs.Attempts.{lowest, with_attempt, without_attempt_by, hello_spread, keying_signed}
 
 -- how many milliseconds stand before the repeat with this number, from the last sending; the last
 -- of them stays
@@ -48,17 +52,22 @@ repeat_signed key cert near a (Keying at cookie) =
 abbrev pub repeat_of : StartupState → ℕ → AttemptState → Due
 repeat_of s near a = repeat_signed (sign_key_of s.secret) s.cert near a a.stage
 
+-- what is done at its end, by what it is towards
+abbrev pub due_end : ℕ → Aim → Due
+due_end near (AtPeer peer n) = EndDue (Ended peer near Expired)
+
 -- the one thing that is done of an attempt that is due: its end where it is over, and else its
 -- repeat
 abbrev pub due_of : StartupState → ℕ → Option (ℕ × AttemptState) → Option Due
 due_of s moment None = None
-due_of s moment (Some e) = Some (if is_over moment e.1 then EndDue (ended_attempt e Expired)
+due_of s moment (Some e) = Some (if is_over moment e.1 then due_end e.0 e.1.aim
     else repeat_of s e.0 e.1)
 
 abbrev pub after_due_of : StartupState → ℕ → Option (ℕ × AttemptState) → StartupState
 after_due_of s moment None = s
 after_due_of s moment (Some e) = if is_over moment e.1 then
-    without_attempt s e.0 (ended_attempt e Expired) else with_attempt s e.0 (repeated e.1 moment)
+    without_attempt_by s e.0 (end_of_aim e.0 Expired e.1.aim)
+    else with_attempt s e.0 (repeated e.1 moment)
 
 -- what is due first, by rising near id, and what is left after it
 abbrev pub due : StartupState → ℕ → Option Due

@@ -5,6 +5,7 @@ use Rattle.std.specs.Ordering.{nat_cmp}
 use Rattle.std.specs.FinMap.{FinMap, get, code}
 use Rattle.startup.specs.declared.attempt.Stage.{Stage}
 use Rattle.startup.specs.declared.attempt.Stage.TheVariants.{Hello, Keying}
+use Rattle.startup.specs.Aims.{aim_word}
 use Rattle.startup.specs.State.{AttemptState, Attempts}
 use Rattle.startup.specs.Words.{word_of}
 
@@ -22,7 +23,7 @@ words_code =
     (λ _. refl)
 
 abbrev pub number_word : AttemptState → ℕ
-number_word a = a.n
+number_word a = aim_word a.aim
 
 abbrev pub tag_word : AttemptState → ℕ
 tag_word a = word_of a.tag

@@ -29,17 +29,21 @@ use Rattle.glare_core.specs.declared.answers.Keying.{Keying}
 use Rattle.glare_core.specs.declared.answers.HearRefusal.{HearRefusal}
 use Rattle.glare_core.specs.declared.answers.HearRefusal.TheVariants.{Stale as StaleNumber, Glare as OwnPrevails, PeersFull as NoRow, SessionsFull as NoPlace, Memory as NoMemory}
 use Rattle.glare_core.specs.Ledger.{Ledger, held_with, knows}
-use Rattle.glare_core.specs.Calls.{where_true, first_that_stands, is_born_of, hear_refusal, heard, heard_noted, way_made, born_fact}
-use Rattle.startup.specs.declared.cause.Cause.{Cause}
-use Rattle.startup.specs.declared.cause.Cause.TheVariants.{UnknownChunk, Malformed, NotSelected, NoAttempt, WrongPeer, WrongState, BadCookie, BadSignature, WrongResponder, OwnCertificate, Stale, Glare, PeersFull, SessionsFull}
+use Rattle.rtmfp_base.specs.Reasons.{where_true, first_that_stands}
+use Rattle.glare_core.specs.Calls.{is_born_of, hear_refusal, heard, heard_noted, way_made, born_fact}
+use Rattle.rtmfp_base.specs.declared.cause.Cause.{Cause}
+use Rattle.rtmfp_base.specs.declared.cause.Cause.TheVariants.{UnknownChunk, Malformed, NotSelected, NoAttempt, WrongPeer, WrongState, BadCookie, BadSignature, WrongResponder, OwnCertificate, Stale, Glare, PeersFull, SessionsFull}
 use Rattle.startup.specs.declared.answer.Answer.{Answer}
 use Rattle.startup.specs.declared.answer.Keyed.{Keyed}
 use Rattle.startup.specs.declared.answer.Keyed.TheVariants.{Change, Again, Birth}
+use Rattle.startup.specs.declared.aim.Aim.{Aim}
+use Rattle.startup.specs.declared.aim.Aim.TheVariants.{AtPeer}
 use Rattle.startup.specs.declared.attempt.Stage.{Stage}
 use Rattle.startup.specs.declared.attempt.Stage.TheVariants.{Hello, Keying as KeyingStage}
 use Rattle.startup.specs.declared.parts.InitiatorPart.{InitiatorPart}
 use Rattle.startup.specs.declared.parts.ResponderPart.{ResponderPart}
 use Rattle.startup.specs.Packets.{initiator_part_in, responder_part_in, is_signed, rhello_packet, cookiechange_packet, rikeying_packet}
+use Rattle.startup.specs.Aims.{is_towards}
 use Rattle.startup.specs.State.{AttemptState, Attempts, StartupState}
 use Rattle.startup.specs.Attempts.{wide, without_attempt}
 
@@ -371,7 +375,7 @@ attempt_cause keying None = Some NoAttempt
 attempt_cause keying (Some a) =
     first_that_stands (
     where_true (is_in_hello a.stage) WrongState
-    ∷ where_true (not (bytes_eq keying.part.responder a.peer)) WrongPeer
+    ∷ where_true (not (is_towards keying.part.responder a.aim)) WrongPeer
     ∷ where_true (not (bytes_eq keying.part.ni a.ni)) NoAttempt
     ∷ [])
 
@@ -392,21 +396,25 @@ abbrev pub rikeying_cause : StartupState → ℕ → List ℕ → Option Cause
 rikeying_cause s near payload = cause_by (responder_cause s near payload)
     (responder_keying_in payload)
 
--- the session of an attempt that this keying opens
-abbrev pub opened_with : ℕ → ResponderKeying → AttemptState → Fact
-opened_with near keying a =
+-- the session of an attempt towards a peer, with a number and a nonce, that this keying opens
+abbrev pub opened_with : ℕ → ResponderKeying → List ℕ → ℕ → List ℕ → Fact
+opened_with near keying peer n ni =
     Opened (record {
-      peer = a.peer;
-      n = a.n;
+      peer = peer;
+      n = n;
       near = near;
       far = keying.near;
-      ni = a.ni;
+      ni = ni;
       nr = keying.part.nr;
       k = keying.part.k;
     })
 
+-- the same of an attempt with a nonce, by what it is towards
+abbrev pub opened_as : ℕ → ResponderKeying → List ℕ → Aim → Option Fact
+opened_as near keying ni (AtPeer peer n) = Some (opened_with near keying peer n ni)
+
 abbrev pub opened_reading : ℕ → Option AttemptState → Result ResponderKeying Cause → Option Fact
-opened_reading near (Some a) (Ok keying) = Some (opened_with near keying a)
+opened_reading near (Some a) (Ok keying) = opened_as near keying a.ni a.aim
 opened_reading near (Some a) (Err cause) = None
 opened_reading near None reading = None
 

@@ -1,4 +1,5 @@
 pub mod Words
+pub mod Aims
 pub mod State
 pub mod Rows
 pub mod Packets

@@ -1,6 +1,6 @@
 -- What the code read of keyings, as contracts see it.
 use Rattle.std.specs.Prelude.{Result, Ok, Err}
-use Rattle.startup.specs.declared.cause.Cause.{Cause}
+use Rattle.rtmfp_base.specs.declared.cause.Cause.{Cause}
 use Rattle.startup.specs.declared.reading.InitiatorFields.{InitiatorFields}
 use Rattle.startup.specs.declared.reading.ResponderFields.{ResponderFields}
 use Rattle.startup.specs.Keyings.{InitiatorKeying, ResponderKeying}

@@ -5,10 +5,10 @@ use Rattle.std.specs.List.{fold, list_any}
 use Rattle.rtmfp_forms.specs.Address.{AddressParts, is_same_place, address_bytes}
 use Rattle.rtmfp_chunks.specs.Chunk.{Redirect}
 use Rattle.rtmfp_chunks.specs.FieldReading.{addresses_in}
-use Rattle.glare_core.specs.Calls.{where_true, first_that_stands}
+use Rattle.rtmfp_base.specs.Reasons.{where_true, first_that_stands}
 use Rattle.startup.specs.declared.answer.Answer.{Answer}
-use Rattle.startup.specs.declared.cause.Cause.{Cause}
-use Rattle.startup.specs.declared.cause.Cause.TheVariants.{NoAttempt, WrongState, CandidatesFull}
+use Rattle.rtmfp_base.specs.declared.cause.Cause.{Cause}
+use Rattle.rtmfp_base.specs.declared.cause.Cause.TheVariants.{NoAttempt, WrongState, CandidatesFull}
 use Rattle.startup.specs.State.{AttemptState, Attempts, StartupState, SpreadParts}
 use Rattle.startup.specs.Attempts.{lowest, has_tag, wide, joined, with_attempt, hello_spread}
 use Rattle.startup.specs.Keyings.{is_in_hello}

@@ -7,8 +7,8 @@ use Rattle.rtmfp_chunks.specs.declared.reading.ChunkFault.{ChunkFault}
 use Rattle.rtmfp_chunks.specs.Chunk.{Chunk, RHello, Redirect, CookieChange}
 use Rattle.rtmfp_chunks.specs.FieldReading.{chunk_reading}
 use Rattle.identity.specs.Certificates.{certificate_fault}
-use Rattle.startup.specs.declared.cause.Cause.{Cause}
-use Rattle.startup.specs.declared.cause.Cause.TheVariants.{UnknownChunk, Malformed}
+use Rattle.rtmfp_base.specs.declared.cause.Cause.{Cause}
+use Rattle.rtmfp_base.specs.declared.cause.Cause.TheVariants.{UnknownChunk, Malformed}
 use Rattle.startup.specs.State.{StartupState}
 use Rattle.startup.specs.Attempts.{rhello_cause, cookie_change_cause}
 use Rattle.startup.specs.Redirects.{redirect_cause}

@@ -8,19 +8,19 @@ use Rattle.sha2.specs.Sha256.{sha256}
 use Rattle.rtmfp_forms.specs.Address.{AddressParts}
 use Rattle.glare_core.specs.declared.facts.Held.TheVariants.{Opening}
 use Rattle.glare_core.specs.Ledger.{Ledger, new_ledger, held_with}
+use Rattle.startup.specs.declared.aim.Aim.{Aim}
 use Rattle.startup.specs.declared.attempt.Stage.{Stage}
+use Rattle.startup.specs.Aims.{peer_of_aim, IsHeldAs}
 
 -- one packet for several addresses, in this order
 pub record SpreadParts : Type 0 where
   pub to : List AddressParts
   pub plain : List ℕ
 
--- an attempt towards a peer
+-- an attempt
 pub record AttemptState : Type 0 where
-  -- the fingerprint of the peer
-  pub peer : List ℕ
-  -- the number of the attempt
-  pub n : ℕ
+  -- what it is towards
+  pub aim : Aim
   -- its nonce
   pub ni : List ℕ
   -- the tag of its hellos
@@ -61,18 +61,18 @@ new_startup cert secret cookie_secret max_peers =
       attempts = empty;
     }
 
--- the peer of the attempt, where there is one
+-- the peer of the attempt, where there is one and its peer is known
 abbrev pub peer_of_attempt : Option AttemptState → Option (List ℕ)
 peer_of_attempt None = None
-peer_of_attempt (Some a) = Some a.peer
+peer_of_attempt (Some a) = peer_of_aim a.aim
 
 -- The attempts and the ledger name the same things.
 pub record IsSound (s : StartupState) : Type 0 where
   -- the ledger is of the own fingerprint
   pub own : s.ledger.own ≡ sha256 s.cert
-  -- each attempt is held with its peer
+  -- each attempt is held as what it aims at
   pub held : (near : ℕ) (a : AttemptState) → get s.attempts near ≡ Some a →
-      held_with s.ledger a.peer ≡ Some (Opening a.n near a.ni)
+      IsHeldAs s.ledger near a.ni a.aim
   -- each attempt that is held is there under its near id
   pub there : (peer : List ℕ) (n near : ℕ) (ni : List ℕ) →
       held_with s.ledger peer ≡ Some (Opening n near ni) →
@@ -85,24 +85,21 @@ spread_code address =
     code_by (List AddressParts × List ℕ) (coded× (coded_list address) (coded_list coded_ℕ))
     (λ s. (s.to, s.plain)) (λ p. record { to = p.0; plain = p.1 }) (λ _. refl)
 
-abbrev pub attempt_code : Coded AddressParts → Coded Stage → Coded AttemptState
-attempt_code address stage =
-    code_by (List ℕ × (ℕ × (List ℕ × (List ℕ × (ℕ × (List AddressParts × (Stage × (ℕ × ℕ))))))))
-    (coded× (coded_list coded_ℕ) (coded× coded_ℕ
-    (coded× (coded_list coded_ℕ) (coded× (coded_list coded_ℕ)
-    (coded× coded_ℕ (coded× (coded_list address) (coded× stage (coded× coded_ℕ coded_ℕ))))))))
-    (λ a. (a.peer, (a.n, (a.ni, (a.tag, (a.start, (a.candidates, (a.stage, (a.last, a.gap)))))))))
+abbrev pub attempt_code : Coded Aim → Coded AddressParts → Coded Stage → Coded AttemptState
+attempt_code aim address stage =
+    code_by (Aim × (List ℕ × (List ℕ × (ℕ × (List AddressParts × (Stage × (ℕ × ℕ)))))))
+    (coded× aim (coded× (coded_list coded_ℕ) (coded× (coded_list coded_ℕ)
+    (coded× coded_ℕ (coded× (coded_list address) (coded× stage (coded× coded_ℕ coded_ℕ)))))))
+    (λ a. (a.aim, (a.ni, (a.tag, (a.start, (a.candidates, (a.stage, (a.last, a.gap))))))))
     (λ p. record {
-      peer = p.0;
-      n = p.1.0;
-      ni = p.1.1.0;
-      tag = p.1.1.1.0;
-      start = p.1.1.1.1.0;
-      candidates = p.1.1.1.1.1.0;
-      stage = p.1.1.1.1.1.1.0;
-      last = p.1.1.1.1.1.1.1.0;
-      gap =
-          p.1.1.1.1.1.1.1.1;
+      aim = p.0;
+      ni = p.1.0;
+      tag = p.1.1.0;
+      start = p.1.1.1.0;
+      candidates = p.1.1.1.1.0;
+      stage = p.1.1.1.1.1.0;
+      last = p.1.1.1.1.1.1.0;
+      gap = p.1.1.1.1.1.1.1;
     })
     (λ _. refl)
 

@@ -1,7 +1,7 @@
 //! What opening sessions answers, and what it sends.
 
-use crate::cause::Cause;
 use glare_core::Fact;
+use rtmfp_base::Cause;
 use rtmfp_forms::{Address, Outgoing};
 use std::marker::Model;
 use thiserror::Error;

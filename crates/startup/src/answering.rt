@@ -12,11 +12,11 @@ ghost use Rattle.startup.specs.Judging.{IsFound};
 
 use crate::answer::{Answer, KeyRefusal};
 use crate::attempt::Change;
-use crate::cause::Cause;
 use crate::choosing::{answered_near, changed_near};
 use crate::leaving::Found;
 use crate::sending::{keying_again, keying_answer};
 use crate::startup::Startup;
+use rtmfp_base::Cause;
 use rtmfp_forms::Address;
 
 impl Startup {

@@ -1,14 +1,13 @@
 //! What is kept of an attempt, in fixed arrays.
 
+use crate::aim::Aim;
 use crate::words::cookie_word;
+use rtmfp_base::limits::CANDIDATES;
 use rtmfp_forms::Address;
 use std::marker::Model;
 
 /// The most bytes of a cookie that is kept (own).
 pub(crate) const COOKIE_LIMIT: usize = 128;
-
-/// The most candidate addresses of an attempt (own).
-pub(crate) const CANDIDATES: usize = 16;
 
 /// The number of the gap that stays (own).
 const LAST_GAP: u8 = 4;
@@ -75,13 +74,11 @@ pub(crate) enum Stage {
     Keying { at: Address, cookie: KeptCookie },
 }
 
-/// An attempt towards a peer.
+/// An attempt.
 #[derive(Drop)]
 pub(crate) struct Attempt {
-    /// The fingerprint of the peer.
-    pub(crate) peer: [u8; 32],
-    /// The number of the attempt.
-    pub(crate) n: u64,
+    /// What it is towards.
+    pub(crate) aim: Aim,
     /// Its nonce.
     pub(crate) ni: [u8; 16],
     /// The tag of its hellos.
@@ -102,15 +99,16 @@ impl Model for Attempt {
     ghost use Rattle.std.specs.Prelude.{◌≤◌, take};
     ghost use Rattle.startup.specs.State.{AttemptState, attempt_code};
     ghost use Rattle.rtmfp_forms.specs.contracts.address.Address as address_type;
+    ghost use Rattle.startup.specs.contracts.aim.Aim as aim_type;
     ghost use Rattle.startup.specs.contracts.attempt.Stage as stage_type;
 
     ghost Value = { AttemptState };
 
-    ghost coded = { attempt_code address_type.the_row.coded stage_type.the_row.coded };
+    ghost coded = { attempt_code aim_type.the_row.coded address_type.the_row.coded
+        stage_type.the_row.coded };
 
     ghost view = { λ a. record {
-      peer = a.peer;
-      n = a.n;
+      aim = a.aim;
       ni = a.ni;
       tag = a.tag;
       start = a.start;

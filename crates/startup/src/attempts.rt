@@ -4,6 +4,7 @@ ghost use Rattle.std.specs.Prelude.{◌≡◌, is_some};
 ghost use Rattle.glare_core.specs.Ledger.{held_with};
 ghost use Rattle.startup.specs.Attempts.{session_in};
 
+use crate::aim::Aim;
 use crate::answer::Spread;
 use crate::attempt::{Attempt, Stage};
 use crate::candidates::{Candidates, distinct_candidates};
@@ -79,8 +80,10 @@ impl Startup {
         };
         let Candidates { to, count } = distinct_candidates(candidates);
         let attempt = Attempt {
-            peer: epd.print,
-            n: self.peers.started(),
+            aim: Aim::AtPeer {
+                peer: epd.print,
+                n: self.peers.started(),
+            },
             ni,
             tag,
             start: moment,

@@ -6,7 +6,7 @@ ghost use Rattle.rtmfp_forms.specs.Address.{is_same_place};
 ghost use Rattle.startup.specs.Attempts.{joined, distinct_candidates};
 ghost use Rattle.startup.specs.Redirects.{joined_beside, new_candidates, told_addresses};
 
-use crate::attempt::CANDIDATES;
+use rtmfp_base::limits::CANDIDATES;
 use rtmfp_chunks::Addresses;
 use rtmfp_forms::Address;
 

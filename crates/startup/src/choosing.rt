@@ -7,9 +7,9 @@ ghost use Rattle.startup.specs.Attempts.{wide, lowest, has_tag, hello_cause, hel
 ghost use Rattle.startup.specs.Sought.{IsChosenNear, IsChosenAt};
 
 use crate::attempt::{Attempt, Stage};
-use crate::cause::Cause;
 use crate::indexed::IndexedAttempts;
 use crate::rows::{Sought, has_cookie};
+use rtmfp_base::Cause;
 use sha2::{Digest, Sha256};
 
 /// The most bytes of a tag or a cookie that is taken from a peer (own).
@@ -29,11 +29,11 @@ pub fn wide(bytes: &[u8]) -> Option<Cause>
 /// Why an attempt isn't answered by the hello of an end with this certificate, which is hashed where
 /// the attempt sends hellos alone.
 fn hello_cause(attempt: &Attempt, cert: &[u8]) -> Option<Cause>
-    ensures { result ≡ hello_cause attempt.now.stage attempt.now.peer (sha256 cert.now) }
+    ensures { result ≡ hello_cause attempt.now.stage attempt.now.aim (sha256 cert.now) }
 {
     match &attempt.stage {
         Stage::Hello => {
-            if attempt.peer == Sha256::digest(cert) {
+            if attempt.aim.is_towards(&Sha256::digest(cert)) {
                 None
             } else {
                 Some(Cause::WrongPeer)

@@ -11,6 +11,14 @@ impl Startup {
     ghost use Rattle.std.specs.Prelude.{◌≡◌, ◌<◌, IfSome};
     ghost use Rattle.startup.specs.Due.{due, after_due, due_count};
 
+    /// Tells that a moment has come, so that `due` and `due_sends` find at once what is due then,
+    /// however much it is. It changes nothing that contracts see, and takes no memory.
+    pub fn advance(&mut self, moment: u64)
+        ensures { self.new ≡ self.old }
+    {
+        self.attempts.advance(moment);
+    }
+
     /// The first thing that is due at this moment, by rising near id: an attempt ends 95,000 ms
     /// after its start, and before that it repeats what it sends. None exactly where nothing is
     /// due. It takes no memory.

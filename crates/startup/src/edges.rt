@@ -12,19 +12,23 @@ ghost use Rattle.cookies.specs.Cookie.{cookie_of, cookie_test};
 ghost use Rattle.glare_core.specs.Calls.{hear_refusal};
 ghost use Rattle.glare_core.specs.declared.answers.HearRefusal.TheVariants.{SessionsFull};
 ghost use Rattle.glare_core.specs.declared.facts.Joined.{Joined};
+ghost use Rattle.glare_core.specs.declared.facts.Fact.TheVariants.{Ended};
 ghost use Rattle.glare_core.specs.declared.facts.Why.TheVariants.{Expired as LastedTooLong};
+ghost use Rattle.startup.specs.declared.aim.Aim.{Aim};
+ghost use Rattle.startup.specs.declared.aim.Aim.TheVariants.{AtPeer};
 ghost use Rattle.startup.specs.declared.attempt.Stage.TheVariants.{Hello, Keying};
-ghost use Rattle.startup.specs.declared.cause.Cause.{Cause};
-ghost use Rattle.startup.specs.declared.cause.Cause.TheVariants.{BadCookie, BadSignature, CandidatesFull, Malformed, NoAttempt, OwnCertificate, SessionsFull as CauseFull, Wide, WrongPeer, WrongResponder, WrongState};
+ghost use Rattle.startup.specs.Aims.{is_towards};
+ghost use Rattle.rtmfp_base.specs.declared.cause.Cause.{Cause};
+ghost use Rattle.rtmfp_base.specs.declared.cause.Cause.TheVariants.{BadCookie, BadSignature, CandidatesFull, Malformed, NoAttempt, OwnCertificate, SessionsFull as CauseFull, Wide, WrongPeer, WrongResponder, WrongState};
 ghost use Rattle.startup.specs.declared.answer.Due.TheVariants.{Ended as EndDue, Hello as HelloDue, Keying as KeyingDue};
 ghost use Rattle.startup.specs.State.{AttemptState, Attempts, StartupState};
-ghost use Rattle.startup.specs.Attempts.{after_answer, after_change, answered, begun_attempt, change_cause_among, changed, ended_attempt, has_tag, hello_cause, hello_cause_among, keying_signed, lowest, distinct_candidates, recookied, wide, with_attempt, without_attempt};
+ghost use Rattle.startup.specs.Attempts.{after_answer, after_change, answered, begun_attempt, change_cause_among, changed, has_tag, hello_cause, hello_cause_among, keying_signed, lowest, distinct_candidates, recookied, wide, with_attempt, without_attempt};
 ghost use Rattle.startup.specs.Due.{after_due_of, due_of, gap_of, is_over, is_repeat_due, repeat_signed, repeated, sends};
 ghost use Rattle.startup.specs.Keyings.{InitiatorKeying, ResponderKeying, attempt_cause, cert_offset, change_answer, cookie_cause, formed_initiator, formed_responder, heard_cause, initiator_cause, initiator_hello_answer, is_own, keying_of, named_cause, responder_cause, session_answer};
 ghost use Rattle.startup.specs.Refusals.{rhello_refusal_with};
 ghost use Rattle.startup.specs.Packets.{cookiechange_packet, ihello_packet, iikeying_signed, initiator_part, initiator_part_in, is_signed, responder_part, responder_part_in, rhello_packet, rikeying_packet};
 ghost use Rattle.startup.specs.Redirects.{after_extension, extended, full_cause, new_candidates, or_source, redirect_cause_among, redirect_cause_at, redirect_spread_of, told_addresses};
-ghost use Rattle.startup.specs.Edges.{v4, timed, in_hello, in_keying, AreTwo};
+ghost use Rattle.startup.specs.Edges.{v4, timed, towards, in_hello, in_keying, AreTwo};
 
 /// What isn't answered is sent again after 1,000, 1,500, 2,250, 3,375 and 5,062 ms, and then after
 /// 5,062 ms each, counted from the last sending.
@@ -46,15 +50,15 @@ pub fn a_repeat_is_due_after_its_gap()
 pub fn an_attempt_is_over_after_95_seconds()
     ensures before { (a : AttemptState) → is_over 95999 (timed 1000 90000 4 a) ≡ false }
     ensures over { (a : AttemptState) → is_over 96000 (timed 1000 90000 4 a) ≡ true }
-    ensures last_repeat { (s : StartupState) (a : AttemptState) →
-        due_of s 95999 (Some (5, in_hello (timed 1000 90000 4 a)))
-        ≡ Some (HelloDue (record { to = a.candidates; plain = ihello_packet (1 ∷ a.peer) a.tag })) }
-    ensures end { (s : StartupState) (a : AttemptState) →
-        due_of s 96000 (Some (5, in_hello (timed 1000 90000 4 a)))
-        ≡ Some (EndDue (ended_attempt (5, a) LastedTooLong)) }
-    ensures after_end { (s : StartupState) (a : AttemptState) →
-        after_due_of s 96000 (Some (5, timed 1000 90000 4 a))
-        ≡ without_attempt s 5 (ended_attempt (5, a) LastedTooLong) }
+    ensures last_repeat { (s : StartupState) (a : AttemptState) (peer : List ℕ) (n : ℕ) →
+        due_of s 95999 (Some (5, towards peer n (in_hello (timed 1000 90000 4 a))))
+        ≡ Some (HelloDue (record { to = a.candidates; plain = ihello_packet (1 ∷ peer) a.tag })) }
+    ensures end { (s : StartupState) (a : AttemptState) (peer : List ℕ) (n : ℕ) →
+        due_of s 96000 (Some (5, towards peer n (in_hello (timed 1000 90000 4 a))))
+        ≡ Some (EndDue (Ended peer 5 LastedTooLong)) }
+    ensures after_end { (s : StartupState) (a : AttemptState) (peer : List ℕ) (n : ℕ) →
+        after_due_of s 96000 (Some (5, towards peer n (timed 1000 90000 4 a)))
+        ≡ without_attempt s 5 (Ended peer 5 LastedTooLong) }
     ensures after_repeat { (s : StartupState) (a : AttemptState) →
         after_due_of s 95999 (Some (5, timed 1000 90000 4 a))
         ≡ with_attempt s 5 (timed 1000 95999 4 a) }
@@ -64,9 +68,9 @@ pub fn an_attempt_is_over_after_95_seconds()
 /// Hellos are repeated to all candidates, in their order, and a keying to the address that
 /// answered.
 pub fn a_repeat_goes_to_all_candidates()
-    ensures hello { (key cert : List ℕ) (near : ℕ) (a : AttemptState) →
-        repeat_signed key cert near a Hello ≡ HelloDue
-        (record { to = a.candidates; plain = ihello_packet (1 ∷ a.peer) a.tag }) }
+    ensures hello { (key cert : List ℕ) (near : ℕ) (a : AttemptState) (peer : List ℕ) (n : ℕ) →
+        repeat_signed key cert near (towards peer n a) Hello ≡ HelloDue
+        (record { to = a.candidates; plain = ihello_packet (1 ∷ peer) a.tag }) }
     ensures keying { (key cert : List ℕ) (near : ℕ) (a : AttemptState) (at : AddressParts)
         (cookie : List ℕ) → repeat_signed key cert near a (Keying at cookie)
         ≡ KeyingDue (keying_signed key cert near a at cookie) }
@@ -85,8 +89,7 @@ pub fn an_attempt_begins_with_its_hello()
     ensures begun { (s : StartupState) (peer ni tag : List ℕ) →
         begun_attempt s peer (v4 0 1 ∷ v4 2 1 ∷ []) ni tag 1000
         ≡ record {
-          peer = peer;
-          n = s.ledger.started + 1;
+          aim = AtPeer peer (s.ledger.started + 1);
           ni = ni;
           tag = tag;
           start = 1000;
@@ -149,10 +152,10 @@ pub fn a_redirect_counts_as_a_sending()
         ≡ record (timed 0 3000 2 a) { candidates = a.candidates ++ v4 0 3 ∷ [] } }
     ensures nothing { (s : StartupState) (a : AttemptState) → after_extension s (5, a) [] 3000
         ≡ s }
-    ensures sent { (a : AttemptState) →
-        redirect_spread_of (Some (5, record a { candidates = v4 0 1 ∷ [] }))
+    ensures sent { (a : AttemptState) (peer : List ℕ) (n : ℕ) →
+        redirect_spread_of (Some (5, towards peer n (record a { candidates = v4 0 1 ∷ [] })))
         (v4 0 2 ∷ v4 0 1 ∷ [])
-        ≡ Some (record { to = v4 0 2 ∷ []; plain = ihello_packet (1 ∷ a.peer) a.tag }) }
+        ≡ Some (record { to = v4 0 2 ∷ []; plain = ihello_packet (1 ∷ peer) a.tag }) }
     ensures before { (a : AttemptState) →
         is_repeat_due 5249 (extended (timed 0 1000 2 a) (v4 0 3 ∷ []) 3000) ≡ false }
     ensures again { (a : AttemptState) →
@@ -238,10 +241,10 @@ pub fn a_field_of_129_bytes_is_wide()
 /// A responder's hello meets an attempt in the hello stage, of the end whose certificate it has;
 /// the stage comes first.
 pub fn a_hello_meets_the_hello_stage()
-    ensures right { hello_cause Hello (7 ∷ []) (7 ∷ []) ≡ None }
-    ensures peer { hello_cause Hello (7 ∷ []) (8 ∷ []) ≡ Some WrongPeer }
-    ensures stage { (at : AddressParts) (cookie peer print : List ℕ) →
-        hello_cause (Keying at cookie) peer print ≡ Some WrongState }
+    ensures right { (n : ℕ) → hello_cause Hello (AtPeer (7 ∷ []) n) (7 ∷ []) ≡ None }
+    ensures peer { (n : ℕ) → hello_cause Hello (AtPeer (7 ∷ []) n) (8 ∷ []) ≡ Some WrongPeer }
+    ensures stage { (at : AddressParts) (cookie print : List ℕ) (aim : Aim) →
+        hello_cause (Keying at cookie) aim print ≡ Some WrongState }
 {}
 
 /// The part of an initiator has 56 bytes: its nonce, the number of its attempt and the fingerprint
@@ -340,14 +343,14 @@ pub fn an_answer_needs_the_stage_the_peer_and_the_nonce()
     ensures stage { (keying : ResponderKeying) (a : AttemptState) →
         attempt_cause keying (Some (in_hello a)) ≡ Some WrongState }
     ensures peer { (keying : ResponderKeying) (a : AttemptState) (at : AddressParts)
-        (cookie : List ℕ) → bytes_eq keying.part.responder a.peer ≡ false →
+        (cookie : List ℕ) → is_towards keying.part.responder a.aim ≡ false →
         attempt_cause keying (Some (in_keying at cookie a)) ≡ Some WrongPeer }
     ensures nonce { (keying : ResponderKeying) (a : AttemptState) (at : AddressParts)
-        (cookie : List ℕ) → bytes_eq keying.part.responder a.peer ≡ true →
+        (cookie : List ℕ) → is_towards keying.part.responder a.aim ≡ true →
         bytes_eq keying.part.ni a.ni ≡ false → attempt_cause keying (Some (in_keying at cookie a))
         ≡ Some NoAttempt }
     ensures right { (keying : ResponderKeying) (a : AttemptState) (at : AddressParts)
-        (cookie : List ℕ) → bytes_eq keying.part.responder a.peer ≡ true →
+        (cookie : List ℕ) → is_towards keying.part.responder a.aim ≡ true →
         bytes_eq keying.part.ni a.ni ≡ true → attempt_cause keying (Some (in_keying at cookie a))
         ≡ None }
     ensures signature { (s : StartupState) (near : ℕ) (payload : List ℕ)
@@ -365,12 +368,12 @@ pub fn answers_go_where_they_are_taken()
           plain = rhello_packet tag (cookie_of s.cookie_secret to now) s.cert;
         } }
     ensures keying { (key cert : List ℕ) (near : ℕ) (a : AttemptState) (to : AddressParts)
-        (cookie : List ℕ) → keying_signed key cert near a to cookie
+        (peer cookie : List ℕ) (n : ℕ) → keying_signed key cert near (towards peer n a) to cookie
         ≡ record {
           to = to;
           sid = 0;
-          plain = iikeying_signed key near cookie cert a.ni a.n
-              a.peer;
+          plain = iikeying_signed key near cookie cert a.ni n
+              peer;
         } }
     ensures change { (s : StartupState) (keying : InitiatorKeying) (from : AddressParts) (now : ℕ) →
         change_answer s keying from now ≡ record {

@@ -269,7 +269,7 @@ impl IndexedAttempts {
         ensures { self.new.attempts ≡ insert self.old.attempts near attempt }
     {
         is_sized(&attempt);
-        self.numbers.put(attempt.n, near);
+        self.numbers.put(attempt.aim.word(), near);
         self.tags.put(word_of(&attempt.tag), near);
         self.table.keep(near, attempt);
         mark(&self.table, &mut self.cookies, near);
@@ -299,7 +299,7 @@ impl IndexedAttempts {
             self.table.forget(near);
             return;
         };
-        self.numbers.take(attempt.n);
+        self.numbers.take(attempt.aim.word());
         self.tags.take(word_of(&attempt.tag));
         self.table.forget(near);
     }
@@ -333,7 +333,15 @@ impl IndexedAttempts {
         }
     }
 
-    /// The attempt that is due first, by rising near ids. It looks at those alone that are due.
+    /// Tells that a moment has come, so that `due` finds what is due then at once.
+    pub(crate) fn advance(&mut self, moment: u64)
+        ensures { self.new ≡ self.old }
+    {
+        self.table.advance(moment);
+    }
+
+    /// The attempt that is due first, by rising near ids. It looks at those alone that are due, and
+    /// at the moment of the last `advance` at one.
     pub(crate) fn due(&self, moment: u64) -> Option<FoundAttempt<'_>>
         ensures { IsChosen (lowest (is_due moment) self.now.attempts) self.now.attempts result }
     {

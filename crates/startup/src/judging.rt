@@ -17,9 +17,9 @@ ghost use Rattle.startup.specs.Judging.{unless_cause, again_or_new, hearing, jud
 ghost use Rattle.startup.specs.Read.{initiator_of, responder_of};
 ghost use Rattle.startup.specs.State.{peer_of_attempt};
 
+use crate::aim::Aim;
 use crate::answer::{KeyRefusal, Keyed};
 use crate::attempt::{Attempt, Stage};
-use crate::cause::Cause;
 use crate::choosing::wide;
 use crate::indexed::IndexedAttempts;
 use crate::parts::is_signed;
@@ -30,6 +30,7 @@ use crate::startup::Startup;
 use cookies::CookieTest;
 use glare_core::{Fact, HearRefusal, Joined, Keying};
 use identity::Certificate;
+use rtmfp_base::Cause;
 use rtmfp_forms::Address;
 
 /// What hearing an initiator's keying would be that isn't discarded.
@@ -96,7 +97,7 @@ fn unopened_cause(attempt: &Attempt, fields: &ResponderFields<'_>) -> Option<Cau
     if is_in_hello(&attempt.stage) {
         return Some(Cause::WrongState);
     }
-    if fields.part.responder != attempt.peer {
+    if !attempt.aim.is_towards(&fields.part.responder) {
         return Some(Cause::WrongPeer);
     }
     if fields.part.ni != attempt.ni {
@@ -123,7 +124,9 @@ fn opened_peer(
     };
     match unopened_cause(attempt, fields) {
         Some(cause) => Err(cause),
-        None => Ok(attempt.peer),
+        None => match &attempt.aim {
+            Aim::AtPeer { peer, .. } => Ok(*peer),
+        },
     }
 }
 
@@ -283,7 +286,9 @@ impl Startup {
         }
         match unopened_cause(attempt, fields) {
             Some(cause) => Err(cause),
-            None => Ok(attempt.peer),
+            None => match &attempt.aim {
+                Aim::AtPeer { peer, .. } => Ok(*peer),
+            },
         }
     }
 

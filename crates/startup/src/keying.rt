@@ -15,7 +15,6 @@ ghost use Rattle.startup.specs.Keyings.{rikeying_cause, opened, after_opening};
 ghost use Rattle.startup.specs.Read.{initiator_of};
 
 use crate::answer::{Answer, KeyRefusal, Keyed};
-use crate::cause::Cause;
 use crate::choosing::wide;
 use crate::packets::{cookiechange_packet, rhello_packet, rikeying_packet};
 use crate::reading::{InitiatorFields, read_initiator_keying, read_responder_keying};
@@ -23,6 +22,7 @@ use crate::rows::forget;
 use crate::startup::Startup;
 use glare_core::{Fact, Heard, Joined, Keying, Why};
 use identity::Epd;
+use rtmfp_base::Cause;
 use rtmfp_forms::Address;
 
 /// The near id of what ends for such a cause, where it is an attempt that makes way for a session.

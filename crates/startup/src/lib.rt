@@ -2,12 +2,12 @@
 //! and open sessions.
 #![tactic(auto)]
 
+mod aim;
 mod answer;
 mod answering;
 mod attempt;
 mod attempts;
 mod candidates;
-mod cause;
 mod choosing;
 mod due;
 pub mod edges;
@@ -30,8 +30,8 @@ mod startup;
 mod table;
 mod words;
 
+pub use aim::Aim;
 pub use answer::{Answer, Due, KeyRefusal, Keyed, Spread};
-pub use cause::Cause;
 pub use choosing::wide;
 pub use deadlines::Deadlines;
 pub use judging::Hearing;
@@ -39,4 +39,5 @@ pub use leaving::Found;
 pub use parts::{InitiatorPart, ResponderPart};
 pub use reading::{InitiatorFields, ResponderFields, read_initiator_keying, read_responder_keying};
 pub use redirecting::{Extension, redirect_answer};
+pub use rtmfp_base::Cause;
 pub use startup::Startup;

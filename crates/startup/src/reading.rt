@@ -7,9 +7,9 @@ ghost use Rattle.startup.specs.Keyings.{initiator_keying_in, formed_initiator, r
 ghost use Rattle.startup.specs.Keyings.{formed_responder};
 ghost use Rattle.startup.specs.Read.{initiator_read, responder_read};
 
-use crate::cause::Cause;
 use crate::parts::{InitiatorPart, ResponderPart, read_initiator_part, read_responder_part};
 use identity::Certificate;
+use rtmfp_base::Cause;
 use rtmfp_chunks::kinds::{IIKEYING, RIKEYING};
 use rtmfp_chunks::{ChunkFault, ChunkView, read_chunk};
 use rtmfp_vlu::read_vlu;

@@ -13,7 +13,6 @@ ghost use Rattle.startup.specs.Judging.{after_extension_of, extension_spread, Ex
 use crate::answer::{Answer, Spread};
 use crate::attempt::Change;
 use crate::candidates::{Candidates, new_candidates};
-use crate::cause::Cause;
 use crate::choosing::wide;
 use crate::indexed::IndexedAttempts;
 use crate::judging::is_in_hello;
@@ -22,6 +21,7 @@ use crate::packets::redirect_packet;
 use crate::rows::{FoundAttempt, Sought};
 use crate::sending::hello_to;
 use crate::startup::Startup;
+use rtmfp_base::Cause;
 use rtmfp_forms::Address;
 use std::marker::Model;
 

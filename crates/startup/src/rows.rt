@@ -2,15 +2,16 @@
 
 ghost use Rattle.std.specs.Prelude.{◌≡◌, ◌+◌, Some, IsSome};
 ghost use Rattle.std.specs.FinMap.{get, remove};
-ghost use Rattle.glare_core.specs.declared.facts.Held.TheVariants.{Opening};
-ghost use Rattle.glare_core.specs.Ledger.{held_with, noted};
+ghost use Rattle.glare_core.specs.Ledger.{noted};
+ghost use Rattle.startup.specs.Aims.{IsHeldAs, end_of_aim};
 ghost use Rattle.startup.specs.State.{AttemptState};
-ghost use Rattle.startup.specs.Attempts.{has_cookie, ended_attempt};
+ghost use Rattle.startup.specs.Attempts.{has_cookie};
 ghost use Rattle.startup.specs.Due.{gap_of, is_over};
 ghost use Rattle.startup.specs.Keyings.{without};
 ghost use Rattle.startup.specs.Sought.{fits};
 ghost use Rattle.startup.specs.Table.{due_from};
 
+use crate::aim::Aim;
 use crate::attempt::{Attempt, Stage};
 use crate::indexed::IndexedAttempts;
 use glare_core::{Fact, Peers, Why};
@@ -86,9 +87,23 @@ pub(crate) fn fits(attempt: &Attempt, sought: &Sought<'_>) -> bool
     ensures { result ≡ fits sought.now attempt.now }
 {
     match sought {
-        Sought::Number(n) => attempt.n == *n,
+        Sought::Number(n) => attempt.aim.is_numbered(*n),
         Sought::Tag(tag) => attempt.tag.as_slice() == *tag,
         Sought::Cookie(cookie) => has_cookie(attempt, cookie),
+    }
+}
+
+/// The attempt with this near id ends; its end is given.
+fn end_of(peers: &mut Peers, attempt: &Attempt, near: u32, why: Why) -> Fact
+    requires held { IsHeldAs peers.old near attempt.now.ni attempt.now.aim }
+    ensures fact { end_of_aim near why attempt.now.aim ≡ Some result }
+    ensures ledger { peers.new ≡ noted peers.old result }
+{
+    match &attempt.aim {
+        Aim::AtPeer { peer, .. } => match peers.end(peer, why) {
+            Some(fact) => fact,
+            None => unreachable!(),
+        },
     }
 }
 
@@ -96,23 +111,18 @@ pub(crate) fn fits(attempt: &Attempt, sought: &Sought<'_>) -> bool
 pub(crate) fn end_at(peers: &mut Peers, attempts: &mut IndexedAttempts, near: u32, why: Why) -> Fact
     requires there { IsSome (get attempts.old.attempts near) }
     requires held { (a : AttemptState) → get attempts.old.attempts near ≡ Some a →
-        held_with peers.old a.peer ≡ Some (Opening a.n near a.ni) }
+        IsHeldAs peers.old near a.ni a.aim }
     ensures fact { (a : AttemptState) → get attempts.old.attempts near ≡ Some a →
-        result ≡ ended_attempt (near, a) why }
+        end_of_aim near why a.aim ≡ Some result }
     ensures ledger { peers.new ≡ noted peers.old result }
     ensures gone { attempts.new.attempts ≡ remove attempts.old.attempts near }
 {
-    let peer = match attempts.get(near) {
-        Some(attempt) => attempt.peer,
-        None => unreachable!(),
+    let Some(attempt) = attempts.get(near) else {
+        unreachable!()
     };
-    match peers.end(&peer, why) {
-        Some(fact) => {
-            attempts.forget(near);
-            fact
-        }
-        None => unreachable!(),
-    }
+    let fact = end_of(peers, attempt, near, why);
+    attempts.forget(near);
+    fact
 }
 
 /// The attempt under this near id, where there is one, is forgotten.

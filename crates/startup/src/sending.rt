@@ -4,27 +4,24 @@ ghost use Rattle.std.specs.Prelude.{◌≡◌, ◌≤◌, length, take};
 ghost use Rattle.startup.specs.Attempts.{keying_signed, again_signed, hello_spread};
 ghost use Rattle.startup.specs.Due.{repeat_signed};
 
+use crate::aim::Aim;
 use crate::answer::{Answer, Due, Spread};
-use crate::attempt::{Attempt, CANDIDATES, Stage};
+use crate::attempt::{Attempt, Stage};
 use crate::packets::{ihello_packet, iikeying_packet};
 use crypto_profile::HmacKey;
 use identity::Certificate;
+use rtmfp_base::limits::CANDIDATES;
 use rtmfp_forms::Address;
-
-/// The first byte of a discriminator that names an end by its fingerprint.
-const BY_PRINT: u8 = 0x01;
 
 /// The hellos of an attempt, to the first `count` of these addresses.
 pub(crate) fn hello_to(attempt: &Attempt, to: &[Address; CANDIDATES], count: usize) -> Spread
     requires { count ≤ 16 }
     ensures { result ≡ hello_spread attempt.now (take count to.now) }
 {
-    let mut epd = [BY_PRINT; 33];
-    epd[1..].copy_from_slice(&attempt.peer);
     Spread {
         to: *to,
         count,
-        plain: ihello_packet(&epd, &attempt.tag),
+        plain: ihello_packet(&attempt.aim.discriminator(), &attempt.tag),
     }
 }
 
@@ -47,18 +44,15 @@ pub(crate) fn keying_answer(
     requires { length cookie.now ≤ 128 }
     ensures { result ≡ keying_signed key.now cert.now near attempt.now to.now cookie.now }
 {
+    let plain = match &attempt.aim {
+        Aim::AtPeer { peer, n } => {
+            iikeying_packet(key, near, cookie, cert.bytes(), &attempt.ni, *n, peer)
+        }
+    };
     Answer {
         to: *to,
         sid: 0,
-        plain: iikeying_packet(
-            key,
-            near,
-            cookie,
-            cert.bytes(),
-            &attempt.ni,
-            attempt.n,
-            &attempt.peer,
-        ),
+        plain,
     }
 }
 

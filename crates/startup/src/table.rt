@@ -201,7 +201,15 @@ impl AttemptTable {
         }
     }
 
-    /// The attempt that is due first, by rising near ids. It looks at those alone that are due.
+    /// Tells that a moment has come, so that `due` finds what is due then at once.
+    pub(crate) fn advance(&mut self, moment: u64)
+        ensures { self.new ≡ self.old }
+    {
+        self.deadlines.advance(moment);
+    }
+
+    /// The attempt that is due first, by rising near ids. It looks at those alone that are due, and
+    /// at the moment of the last `advance` at one.
     pub(crate) fn due(&self, moment: u64) -> Option<FoundAttempt<'_>>
         ensures { IsChosen (lowest (is_due moment) self.now.attempts) self.now.attempts result }
     {

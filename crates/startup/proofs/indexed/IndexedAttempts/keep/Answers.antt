@@ -14,7 +14,7 @@ pub invariant_of-self : goal.invariant_of-self
 invariant_of-self c =
     let i = c.self.inside in
     let a = c.args.attempt in
-    let number = ap number_word c.attempt.view_is in
+    let number = c.word.ensures ∙ ap number_word c.attempt.view_is in
     let tag = c.word_of.ensures ∙ ap tag_word c.attempt.view_is in
     subst (λ (x : Attempts). IsIndexed number_word c.put.new.self x × IsIndexed tag_word c.put-2.new.self x × IsMarked c.mark.new.marks x × AreSized x × AreOf c.mark.new.marks.marks x) (sym c.keep.ensures) (
       put_is_indexed number_word i.numbers c.put.new.self i.table.attempts c.self.invariant.0 c.args.near a c.put.ensures.old

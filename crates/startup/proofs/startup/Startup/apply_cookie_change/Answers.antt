@@ -28,7 +28,7 @@ invariant_of-self c =
     let i = c.self.inside in
     let found = c.requires.found.1.1 in
     changed_is_kept i.cert i.print i.secret i.sign i.cookies i.peers i.attempts.attempts c.self.invariant c.args.found.near found.attempt (ap (λ (t : StartupState). get t.attempts c.args.found.near) c.self.view_is ∙ found.there)
-    (λ a. recookied a c.args.new.now c.args.moment) c.change.new.self.attempts c.change.ensures (record { peer = λ a. refl; n = λ a. refl; ni = λ a. refl })
+    (λ a. recookied a c.args.new.now c.args.moment) c.change.new.self.attempts c.change.ensures (record { aim = λ a. refl; ni = λ a. refl })
 
 pub returns-clause-answer : goal.returns-clause-answer
 returns-clause-answer c chosen found =

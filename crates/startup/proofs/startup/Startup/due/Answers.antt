@@ -1,13 +1,13 @@
 use Rattle.std.proofs.Common.{◌<◌, ◌∙◌, refl, sym, ap, subst, is_some, Some, if◌then◌else◌}
-use Rattle.glare_core.specs.declared.facts.Fact.{Fact}
 use Rattle.glare_core.specs.declared.facts.Why.TheVariants.{Expired}
 use Rattle.startup.specs.declared.answer.Due.{Due}
 use Rattle.startup.specs.declared.answer.Due.TheVariants.{Ended as EndDue}
 use Rattle.startup.specs.State.{StartupState}
 use Rattle.startup.specs.Rows.{state_of}
-use Rattle.startup.specs.Attempts.{with_attempt, without_attempt, ended_attempt}
-use Rattle.startup.specs.Due.{repeated, repeat_signed, repeat_of, due, due_of, after_due, after_due_of, due_count}
-use Rattle.startup.proofs.Falling.{falls_when}
+use Rattle.startup.specs.Aims.{end_of_aim}
+use Rattle.startup.specs.Attempts.{with_attempt, without_attempt_by}
+use Rattle.startup.specs.Due.{repeated, repeat_signed, repeat_of, due, due_end, due_of, after_due, after_due_of, due_count}
+use Rattle.startup.proofs.Falling.{due_end_is, falls_when}
 use Rattle.startup.proofs.Startups.{held_at, ended_is_kept, ended_state, changed_is_kept, changed_state}
 use Rattle.startup.proofs.startup.Startup.due.Goals as goal
 
@@ -31,7 +31,7 @@ invariant_of-self-2 c =
     let i = c.self.inside in
     let chosen = c.in-Some.ensures in
     changed_is_kept i.cert i.print i.secret i.sign i.cookies i.peers i.attempts.attempts c.self.invariant c.in-Some.found.near c.in-Some.found.attempt.now chosen.there (λ a. repeated a c.args.moment) c.change.new.self.attempts c.change.ensures
-    (record { peer = λ a. refl; n = λ a. refl; ni = λ a. refl })
+    (record { aim = λ a. refl; ni = λ a. refl })
 
 -- ---- it ends
 
@@ -41,8 +41,8 @@ returns-then-is_over-clause-due c =
     let chosen = c.in-Some.ensures in
     let s : StartupState = state_of i.cert i.secret i.cookies i.peers i.attempts.attempts in
     let over = sym c.is_over.ensures ∙ c.if-is_over.true in
-    ap (λ (f : Fact). Some (EndDue f)) (c.end_at.ensures.fact c.in-Some.found.attempt.now chosen.there)
-    ∙ sym (ap (due_of s c.args.moment) chosen.chosen_is ∙ ap (λ b. Some (if b then EndDue (ended_attempt (c.in-Some.found.near, c.in-Some.found.attempt.now) Expired) else repeat_of s c.in-Some.found.near c.in-Some.found.attempt.now)) over)
+    ap (λ (d : Due). Some d) (sym (due_end_is c.in-Some.found.near c.in-Some.found.attempt.now.aim c.end_at.result (c.end_at.ensures.fact c.in-Some.found.attempt.now chosen.there)))
+    ∙ sym (ap (due_of s c.args.moment) chosen.chosen_is ∙ ap (λ b. Some (if b then due_end c.in-Some.found.near c.in-Some.found.attempt.now.aim else repeat_of s c.in-Some.found.near c.in-Some.found.attempt.now)) over)
     ∙ ap (λ (t : StartupState). due t c.args.moment) c.self.view_is
 
 pub returns-then-is_over-clause-after : goal.returns-then-is_over-clause-after
@@ -53,7 +53,7 @@ returns-then-is_over-clause-after c =
     let over = sym c.is_over.ensures ∙ c.if-is_over.true in
     ended_state i.cert i.print i.secret i.sign i.cookies i.peers i.attempts.attempts c.self.invariant c.in-Some.found.near c.in-Some.found.attempt.now chosen.there Expired c.end_at.result c.end_at.ensures.fact c.end_at.new.peers c.end_at.new.attempts.attempts c.end_at.ensures.ledger c.end_at.ensures.gone
     ∙ sym (ap (after_due_of s c.args.moment) chosen.chosen_is
-    ∙ ap (λ b. if b then without_attempt s c.in-Some.found.near (ended_attempt (c.in-Some.found.near, c.in-Some.found.attempt.now) Expired) else with_attempt s c.in-Some.found.near (repeated c.in-Some.found.attempt.now c.args.moment)) over)
+    ∙ ap (λ b. if b then without_attempt_by s c.in-Some.found.near (end_of_aim c.in-Some.found.near Expired c.in-Some.found.attempt.now.aim) else with_attempt s c.in-Some.found.near (repeated c.in-Some.found.attempt.now c.args.moment)) over)
     ∙ ap (λ (t : StartupState). after_due t c.args.moment) c.self.view_is
 
 pub returns-then-is_over-clause-falls : goal.returns-then-is_over-clause-falls
@@ -70,7 +70,7 @@ returns-clause-due c =
     let s : StartupState = state_of i.cert i.secret i.cookies i.peers i.attempts.attempts in
     let over = sym c.is_over.ensures ∙ c.if-is_over.false in
     ap (λ (d : Due). Some d) (c.repeat_of-repeat.ensures ∙ (λ j. repeat_signed (c.self.invariant.sign_is j) i.cert c.in-Some.found.near c.in-Some.found.attempt.now c.in-Some.found.attempt.now.stage))
-    ∙ sym (ap (due_of s c.args.moment) chosen.chosen_is ∙ ap (λ b. Some (if b then EndDue (ended_attempt (c.in-Some.found.near, c.in-Some.found.attempt.now) Expired) else repeat_of s c.in-Some.found.near c.in-Some.found.attempt.now)) over)
+    ∙ sym (ap (due_of s c.args.moment) chosen.chosen_is ∙ ap (λ b. Some (if b then due_end c.in-Some.found.near c.in-Some.found.attempt.now.aim else repeat_of s c.in-Some.found.near c.in-Some.found.attempt.now)) over)
     ∙ ap (λ (t : StartupState). due t c.args.moment) c.self.view_is
 
 pub returns-clause-after : goal.returns-clause-after
@@ -81,7 +81,7 @@ returns-clause-after c =
     let over = sym c.is_over.ensures ∙ c.if-is_over.false in
     changed_state i.cert i.print i.secret i.sign i.cookies i.peers i.attempts.attempts c.self.invariant c.in-Some.found.near c.in-Some.found.attempt.now chosen.there (λ a. repeated a c.args.moment) c.change.new.self.attempts c.change.ensures
     ∙ sym (ap (after_due_of s c.args.moment) chosen.chosen_is
-    ∙ ap (λ b. if b then without_attempt s c.in-Some.found.near (ended_attempt (c.in-Some.found.near, c.in-Some.found.attempt.now) Expired) else with_attempt s c.in-Some.found.near (repeated c.in-Some.found.attempt.now c.args.moment)) over)
+    ∙ ap (λ b. if b then without_attempt_by s c.in-Some.found.near (end_of_aim c.in-Some.found.near Expired c.in-Some.found.attempt.now.aim) else with_attempt s c.in-Some.found.near (repeated c.in-Some.found.attempt.now c.args.moment)) over)
     ∙ ap (λ (t : StartupState). after_due t c.args.moment) c.self.view_is
 
 pub returns-clause-falls : goal.returns-clause-falls
