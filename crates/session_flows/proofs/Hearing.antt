@@ -10,10 +10,10 @@ use Rattle.flow_send.specs.declared.waiting.Waiting.{Waiting}
 use Rattle.flow_send.specs.Sender.{Sender, next_of, message_at, abandoned, abandoned_with, finish_by}
 use Rattle.flow_send.specs.Acks.{Told, told_by}
 use Rattle.flow_send.specs.Flow.{Flow, with_sender, is_finished}
-use Rattle.glare_core.specs.Calls.{where_true, first_that_stands}
+use Rattle.rtmfp_base.specs.Reasons.{where_true, first_that_stands}
 use Rattle.session_core.specs.Session.{SessionState}
 use Rattle.session_core.specs.Closing.{is_held}
-use Rattle.session_flows.specs.declared.cause.FlowCause.TheVariants.{WrongState, UnknownFlow, FlowsFull}
+use Rattle.rtmfp_base.specs.declared.cause.Cause.TheVariants.{WrongState, UnknownFlow, FlowsFull}
 use Rattle.session_flows.specs.Keeping.{FlowsState, sending_at, with_flow, with_sending, Abandoned}
 use Rattle.session_flows.specs.Causes.{early_cause, is_there, is_unknown, is_one_too_many, flow_cause}
 use Rattle.session_flows.specs.Chunks.{heard, heard_by, session_heard, opened_by, all_abandoned, without_messages, rejecting, rejecting_by, waiting_at, waiting_by, numbers_of, last_by, finished_at}

@@ -9,17 +9,17 @@ use Rattle.rtmfp_data_chunks.specs.Chunk.{UserParts}
 use Rattle.flow_recv.specs.Receiver.{Receiver, fresh, taken, after_final, beyond_buffer}
 use Rattle.flow_recv.specs.Outcome.{refusal, after_or, beyond as beyond_by}
 use Rattle.session_flows.specs.declared.taking.TakingFlow.{TakingFlow}
-use Rattle.session_flows.specs.declared.cause.FlowCause.{FlowCause}
+use Rattle.rtmfp_base.specs.declared.cause.Cause.{Cause}
 use Rattle.rtmfp_data_chunks.specs.Fragments.{Message}
 use Rattle.rtmfp_data_chunks.specs.Runs.{Run, message_of}
 use Rattle.flow_recv.specs.Receiver.{first_of, without_first, may_hand, next_run, handed_next}
 use Rattle.flow_recv.specs.Outcome.{message}
 use Rattle.flow_send.specs.Flow.{Flow}
 use Rattle.flow_send.specs.Acks.{Told, beyond}
-use Rattle.glare_core.specs.Calls.{where_true, first_that_stands}
+use Rattle.rtmfp_base.specs.Reasons.{where_true, first_that_stands}
 use Rattle.session_core.specs.Session.{SessionState}
 use Rattle.session_core.specs.Closing.{is_held}
-use Rattle.session_flows.specs.declared.cause.FlowCause.TheVariants.{WrongState, UnknownFlow, AckBeyond}
+use Rattle.rtmfp_base.specs.declared.cause.Cause.TheVariants.{WrongState, UnknownFlow, AckBeyond}
 use Rattle.session_flows.specs.Handing.{with_receiver, handed_run, hands_by, hands_once, handed_stated}
 use Rattle.session_flows.specs.Causes.{flow_cause, beyond_of, ack_cause}
 use Rattle.session_flows.proofs.Calls.{did}
@@ -84,8 +84,8 @@ not_refused s user q same none =
     cause_none (after_final q (piece_of user)) (beyond_buffer q (piece_of user)) (sym (ap (λ (r : Receiver). cause_of (refusal r (piece_of user))) same) ∙ none)
 
 -- what stands where there is no cause
-pub no_cause : (o : Option FlowCause) (P : Type 0) (Q : FlowCause → Type 0) → o ≡ None → P → MatchOption o P Q
-no_cause o P Q e p = subst (λ (x : Option FlowCause). MatchOption x P Q) (sym e) p
+pub no_cause : (o : Option Cause) (P : Type 0) (Q : Cause → Type 0) → o ≡ None → P → MatchOption o P Q
+no_cause o P Q e p = subst (λ (x : Option Cause). MatchOption x P Q) (sym e) p
 
 pub receiver_new : (s : FlowsState) (user : UserParts) → in_taking user.flow s.taking ≡ None → receiver_for s user ≡ fresh (order_of (metadata_of user))
 receiver_new s user none = ap (λ (o : Option TakingFlow). receiver_by o user) none

@@ -13,14 +13,14 @@ use Rattle.flow_recv.specs.Receiver.{Receiver, fresh}
 use Rattle.flow_recv.specs.Outcome.{refusal}
 use Rattle.flow_send.specs.Flow.{Flow}
 use Rattle.flow_send.specs.Acks.{Told, told, beyond}
-use Rattle.glare_core.specs.Calls.{where_true, first_that_stands}
+use Rattle.rtmfp_base.specs.Reasons.{where_true, first_that_stands}
 use Rattle.session_core.specs.Session.{SessionState}
 use Rattle.session_core.specs.Closing.{is_held}
 use Rattle.session_flows.specs.declared.taking.TakingFlow.{TakingFlow}
-use Rattle.session_flows.specs.declared.cause.FlowCause.{FlowCause}
-use Rattle.session_flows.specs.declared.cause.FlowCause.TheVariants.{WrongState, UnknownFlow}
-use Rattle.session_flows.specs.declared.cause.FlowCause.TheVariants.{FlowsFull, AfterFinal}
-use Rattle.session_flows.specs.declared.cause.FlowCause.TheVariants.{BeyondBuffer, AckBeyond}
+use Rattle.rtmfp_base.specs.declared.cause.Cause.{Cause}
+use Rattle.rtmfp_base.specs.declared.cause.Cause.TheVariants.{WrongState, UnknownFlow}
+use Rattle.rtmfp_base.specs.declared.cause.Cause.TheVariants.{FlowsFull, AfterFinal}
+use Rattle.rtmfp_base.specs.declared.cause.Cause.TheVariants.{BeyondBuffer, AckBeyond}
 use Rattle.session_flows.specs.Keeping.{FlowsState, sending_at, taking_at}
 use Rattle.rtmfp_data_chunks.specs.FlowOptions.{metadata_in, all_known}
 use Rattle.session_flows.specs.Told.{options_of, begins_with_a}
@@ -68,17 +68,17 @@ abbrev pub receiver_for : FlowsState → UserParts → Receiver
 receiver_for s user = receiver_by (taking_at s user.flow) user
 
 -- after the flow's last number, or beyond its buffer
-abbrev pub cause_of : Option FlowRefusal → Option FlowCause
+abbrev pub cause_of : Option FlowRefusal → Option Cause
 cause_of None = None
 cause_of (Some (receiver.AfterFinal n)) = Some (AfterFinal n)
 cause_of (Some (receiver.BeyondBuffer held)) = Some (BeyondBuffer held)
 cause_of (Some receiver.Memory) = None
 
-abbrev pub receiver_cause : FlowsState → UserParts → Option FlowCause
+abbrev pub receiver_cause : FlowsState → UserParts → Option Cause
 receiver_cause s user = cause_of (refusal (receiver_for s user) (piece_of user))
 
 -- what comes before it
-abbrev pub early_cause : SessionState → FlowsState → UserParts → Option FlowCause
+abbrev pub early_cause : SessionState → FlowsState → UserParts → Option Cause
 early_cause session s user =
     first_that_stands (
     where_true (not (is_held session.stage)) WrongState
@@ -86,17 +86,17 @@ early_cause session s user =
     ∷ where_true (is_one_too_many s user) (FlowsFull 256)
     ∷ [])
 
-abbrev pub data_cause : SessionState → FlowsState → UserParts → Option FlowCause
+abbrev pub data_cause : SessionState → FlowsState → UserParts → Option Cause
 data_cause session s user =
     first_that_stands (early_cause session s user ∷ receiver_cause s user ∷ [])
 
 -- ---- acks
 
-abbrev pub beyond_of : Option Flow → Told → Option FlowCause
+abbrev pub beyond_of : Option Flow → Told → Option Cause
 beyond_of None a = Some UnknownFlow
 beyond_of (Some f) a = option_map AckBeyond (beyond f.sender a)
 
-abbrev pub ack_cause : SessionState → FlowsState → ℕ → Told → Option FlowCause
+abbrev pub ack_cause : SessionState → FlowsState → ℕ → Told → Option Cause
 ack_cause session s id a =
     first_that_stands (
     where_true (not (is_held session.stage)) WrongState
@@ -105,22 +105,22 @@ ack_cause session s id a =
 
 -- ---- a buffer probe asks of a receiving flow, an exception speaks of a sending one
 
-abbrev pub flow_cause : SessionState → Bool → Option FlowCause
+abbrev pub flow_cause : SessionState → Bool → Option Cause
 flow_cause session there =
     first_that_stands (
     where_true (not (is_held session.stage)) WrongState
     ∷ where_true (not there) UnknownFlow
     ∷ [])
 
-abbrev pub probe_cause : SessionState → FlowsState → ℕ → Option FlowCause
+abbrev pub probe_cause : SessionState → FlowsState → ℕ → Option Cause
 probe_cause session s id = flow_cause session (is_some (taking_at s id))
 
-abbrev pub exception_cause : SessionState → FlowsState → ℕ → Option FlowCause
+abbrev pub exception_cause : SessionState → FlowsState → ℕ → Option Cause
 exception_cause session s id = flow_cause session (is_some (sending_at s id))
 
 -- ---- all of them
 
-abbrev pub chunk_cause : SessionState → FlowsState → DataChunk → Option FlowCause
+abbrev pub chunk_cause : SessionState → FlowsState → DataChunk → Option Cause
 chunk_cause session s (Data user) = data_cause session s user
 chunk_cause session s (Next user) = data_cause session s user
 chunk_cause session s (AckBitmap flow blocks upto bits) =

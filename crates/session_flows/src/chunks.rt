@@ -15,13 +15,13 @@ ghost use Rattle.session_flows.specs.Chunks.{lost_if};
 ghost use Rattle.session_flows.specs.Judged.{IsJudged};
 ghost use Rattle.session_flows.specs.Places.{index_from, place_of};
 
-use crate::cause::FlowCause;
 use crate::flows::Flows;
 use crate::judged::JudgedData;
 use crate::taking::TakingFlow;
 use crate::told::told_metadata;
 use flow_recv::FlowReceiver;
 use flow_send::{AckFault, Acked, FlowSender};
+use rtmfp_base::Cause;
 use rtmfp_data_chunks::{AckedSpans, UserData};
 use session_core::Session;
 use std::alloc::AllocError;
@@ -120,7 +120,7 @@ impl Flows {
         blocks: u64,
         upto: u64,
         spans: AckedSpans<'_>,
-    ) -> Result<(), FlowCause>
+    ) -> Result<(), Cause>
         ensures cause { MatchOption (ack_cause session.old self.old flow
             (told blocks upto spans.entry)) (IsOk result) (λ c. result ≡ Err c) }
         ensures flows { OnOk result (self.new
@@ -130,32 +130,32 @@ impl Flows {
         ensures err { OnErr result ((self.new ≡ self.old) × (session.new ≡ session.old)) }
     {
         if !session.is_held() {
-            return Err(FlowCause::WrongState);
+            return Err(Cause::WrongState);
         }
         let Some(at) = self.sending_index(flow) else {
-            return Err(FlowCause::UnknownFlow);
+            return Err(Cause::UnknownFlow);
         };
         let sender = &mut self.sending[at];
         let acked = match sender.take_ack(blocks, upto, spans) {
             Ok(acked) => acked,
-            Err(AckFault::AckBeyond(number)) => return Err(FlowCause::AckBeyond(number)),
+            Err(AckFault::AckBeyond(number)) => return Err(Cause::AckBeyond(number)),
         };
         tell(session, acked);
         Ok(())
     }
 
     /// Owes an ack for a buffer probe. It takes no memory.
-    pub fn take_probe(&mut self, session: &Session, flow: u64) -> Result<(), FlowCause>
+    pub fn take_probe(&mut self, session: &Session, flow: u64) -> Result<(), Cause>
         ensures cause { MatchOption (probe_cause session.now self.old flow)
             (IsOk result) (λ c. result ≡ Err c) }
         ensures flows { OnOk result (self.new ≡ probed self.old flow) }
         ensures err { OnErr result (self.new ≡ self.old) }
     {
         if !session.is_held() {
-            return Err(FlowCause::WrongState);
+            return Err(Cause::WrongState);
         }
         let Some(at) = self.taking_index(flow) else {
-            return Err(FlowCause::UnknownFlow);
+            return Err(Cause::UnknownFlow);
         };
         let row = &mut self.taking[at];
         row.owed = true;

@@ -33,8 +33,8 @@ ghost use Rattle.session_flows.specs.Edges.{untimed, with_deadline, with_window}
 ghost use Rattle.session_flows.specs.Timing.{overdue_in, overdue_done, session_late};
 ghost use Rattle.session_core.specs.Congestion.{shrunk};
 
-use crate::cause::FlowCause;
 use crate::refusal::CallRefusal;
+use rtmfp_base::Cause;
 
 /// A session opens 256 flows, with metadata of at most 64 bytes and a priority of at most 7. That
 /// it has 256 counts first.
@@ -106,67 +106,67 @@ pub fn what_options_tell()
 /// made, or an association with none; one flow too many; and those of the receiver.
 pub fn causes_of_data()
     ensures closing { (session : SessionState) → data_cause (in_stage NearClose session) no_flows
-        (chunk_of_flow 5 1 None) ≡ Some FlowCause.WrongState }
+        (chunk_of_flow 5 1 None) ≡ Some Cause.WrongState }
     ensures lingering { (session : SessionState) → data_cause (in_stage FarLinger session) no_flows
-        (chunk_of_flow 5 1 metadata) ≡ Some FlowCause.WrongState }
+        (chunk_of_flow 5 1 metadata) ≡ Some Cause.WrongState }
     ensures half_open { (session : SessionState) → data_cause (in_stage Opening session) no_flows
         (chunk_of_flow 5 1 metadata) ≡ None }
     ensures unknown { (session : SessionState) → data_cause (in_stage Open session) no_flows
-        (chunk_of_flow 5 1 None) ≡ Some FlowCause.UnknownFlow }
+        (chunk_of_flow 5 1 None) ≡ Some Cause.UnknownFlow }
     ensures made { (session : SessionState) → data_cause (in_stage Open session) no_flows
         (chunk_of_flow 5 1 metadata) ≡ None }
     ensures there { (session : SessionState) → data_cause (in_stage Open session)
         (flows_of [] (fresh_at 4 ∷ fresh_at 5 ∷ [])) (chunk_of_flow 5 1 None) ≡ None }
     ensures not_there { (session : SessionState) → data_cause (in_stage Open session)
         (flows_of [] (fresh_at 4 ∷ fresh_at 6 ∷ [])) (chunk_of_flow 5 1 None)
-        ≡ Some FlowCause.UnknownFlow }
+        ≡ Some Cause.UnknownFlow }
     ensures astray { (session : SessionState) → data_cause (in_stage Open session)
         (flows_of [] (fresh_at 5 ∷ [])) (chunk_of_flow 5 1 (answering (0 ∷ [])))
-        ≡ Some FlowCause.UnknownFlow }
+        ≡ Some Cause.UnknownFlow }
     ensures answers { (session : SessionState) → data_cause (in_stage Open session)
         (flows_of (new_at 0 ∷ []) (fresh_at 5 ∷ [])) (chunk_of_flow 5 1 (answering (0 ∷ [])))
         ≡ None }
     ensures made_astray { (session : SessionState) → data_cause (in_stage Open session)
         (flows_of (new_at 0 ∷ []) []) (chunk_of_flow 5 1 (made_answering (1 ∷ [])))
-        ≡ Some FlowCause.UnknownFlow }
+        ≡ Some Cause.UnknownFlow }
     ensures too_far { (session : SessionState) → data_cause (in_stage Open session) no_flows
-        (chunk_of_flow 5 70000 metadata) ≡ Some (FlowCause.BeyondBuffer 0) }
+        (chunk_of_flow 5 70000 metadata) ≡ Some (Cause.BeyondBuffer 0) }
     ensures after_final { (session : SessionState) → data_cause (in_stage Open session)
         (flows_of [] (taking_with 5 (record (fresh false) { last = Some 3; highest = 3 }) ∷ []))
-        (chunk_of_flow 5 4 None) ≡ Some (FlowCause.AfterFinal 3) }
+        (chunk_of_flow 5 4 None) ≡ Some (Cause.AfterFinal 3) }
 {}
 
 /// Flow 257 is refused, before what its receiver would refuse and after what makes no flow.
 pub fn flow_257()
     ensures full { (session : SessionState) (taking : List TakingFlow) → length taking ≡ 256 →
         in_taking 5 taking ≡ None → data_cause (in_stage Open session) (flows_of [] taking)
-        (chunk_of_flow 5 70000 metadata) ≡ Some (FlowCause.FlowsFull 256) }
+        (chunk_of_flow 5 70000 metadata) ≡ Some (Cause.FlowsFull 256) }
     ensures room { (session : SessionState) (taking : List TakingFlow) → length taking ≡ 255 →
         in_taking 5 taking ≡ None → data_cause (in_stage Open session) (flows_of [] taking)
         (chunk_of_flow 5 1 metadata) ≡ None }
     ensures unknown { (session : SessionState) (taking : List TakingFlow) → length taking ≡ 256 →
         in_taking 5 taking ≡ None → data_cause (in_stage Open session) (flows_of [] taking)
-        (chunk_of_flow 5 1 None) ≡ Some FlowCause.UnknownFlow }
+        (chunk_of_flow 5 1 None) ≡ Some Cause.UnknownFlow }
 {}
 
 /// Acks and exceptions speak of sending flows, a buffer probe asks of a receiving one.
 pub fn causes_of_acks_probes_and_exceptions()
     ensures no_flow { (session : SessionState) → ack_cause (in_stage Open session)
-        (flows_of [] (fresh_at 0 ∷ [])) 0 (told 0 0 []) ≡ Some FlowCause.UnknownFlow }
+        (flows_of [] (fresh_at 0 ∷ [])) 0 (told 0 0 []) ≡ Some Cause.UnknownFlow }
     ensures beyond { (session : SessionState) → ack_cause (in_stage Open session) one_message 0
-        (told 0 1 []) ≡ Some (FlowCause.AckBeyond 1) }
+        (told 0 1 []) ≡ Some (Cause.AckBeyond 1) }
     ensures nothing_sent { (session : SessionState) → ack_cause (in_stage Open session) one_message
         0 (told 0 0 []) ≡ None }
     ensures ended { (session : SessionState) → ack_cause (in_stage Closed session) no_flows 0
-        (told 0 0 []) ≡ Some FlowCause.WrongState }
+        (told 0 0 []) ≡ Some Cause.WrongState }
     ensures probe { (session : SessionState) → probe_cause (in_stage Open session)
         (flows_of [] (fresh_at 3 ∷ [])) 3 ≡ None }
     ensures no_probe { (session : SessionState) → probe_cause (in_stage Open session) one_flow 0
-        ≡ Some FlowCause.UnknownFlow }
+        ≡ Some Cause.UnknownFlow }
     ensures exception { (session : SessionState) → exception_cause (in_stage Open session) one_flow
         0 ≡ None }
     ensures no_exception { (session : SessionState) → exception_cause (in_stage Open session)
-        (flows_of [] (fresh_at 0 ∷ [])) 0 ≡ Some FlowCause.UnknownFlow }
+        (flows_of [] (fresh_at 0 ∷ [])) 0 ≡ Some Cause.UnknownFlow }
 {}
 
 /// An ack of 2 bytes that makes a number lost opens a window of 10,000 bytes first: half of 10,002
@@ -278,9 +278,9 @@ pub fn chunks()
         ≡ Abandoned 0 1 ∷ Abandoned 0 2 ∷ Finished 0 3 ∷ [] }
     ensures quiet { (session : SessionState) → session_after session no_flows (Probe 3) ≡ session }
     ensures cause { (session : SessionState) → chunk_cause (in_stage Open session) no_flows
-        (Exception 0 7) ≡ Some FlowCause.UnknownFlow }
+        (Exception 0 7) ≡ Some Cause.UnknownFlow }
     ensures closing { (session : SessionState) → chunk_cause (in_stage NearClose session) no_flows
-        (Next (chunk_of_flow 5 1 metadata)) ≡ Some FlowCause.WrongState }
+        (Next (chunk_of_flow 5 1 metadata)) ≡ Some Cause.WrongState }
 {}
 
 /// A message is abandoned at a tick above its deadline, also in a half-open session, and not in

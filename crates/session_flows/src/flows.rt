@@ -13,16 +13,9 @@ ghost use Rattle.session_flows.specs.Laws.{IsSound};
 use crate::refusal::CallRefusal;
 use crate::taking::TakingFlow;
 use flow_send::{FlowSender, MessageOptions, NotQueued, QueueRefusal};
+use rtmfp_base::limits::{FLOWS, METADATA, PRIORITY};
 use std::alloc::Global;
 use std::marker::Model;
-
-/// The most flows of a session in either direction, over its life (own).
-pub(crate) const MOST_FLOWS: usize = 256;
-
-/// The most bytes of metadata, and the highest priority (own).
-const MOST_METADATA: usize = 64;
-
-const HIGHEST_PRIORITY: u8 = 7;
 
 /// The flows of one session. Contracts see the sending ones by their IDs, 0, 1, 2 and on, and the
 /// receiving ones by rising IDs.
@@ -72,10 +65,10 @@ impl Flows {
         // receiving ones by rising IDs.
         ensures sound { IsSound self.now }
     {
-        if self.sending.len() >= MOST_FLOWS {
-            return Some(CallRefusal::FlowsFull(MOST_FLOWS as u64));
+        if self.sending.len() >= FLOWS {
+            return Some(CallRefusal::FlowsFull(FLOWS as u64));
         }
-        if metadata.len() > MOST_METADATA || priority > HIGHEST_PRIORITY {
+        if metadata.len() > METADATA || priority > PRIORITY {
             return Some(CallRefusal::WideMetadata(metadata.len() as u64));
         }
         None

@@ -12,22 +12,19 @@ ghost use Rattle.session_flows.specs.Chunks.{data_done, most_ready, rejecting};
 ghost use Rattle.session_flows.specs.Judged.{IsJudged};
 ghost use Rattle.session_flows.specs.Places.{index_from};
 
-use crate::cause::FlowCause;
-use crate::flows::{Flows, MOST_FLOWS};
+use crate::flows::Flows;
 use crate::judged::JudgedData;
 use crate::told::{tells_known, told_metadata};
 use flow_recv::{FlowReceiver, FlowRefusal};
+use rtmfp_base::Cause;
+use rtmfp_base::limits::FLOWS;
 use rtmfp_data_chunks::UserData;
 use session_core::Session;
 
 impl Flows {
     /// Why a user data chunk is discarded; or of which flow it is, and how many messages it hands
     /// over at most.
-    pub fn judge_data(
-        &self,
-        session: &Session,
-        chunk: &UserData<'_>,
-    ) -> Result<JudgedData, FlowCause>
+    pub fn judge_data(&self, session: &Session, chunk: &UserData<'_>) -> Result<JudgedData, Cause>
         ensures none { OnOk result
             (data_cause session.now self.now (user_parts chunk.now) ≡ None) }
         ensures judged { IfOk result
@@ -49,28 +46,28 @@ impl Flows {
     }
 
     /// The causes that come before those of the receiver.
-    fn early_cause(&self, session: &Session, chunk: &UserData<'_>, there: bool) -> Option<FlowCause>
+    fn early_cause(&self, session: &Session, chunk: &UserData<'_>, there: bool) -> Option<Cause>
         requires { there ≡ is_there self.now (user_parts chunk.now) }
         ensures { result ≡ early_cause session.now self.now (user_parts chunk.now) }
     {
         if !session.is_held() {
-            return Some(FlowCause::WrongState);
+            return Some(Cause::WrongState);
         }
         if !there && told_metadata(&chunk.options).is_none() {
-            return Some(FlowCause::UnknownFlow);
+            return Some(Cause::UnknownFlow);
         }
         if !tells_known(self.sending.len() as u64, &chunk.options) {
-            return Some(FlowCause::UnknownFlow);
+            return Some(Cause::UnknownFlow);
         }
-        if !there && self.taking.len() >= MOST_FLOWS {
-            return Some(FlowCause::FlowsFull(MOST_FLOWS as u64));
+        if !there && self.taking.len() >= FLOWS {
+            return Some(Cause::FlowsFull(FLOWS as u64));
         }
         None
     }
 
     /// The cause of the receiver of the flow at an index, or of the one that the chunk would make;
     /// or how many messages the chunk hands over at most.
-    fn judge_receiver(&self, at: Option<usize>, chunk: &UserData<'_>) -> Result<usize, FlowCause>
+    fn judge_receiver(&self, at: Option<usize>, chunk: &UserData<'_>) -> Result<usize, Cause>
         requires at { at ≡ index_from 0 chunk.now.flow self.now.taking }
         requires within { IfSome at (λ i. i < length self.now.taking) }
         ensures none { OnOk result (receiver_cause self.now (user_parts chunk.now) ≡ None) }
@@ -91,7 +88,7 @@ impl Flows {
 
     /// Why an exception is discarded; or how much it states, or 2 ^ 64 - 1 where it is more: the
     /// messages that are abandoned, and the end of the flow where it wasn't finished.
-    pub fn judge_exception(&self, session: &Session, flow: u64) -> Result<usize, FlowCause>
+    pub fn judge_exception(&self, session: &Session, flow: u64) -> Result<usize, Cause>
         ensures none { OnOk result (exception_cause session.now self.now flow ≡ None) }
         ensures there { OnOk result (flow < length self.now.sending) }
         ensures count { IfOk result
@@ -102,11 +99,11 @@ impl Flows {
             (λ count. count < 2 ^ 63 → length (rejecting self.now flow).stated ≡ count) }
     {
         if !session.is_held() {
-            return Err(FlowCause::WrongState);
+            return Err(Cause::WrongState);
         }
         match self.sending_index(flow) {
             Some(at) => Ok(self.count_rejected(at)),
-            None => Err(FlowCause::UnknownFlow),
+            None => Err(Cause::UnknownFlow),
         }
     }
 
@@ -127,7 +124,7 @@ impl Flows {
 }
 
 /// Why a receiver would refuse a chunk; or how many messages it hands over at most, if it takes it.
-fn most_or_cause(receiver: &FlowReceiver, chunk: &UserData<'_>) -> Result<usize, FlowCause>
+fn most_or_cause(receiver: &FlowReceiver, chunk: &UserData<'_>) -> Result<usize, Cause>
     ensures none { OnOk result (cause_of (refusal receiver.now (chunk_of chunk.now)) ≡ None) }
     ensures most { IfOk result (λ most. most ≡ length receiver.now.runs + 1) }
     ensures refused { IfErr result
@@ -142,12 +139,12 @@ fn most_or_cause(receiver: &FlowReceiver, chunk: &UserData<'_>) -> Result<usize,
 }
 
 /// A receiver's refusal that isn't want of memory, as the call tells it.
-fn cause_of(refusal: Option<FlowRefusal>) -> Option<FlowCause>
+fn cause_of(refusal: Option<FlowRefusal>) -> Option<Cause>
     ensures { result ≡ cause_of refusal }
 {
     match refusal {
-        Some(FlowRefusal::AfterFinal(number)) => Some(FlowCause::AfterFinal(number)),
-        Some(FlowRefusal::BeyondBuffer(held)) => Some(FlowCause::BeyondBuffer(held)),
+        Some(FlowRefusal::AfterFinal(number)) => Some(Cause::AfterFinal(number)),
+        Some(FlowRefusal::BeyondBuffer(held)) => Some(Cause::BeyondBuffer(held)),
         Some(FlowRefusal::Memory) => None,
         None => None,
     }

@@ -8,7 +8,6 @@
 #![tactic(auto)]
 
 mod acks;
-mod cause;
 mod chunks;
 pub mod edges;
 mod flows;
@@ -23,7 +22,6 @@ mod taking;
 mod timing;
 mod told;
 
-pub use cause::FlowCause;
 pub use flows::Flows;
 pub use judged::JudgedData;
 pub use pace::Pace;

@@ -1,12 +1,18 @@
-//! Why a call on a session's flows is refused.
+//! Why a call of an end is refused.
 
 use flow_send::QueueRefusal;
 use thiserror::Error;
 
-/// Why a call on a session's flows is refused, in the order in which the reasons count. All is as
-/// before.
+/// Why a call is refused: one on a session's flows, or another of an end that has no refusal of its
+/// own. Where several causes stand, the answer is the first of them in this order. All is as before.
 #[derive(Clone, Copy, Debug, PartialEq, Eq, Error)]
 pub enum CallRefusal {
+    /// No held attempt has this number. The flows of a session never answer it.
+    #[error("no attempt has this number")]
+    NoAttempt,
+    /// No held session has this session ID. The flows of a session never answer it.
+    #[error("no session has this session ID")]
+    NoSession,
     /// The session opened no such flow.
     #[error("the session opened no such flow")]
     NoFlow,
@@ -16,6 +22,7 @@ pub enum CallRefusal {
     /// The metadata, which has so many bytes, has more than 64, or the priority is above 7.
     #[error("metadata of {0} bytes, or the priority, passes its limit")]
     WideMetadata(u64),
+    /// From an end it is never `QueueRefusal::Memory`.
     #[error("not queued: {0}")]
     Queue(QueueRefusal),
     /// No message that waits begins at the number.

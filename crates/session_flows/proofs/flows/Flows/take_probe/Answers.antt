@@ -3,8 +3,8 @@ use Rattle.std.specs.Prelude.{slice_get, slice_set, is_some, IsOk}
 use Rattle.std.proofs.lemmas.Option.{slice_get_read}
 use Rattle.session_core.specs.Closing.{is_held}
 use Rattle.session_flows.specs.declared.taking.TakingFlow.{TakingFlow}
-use Rattle.session_flows.specs.declared.cause.FlowCause.{FlowCause}
-use Rattle.session_flows.specs.declared.cause.FlowCause.TheVariants.{UnknownFlow}
+use Rattle.rtmfp_base.specs.declared.cause.Cause.{Cause}
+use Rattle.rtmfp_base.specs.declared.cause.Cause.TheVariants.{UnknownFlow}
 use Rattle.session_flows.specs.Keeping.{FlowsState, taking_at}
 use Rattle.session_flows.specs.Causes.{probe_cause}
 use Rattle.session_flows.specs.Chunks.{owing, probed}
@@ -46,4 +46,4 @@ returns-in_default-clause-cause c =
     let none : c.taking_index.result ≡ None = search rules in
     let gone : is_some (taking_at c.args.self.now c.args.flow) ≡ false =
     sym (there_is 0 c.args.flow c.args.self.now.taking) ∙ ap (λ (o : Option ℕ). is_some o) (sym c.taking_index.ensures.place ∙ none) in
-    subst (λ (o : Option FlowCause). MatchOption o (IsOk {T = Unit {0}} {E = FlowCause} (Err UnknownFlow)) (λ x. ◌≡◌ {A = Result (Unit {0}) FlowCause} (Err UnknownFlow) (Err x))) (sym (flow_gone c.args.session.now (is_some (taking_at c.args.self.now c.args.flow)) held gone)) refl
+    subst (λ (o : Option Cause). MatchOption o (IsOk {T = Unit {0}} {E = Cause} (Err UnknownFlow)) (λ x. ◌≡◌ {A = Result (Unit {0}) Cause} (Err UnknownFlow) (Err x))) (sym (flow_gone c.args.session.now (is_some (taking_at c.args.self.now c.args.flow)) held gone)) refl
