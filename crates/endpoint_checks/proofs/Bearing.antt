@@ -66,10 +66,10 @@ births_refused setup moment from sent draws j = record {
   other_id = λ differ h. differ h.0.0.1.by.0.reads.opens.id;
   other_mode = λ packet reads differ h.
       let a = h.0.0.1.by.0 in
-      differ (ap (λ (p : Whole). p.head.mode) (one_packet setup.secret Startup 0 sent packet a.packet reads a.reads) ∙ a.mode);
+      differ (ap (λ (p : Whole). p.head.mode) (one_packet setup.secret (Startup 0) 0 sent packet a.packet reads a.reads) ∙ a.mode);
   no_chunk = λ packet reads none h.
       let a = h.0.0.1.by.0 in
-      no_first a.chunk (chunks_of a.packet) (ap chunks_of (one_packet setup.secret Startup 0 sent a.packet packet a.reads reads) ∙ none) a.first;
+      no_first a.chunk (chunks_of a.packet) (ap chunks_of (one_packet setup.secret (Startup 0) 0 sent a.packet packet a.reads reads) ∙ none) a.first;
   zero = λ e h. h.0.0.1.id.some e;
   other_nonce = λ differ h. differ h.0.0.1.by.1;
   other_count = λ differ h. differ h.0.0.0.counted;
@@ -92,7 +92,7 @@ births_refused setup moment from sent draws j = record {
 module _ (setup : Setup) (past : Past) (now : ℕ) (from : AddressParts) (sent : List ℕ) (offer : Offer) (k : Keying) (b : BringsKeying setup.secret sent k) (a : Admissible setup past now from sent offer) where
   same_chunk : a.chunk ≡ b.chunk
   same_chunk =
-      one_first a.chunk b.chunk (chunks_of b.packet) (subst (λ (p : Whole). IsFirst a.chunk (chunks_of p)) (one_packet setup.secret Startup 0 sent a.packet b.packet a.reads b.reads) a.first) b.first
+      one_first a.chunk b.chunk (chunks_of b.packet) (subst (λ (p : Whole). IsFirst a.chunk (chunks_of p)) (one_packet setup.secret (Startup 0) 0 sent a.packet b.packet a.reads b.reads) a.first) b.first
       (a.spells.0 ∙ sym b.spells.0)
 
   one : OneKeying offer.far k.near a.cookie k.cookie a.cert k.cert (initiator_part offer.ni offer.n (own_of setup)) k.part a.sign k.sign

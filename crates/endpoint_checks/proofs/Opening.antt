@@ -82,7 +82,7 @@ module _ (secret sent : List ℕ) (j : Joined) (a : Answer) (b : BringsAnswer se
   same_chunk : line.chunk ≡ b.chunk
   same_chunk =
       only_one line.chunk b.chunk (chunks_of b.packet) b.only
-      (subst (λ (p : Whole). IsAmong line.chunk (chunks_of p)) (one_packet secret Startup j.near sent line.packet b.packet line.reads b.reads) line.among)
+      (subst (λ (p : Whole). IsAmong line.chunk (chunks_of p)) (one_packet secret (Startup 0) j.near sent line.packet b.packet line.reads b.reads) line.among)
 
   one : OneAnswer j.far a.near (responder_part j.nr j.k j.peer j.ni) a.part line.sign a.sign
   one =

@@ -68,10 +68,10 @@ sends_refused setup moment c to sent context = record {
 
 pub numbers_refused : TheTableRefusesNumbers
 numbers_refused setup moment c d first second sent again e = record {
-  in_startup = λ h. let line = h.0.1.0 in line.once tt (inl (refl, e ∙ number_is _ _ again Startup line));
-  in_two_calls = λ h. let line = h.1.0.0 in line.once tt (inr (inl (refl, e ∙ number_is _ _ again Startup line)));
+  in_startup = λ h. let line = h.0.1.0 in line.once tt (inl (refl, e ∙ number_is _ _ again (Startup 0) line));
+  in_two_calls = λ h. let line = h.1.0.0 in line.once tt (inr (inl (refl, e ∙ number_is _ _ again (Startup 0) line)));
   in_session = λ peer ni near x y fp_i fp_r sid_i sid_r to_responder h.
-      let line = h.1.0.1.0 in line.once (λ none. none, tt) (inl (refl, e ∙ number_is _ _ again (Session x y fp_i fp_r sid_i sid_r to_responder) line));
+      let line = h.1.0.1.0 in line.once (λ none. none, tt) (inl (refl, e ∙ number_is _ _ again (Session 0 x y fp_i fp_r sid_i sid_r to_responder) line));
 }
 
 -- ---- what is held where one thing was begun
@@ -230,10 +230,10 @@ none_closed near thing m n d c j why (inr (at, inr (go, inr (differ, closing))))
     differ one.id_is
 
 direction : Context → Bool
-direction Startup = false
-direction (Session x y fp_i fp_r sid_i sid_r to_responder) = to_responder
+direction (Startup generation) = false
+direction (Session generation x y fp_i fp_r sid_i sid_r to_responder) = to_responder
 
-no_startup : (x y fp_i fp_r : List ℕ) (sid_i sid_r : ℕ) (to_responder : Bool) → Session x y fp_i fp_r sid_i sid_r to_responder ≡ Startup → ⊥
+no_startup : (x y fp_i fp_r : List ℕ) (sid_i sid_r : ℕ) (to_responder : Bool) → Session 0 x y fp_i fp_r sid_i sid_r to_responder ≡ (Startup 0) → ⊥
 no_startup x y fp_i fp_r sid_i sid_r to_responder e = cc
 
 true_isnt_false : true ≡ false → ⊥

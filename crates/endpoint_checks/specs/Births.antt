@@ -40,9 +40,9 @@ pub record BirthsRefused (setup : Setup) (moment : ℕ) (from : AddressParts) (s
   pub short : length sent < 36 → IsRefused setup (born_in moment (Receive from sent draws) j)
   pub other_id : sid_of sent ≢ 0 → IsRefused setup (born_in moment (Receive from sent draws) j)
   -- a packet of another mode, and one without chunks
-  pub other_mode : (packet : Whole) → ReadsUnder setup.secret Startup 0 sent packet →
+  pub other_mode : (packet : Whole) → ReadsUnder setup.secret (Startup 0) 0 sent packet →
       packet.head.mode ≢ StartupMode → IsRefused setup (born_in moment (Receive from sent draws) j)
-  pub no_chunk : (packet : Whole) → ReadsUnder setup.secret Startup 0 sent packet →
+  pub no_chunk : (packet : Whole) → ReadsUnder setup.secret (Startup 0) 0 sent packet →
       chunks_of packet ≡ [] → IsRefused setup (born_in moment (Receive from sent draws) j)
   -- session ID 0, a nonce that wasn't drawn, and another count of attempts
   pub zero : j.near ≡ 0 → IsRefused setup (born_in moment (Receive from sent draws) j)

@@ -20,7 +20,7 @@ pub record Keying : Type 0 where
 -- says this.
 pub record BringsKeying (secret sent : List ℕ) (k : Keying) : Type 0 where
   pub packet : Whole
-  pub reads : ReadsUnder secret Startup 0 sent packet
+  pub reads : ReadsUnder secret (Startup 0) 0 sent packet
   pub chunk : Placed
   pub first : IsFirst chunk (chunks_of packet)
   pub spells : Spells (IIKeying k.near k.cookie k.cert k.part k.sign) chunk.kind chunk.payload
@@ -37,7 +37,7 @@ pub record Answer : Type 0 where
 -- says this is its only chunk.
 pub record BringsAnswer (secret : List ℕ) (sid : ℕ) (sent : List ℕ) (a : Answer) : Type 0 where
   pub packet : Whole
-  pub reads : ReadsUnder secret Startup sid sent packet
+  pub reads : ReadsUnder secret (Startup 0) sid sent packet
   pub chunk : Placed
   pub only : chunks_of packet ≡ chunk ∷ []
   pub spells : Spells (RIKeying a.near a.part a.sign) chunk.kind chunk.payload

@@ -3,7 +3,7 @@ use Rattle.std.specs.Prelude.{ℕ, ◌≢◌, List, [], ◌∷◌}
 use Rattle.rtmfp_forms.specs.Address.{AddressParts}
 use Rattle.crypto_profile.specs.declared.keys.Context.{Context}
 use Rattle.identity.specs.Order.{Prevails}
-use Rattle.startup.specs.declared.cause.Cause.{Cause}
+use Rattle.rtmfp_base.specs.declared.cause.Cause.{Cause}
 use Rattle.glare_core.specs.declared.facts.Why.TheVariants.{Cancelled, Expired, Glare, Override}
 use Rattle.glare_core.specs.declared.facts.Fact.TheVariants.{Started, Born, Ended}
 use Rattle.glare_core.specs.declared.facts.Joined.{Joined}

@@ -42,27 +42,32 @@ pub record ForgedRefused (ends : ℕ → Setup) (from to : AddressParts) (draws 
   -- nobody sent it; others sent other bytes, or the same in another context; it is sent later, or
   -- in the same call
   pub unsent
-      : (IsHonest ends (took 0 from (datagram 0 (sealed_in (ends 0).secret Startup 0 number plain))
+      : (IsHonest ends
+      (took 0 from (datagram 0 (sealed_in (ends 0).secret (Startup 0) 0 number plain))
       draws [] ∷ [])) → ⊥
-  pub others_sent : other ≢ datagram 0 (sealed_in (ends 0).secret Startup 0 number plain) →
-      IsHonest ends (took 0 from (datagram 0 (sealed_in (ends 0).secret Startup 0 number plain))
-      draws [] ∷ did 1 (Out to other Startup ∷ []) ∷ []) → ⊥
-  pub other_context : context ≢ Startup →
-      IsHonest ends (took 0 from (datagram 0 (sealed_in (ends 0).secret Startup 0 number plain))
-      draws [] ∷ did 1 (Out to (datagram 0 (sealed_in (ends 0).secret Startup 0 number plain))
+  pub others_sent : other ≢ datagram 0 (sealed_in (ends 0).secret (Startup 0) 0 number plain) →
+      IsHonest ends (took 0 from (datagram 0 (sealed_in (ends 0).secret (Startup 0) 0 number plain))
+      draws [] ∷ did 1 (Out to other (Startup 0) ∷ []) ∷ []) → ⊥
+  pub other_context : context ≢ Startup 0 →
+      IsHonest ends (took 0 from (datagram 0 (sealed_in (ends 0).secret (Startup 0) 0 number plain))
+      draws [] ∷ did 1 (Out to (datagram 0 (sealed_in (ends 0).secret (Startup 0) 0 number plain))
       context ∷ []) ∷ []) → ⊥
   pub sent_later
       : IsHonest ends
-      (did 1 (Out to (datagram 0 (sealed_in (ends 0).secret Startup 0 number plain)) Startup ∷ [])
-      ∷ took 0 from (datagram 0 (sealed_in (ends 0).secret Startup 0 number plain))
+      (did 1 (Out to (datagram 0 (sealed_in (ends 0).secret (Startup 0) 0 number plain)) (Startup 0)
+      ∷ [])
+      ∷ took 0 from (datagram 0 (sealed_in (ends 0).secret (Startup 0) 0 number plain))
       draws [] ∷ []) → ⊥
   pub sent_itself
-      : IsHonest ends (took 0 from (datagram 0 (sealed_in (ends 0).secret Startup 0 number plain))
-      draws (Out to (datagram 0 (sealed_in (ends 0).secret Startup 0 number plain)) Startup ∷ [])
+      : IsHonest ends
+      (took 0 from (datagram 0 (sealed_in (ends 0).secret (Startup 0) 0 number plain))
+      draws (Out to (datagram 0 (sealed_in (ends 0).secret (Startup 0) 0 number plain)) (Startup 0)
+      ∷ [])
       ∷ []) → ⊥
   -- under the session ID of an attempt
   pub under_attempt
-      : IsHonest ends (took 0 from (datagram 5 (sealed_in (ends 0).secret Startup 5 number plain))
+      : IsHonest ends
+      (took 0 from (datagram 5 (sealed_in (ends 0).secret (Startup 0) 5 number plain))
       draws [] ∷ did 0 (says (Started peer n 5 ni)) ∷ []) → ⊥
 
 -- Of a datagram that opens in the context of a session that was born at end 0.

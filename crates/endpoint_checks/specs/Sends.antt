@@ -41,16 +41,16 @@ pub record NumbersRefused (setup : Setup) (moment : ℕ) (c d : Call) (first sec
   -- in the startup context, in one call and in two
   pub in_startup
       : IsRefused setup
-      (doing moment c (Out first sent Startup ∷ Out second again Startup ∷ []) ∷ [])
-  pub in_two_calls : IsRefused setup (doing 0 c (sends first sent Startup)
-      ∷ doing moment d (sends second again Startup) ∷ [])
+      (doing moment c (Out first sent (Startup 0) ∷ Out second again (Startup 0) ∷ []) ∷ [])
+  pub in_two_calls : IsRefused setup (doing 0 c (sends first sent (Startup 0))
+      ∷ doing moment d (sends second again (Startup 0)) ∷ [])
   -- and in the context of a session, where no nonce was drawn twice
   pub in_session : (peer ni : List ℕ) (near : ℕ) (x y fp_i fp_r : List ℕ) (sid_i sid_r : ℕ)
       (to_responder : Bool) →
       IsRefused setup (
       doing 0 c (says (Started peer 1 near ni))
-      ∷ doing moment d (Out first sent (Session x y fp_i fp_r sid_i sid_r to_responder)
-      ∷ Out second again (Session x y fp_i fp_r sid_i sid_r to_responder) ∷ [])
+      ∷ doing moment d (Out first sent (Session 0 x y fp_i fp_r sid_i sid_r to_responder)
+      ∷ Out second again (Session 0 x y fp_i fp_r sid_i sid_r to_responder) ∷ [])
       ∷ [])
 
 -- The datagram is one of a packet in which this chunk is.
@@ -73,7 +73,7 @@ pub record KeyingsSentRefused (setup : Setup) (moment : ℕ) (c d : Call) (to : 
     : Type 0 where
   -- in another context than startup, with another certificate than the own one, and where no
   -- attempt is held
-  pub other_context : context ≢ Startup →
+  pub other_context : context ≢ Startup 0 →
       IsRefused setup (doing 0 c (says (Started peer 1 5 ni))
       ∷ doing moment d (sends to sent context) ∷ [])
   pub other_cert : cert ≢ setup.cert →
@@ -98,7 +98,7 @@ pub record KeyingsSentRefused (setup : Setup) (moment : ℕ) (c d : Call) (to : 
 pub record AnswersSentRefused (setup : Setup) (moment : ℕ) (c d : Call) (to : AddressParts)
     (sent : List ℕ) (context : Context) (j : Joined) (near : ℕ) (part : List ℕ) : Type 0 where
   -- in another context than startup, and where no session is held
-  pub other_context : context ≢ Startup →
+  pub other_context : context ≢ Startup 0 →
       IsRefused setup (doing 0 c (says (Born j)) ∷ doing moment d (sends to sent context) ∷ [])
   pub no_session : IsRefused setup (doing moment d (sends to sent context) ∷ [])
   -- with another session ID or another component than the session's, and under another session ID
@@ -125,15 +125,15 @@ pub record InSessionsRefused (setup : Setup) (moment : ℕ) (c d : Call) (to : A
   -- nothing is held, or an attempt
   pub nothing_held
       : IsRefused setup
-      (doing moment d (sends to sent (Session x y fp_i fp_r sid_i sid_r to_responder)) ∷ [])
+      (doing moment d (sends to sent (Session 0 x y fp_i fp_r sid_i sid_r to_responder)) ∷ [])
   pub attempt_held : (peer ni : List ℕ) →
       IsRefused setup (doing 0 c (says (Started peer 1 5 ni))
-      ∷ doing moment d (sends to sent (Session x y fp_i fp_r sid_i sid_r to_responder)) ∷ [])
+      ∷ doing moment d (sends to sent (Session 0 x y fp_i fp_r sid_i sid_r to_responder)) ∷ [])
   -- another context than that of the session that is held, away from this end
-  pub other_values : Session x y fp_i fp_r sid_i sid_r to_responder
+  pub other_values : Session 0 x y fp_i fp_r sid_i sid_r to_responder
       ≢ session_context (as_responder (own_of setup) j) false →
       IsRefused setup (doing 0 c (says (Born j))
-      ∷ doing moment d (sends to sent (Session x y fp_i fp_r sid_i sid_r to_responder)) ∷ [])
+      ∷ doing moment d (sends to sent (Session 0 x y fp_i fp_r sid_i sid_r to_responder)) ∷ [])
   pub towards : IsRefused setup (doing 0 c (says (Born j))
       ∷ doing moment d (sends to sent (session_context (as_responder (own_of setup) j) true)) ∷ [])
   pub opened_towards : (ni : List ℕ) →
@@ -147,10 +147,10 @@ pub record InSessionsRefused (setup : Setup) (moment : ℕ) (c d : Call) (to : A
       ∷ doing moment d (sends to sent (session_context (as_responder (own_of setup) j) false))
       ∷ [])
   -- the same of a session that is closing
-  pub closing_values : (why : Why) → Session x y fp_i fp_r sid_i sid_r to_responder
+  pub closing_values : (why : Why) → Session 0 x y fp_i fp_r sid_i sid_r to_responder
       ≢ session_context (as_responder (own_of setup) j) false →
       IsRefused setup (doing 0 c (FactEntry (Born j) ∷ FactEntry (Ended j.peer j.near why) ∷ [])
-      ∷ doing moment d (sends to sent (Session x y fp_i fp_r sid_i sid_r to_responder)) ∷ [])
+      ∷ doing moment d (sends to sent (Session 0 x y fp_i fp_r sid_i sid_r to_responder)) ∷ [])
   pub closing_under_another : (why : Why) → ((number plain : List ℕ) →
       sent ≢ datagram j.far (sealed_in setup.secret
       (session_context (as_responder (own_of setup) j) false) j.far number plain)) →
@@ -160,11 +160,11 @@ pub record InSessionsRefused (setup : Setup) (moment : ℕ) (c d : Call) (to : A
   -- a session that was ended without closing, and one whose closing is over
   pub over : (why : Why) → is_close why ≡ false →
       IsRefused setup (doing 0 c (FactEntry (Born j) ∷ FactEntry (Ended j.peer j.near why) ∷ [])
-      ∷ doing moment d (sends to sent (Session x y fp_i fp_r sid_i sid_r to_responder)) ∷ [])
+      ∷ doing moment d (sends to sent (Session 0 x y fp_i fp_r sid_i sid_r to_responder)) ∷ [])
   pub closed : (why : Why) →
       IsRefused setup (doing 0 c (FactEntry (Born j) ∷ FactEntry (Ended j.peer j.near why)
       ∷ Closed j.near ∷ [])
-      ∷ doing moment d (sends to sent (Session x y fp_i fp_r sid_i sid_r to_responder)) ∷ [])
+      ∷ doing moment d (sends to sent (Session 0 x y fp_i fp_r sid_i sid_r to_responder)) ∷ [])
   -- one that is closing, which either end closed, meets the line
   pub while_closing : (why : Why) → is_close why ≡ true →
       InSession setup (past_of_end j why) j.far

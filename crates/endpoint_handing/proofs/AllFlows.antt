@@ -17,7 +17,7 @@ use Rattle.session_core.specs.Closing.{is_held, with_loss, with_acknowledged}
 use Rattle.session_core.specs.Trips.{resend_time}
 use Rattle.session_flows.specs.declared.pace.Pace.{Pace}
 use Rattle.session_flows.specs.declared.taking.TakingFlow.{TakingFlow}
-use Rattle.session_flows.specs.declared.cause.FlowCause.{FlowCause}
+use Rattle.rtmfp_base.specs.declared.cause.Cause.{Cause}
 use Rattle.session_flows.specs.declared.refusal.CallRefusal.{CallRefusal as FlowRefusal}
 use Rattle.session_flows.specs.Told.{begins_with_a}
 use Rattle.session_flows.specs.Causes.{chunk_cause}
@@ -39,8 +39,8 @@ use Rattle.endpoint_model.specs.Sending.{packet_head}
 use Rattle.endpoint_model.specs.FlowCall.{FlowCall, OpenFlow, Queue, Abandon, Finish, flow_refusal}
 use Rattle.endpoint_model.specs.FlowCall.{flow_did}
 use Rattle.endpoint_model.specs.InSessions.{held_row}
-use Rattle.endpoint_model.specs.OnFlows.{flow_refused, flows_done, call_refusal_by, flow_called_by}
-use Rattle.endpoint_model.specs.FlowChunks.{told_cause, taking_cause, flow_taken_by, acked_by}
+use Rattle.endpoint_model.specs.OnFlows.{flows_done, call_refusal_by, flow_called_by}
+use Rattle.endpoint_model.specs.FlowChunks.{taking_cause, flow_taken_by, acked_by}
 use Rattle.endpoint_model.specs.FlowChunks.{unowed_by}
 use Rattle.endpoint_model.specs.FlowTimes.{late_marked, late_at, data_sent}
 use Rattle.flow_history.specs.Flow.{Opened}
@@ -230,15 +230,11 @@ module _ (e : End) (facts : List Fact) (s : State) (near : ℕ) (row : Row) (the
 
   -- ---- chunks
 
-  unrefused : (o : Option FlowCause) → option_map told_cause o ≡ None → o ≡ None
-  unrefused None is = refl
-  unrefused (Some x) is = absurd cc
-
   row_taken : (chunk : DataChunk) → taking_cause (Some row) chunk ≡ None → FitsIn chunk → (h : History) → Stands e facts s h → HasCome e row chunk h → Hands e facts (flow_taken_by s near chunk (Some row)) h
   row_taken chunk none fits h stands come =
       let d : FlowsDid = chunk_done row.flows chunk in
       hands_goes e facts s near row there (record row { session = session_after row.session row.flows chunk; flows = d.flows }) (of_chunk chunk d.flows) (pieces_in chunk) d refl h stands come
-      (chunk_goes (pieces_in chunk) row.session row.flows chunk fits (unrefused (chunk_cause row.session row.flows chunk) none) (λ p among. among)) (chunk_none row.flows chunk)
+      (chunk_goes (pieces_in chunk) row.session row.flows chunk fits none (λ p among. among)) (chunk_none row.flows chunk)
 
   -- ---- acks and flow data
 
@@ -274,11 +270,7 @@ module _ (e : End) (facts : List Fact) (s : State) (near : ℕ) (row : Row) (the
 module _ (e : End) where
   called_by : (facts : List Fact) (s : State) (near : ℕ) (call : FlowCall) (o : Option Row) → held_row s near ≡ o → call_refusal_by call o ≡ None → OpensAsAsked e s near call → Does e facts s (flow_called_by s near call o)
   called_by facts s near call None held free asked = absurd cc
-  called_by facts s near call (Some row) held free asked = row_called e facts s near row (held_is_there (get s.sessions near) row held) call (unrefused_call (flow_refusal row.flows call) free) held asked
-    where
-      unrefused_call : (o : Option FlowRefusal) → option_map flow_refused o ≡ None → o ≡ None
-      unrefused_call None is = refl
-      unrefused_call (Some x) is = absurd cc
+  called_by facts s near call (Some row) held free asked = row_called e facts s near row (held_is_there (get s.sessions near) row held) call free held asked
 
   pub all_flows_hand : FlowsHand e
   all_flows_hand = record {

@@ -5,7 +5,7 @@ use Rattle.std.proofs.Common.{refl, sym, ap, ◌∙◌, append-nil, if◌then◌
 use Rattle.std.proofs.lemmas.List.{drop_at}
 use Rattle.std.specs.Int.{w32, to_be_bytes}
 use Rattle.crypto_profile.specs.declared.keys.Context.{Context as Sealing}
-use Rattle.crypto_profile.specs.Keys.{keys_of}
+use Rattle.crypto_profile.specs.Keys.{Keys, keys_of}
 use Rattle.crypto_profile.specs.Opening.{plain_of}
 use Rattle.crypto_profile.specs.Sealing.{sealed_in}
 use Rattle.crypto_profile.proofs.Opened.{sealed_opens}
@@ -35,10 +35,11 @@ use Rattle.endpoint_handing.proofs.Kept.{away, session_of}
 
 -- ---- contexts
 
-pub sealed_away : (session : SessionState) → sealed_for (away session) ≡ context_of session true
-sealed_away session = by session.role
+-- no key is made of a generation
+keys_away : (session : SessionState) → keys_of session.secret (sealed_for (away session)) ≡ keys_of session.secret (context_of session true)
+keys_away session = by session.role
   where
-    by : (r : Role) → sealed_for (sends_in r session.own session.joined) ≡ context_of (record session { role = r }) true
+    by : (r : Role) → keys_of session.secret (sealed_for (sends_in r session.own session.joined)) ≡ keys_of session.secret (context_of (record session { role = r }) true)
     by Initiator = refl
     by Responder = refl
 
@@ -96,7 +97,7 @@ datagram_pieces session moment body =
     let plain : List ℕ = session_packet session moment body in
     let sealing : Sealing = context_of session true in
     let part : List ℕ = sealed_in session.secret sealing session.joined.far (number_bytes (session.sealed + 1)) plain in
-    ap (λ (c : Sealing). pieces_whole (packet_in (plain_of (keys_of session.secret c) (drop 4 (datagram session.joined.far part))))) (sealed_away session)
+    ap (λ (k : Keys). pieces_whole (packet_in (plain_of k (drop 4 (datagram session.joined.far part))))) (keys_away session)
     ∙ ap (λ (b : List ℕ). pieces_whole (packet_in (plain_of (keys_of session.secret sealing) b))) (behind session.joined.far part)
     ∙ ap (λ (b : List ℕ). pieces_whole (packet_in b)) (sealed_opens (keys_of session.secret sealing) session.joined.far (number_bytes (session.sealed + 1)) plain refl).1
     ∙ packet_pieces session moment body

@@ -103,33 +103,33 @@ none_of false false false false false true p q r s t u is = u refl
 none_of false false false false false false p q r s t u is = absurd cc
 
 -- chunks of flows come in sessions alone
-no_flows_at_startup : (kind : ℕ) → takes Startup kind ≡ true → is_of_flows kind ≡ true → ⊥
+no_flows_at_startup : (kind : ℕ) → takes (Startup 0) kind ≡ true → is_of_flows kind ≡ true → ⊥
 no_flows_at_startup kind here is = none_of (kind == 0x10) (kind == 0x11) (kind == 0x50) (kind == 0x51) (kind == 0x18) (kind == 0x5e)
-    (not_taken Startup kind 0x10 refl here) (not_taken Startup kind 0x11 refl here) (not_taken Startup kind 0x50 refl here) (not_taken Startup kind 0x51 refl here)
-    (not_taken Startup kind 0x18 refl here) (not_taken Startup kind 0x5e refl here) is
+    (not_taken (Startup 0) kind 0x10 refl here) (not_taken (Startup 0) kind 0x11 refl here) (not_taken (Startup 0) kind 0x50 refl here) (not_taken (Startup 0) kind 0x51 refl here)
+    (not_taken (Startup 0) kind 0x18 refl here) (not_taken (Startup 0) kind 0x5e refl here) is
 
-no_flows_at_attempt : (near kind : ℕ) → takes (Attempt near) kind ≡ true → is_of_flows kind ≡ true → ⊥
+no_flows_at_attempt : (near kind : ℕ) → takes (Attempt near 0) kind ≡ true → is_of_flows kind ≡ true → ⊥
 no_flows_at_attempt near kind here is = none_of (kind == 0x10) (kind == 0x11) (kind == 0x50) (kind == 0x51) (kind == 0x18) (kind == 0x5e)
-    (not_taken (Attempt near) kind 0x10 refl here) (not_taken (Attempt near) kind 0x11 refl here) (not_taken (Attempt near) kind 0x50 refl here) (not_taken (Attempt near) kind 0x51 refl here)
-    (not_taken (Attempt near) kind 0x18 refl here) (not_taken (Attempt near) kind 0x5e refl here) is
+    (not_taken (Attempt near 0) kind 0x10 refl here) (not_taken (Attempt near 0) kind 0x11 refl here) (not_taken (Attempt near 0) kind 0x50 refl here) (not_taken (Attempt near 0) kind 0x51 refl here)
+    (not_taken (Attempt near 0) kind 0x18 refl here) (not_taken (Attempt near 0) kind 0x5e refl here) is
 
 -- ---- what a chunk is given
 
 -- Sessions begin outside of sessions alone.
 abbrev pub BeginsAt : End → Place → Type 0
-BeginsAt e Startup = e.begins
-BeginsAt e (Attempt near) = e.begins
+BeginsAt e (Startup generation) = e.begins
+BeginsAt e (Attempt near generation) = e.begins
 BeginsAt e (Session near) = e.begins → ⊥
 
 may_begin : (e : End) (place : Place) (n : ℕ) → ((near : ℕ) → takes (Session near) n ≡ false) → BeginsAt e place → takes place n ≡ true → e.begins
-may_begin e Startup n outside at here = at
-may_begin e (Attempt near) n outside at here = at
+may_begin e (Startup generation) n outside at here = at
+may_begin e (Attempt near generation) n outside at here = at
 may_begin e (Session near) n outside at here = let clash : false ≡ true = sym (outside near) ∙ here in absurd (cc)
 
 -- In a session, what the chunk has of flows came towards it.
 abbrev CameTo : End → Place → State → List Piece → History → Type 0
-CameTo e Startup s pieces h = Unit {0}
-CameTo e (Attempt near) s pieces h = Unit {0}
+CameTo e (Startup generation) s pieces h = Unit {0}
+CameTo e (Attempt near generation) s pieces h = Unit {0}
 CameTo e (Session near) s pieces h = (row : Row) → get s.sessions near ≡ Some row → (x : Piece) → IsIn x pieces → CameIn e.who (back (away row.session)) x h
 
 module _ (e : End) (owed : FlowsHand e) (facts : List Fact) (s : State) (h : History) (stands : Stands e facts s h) where
@@ -143,8 +143,8 @@ module _ (e : End) (owed : FlowsHand e) (facts : List Fact) (s : State) (h : His
 
   taken_at : (place : Place) (kind : ℕ) (read : Result DataChunk DataFault) → ((chunk : DataChunk) → read ≡ Ok chunk → FitsIn chunk) → takes place kind ≡ true → is_of_flows kind ≡ true → flow_cause (get s.sessions (sid_at place)) read ≡ None → CameTo e place s (pieces_read read) h →
       Hands e facts (flow_taken s (sid_at place) read) h
-  taken_at Startup kind read fits here is none came = absurd (no_flows_at_startup kind here is)
-  taken_at (Attempt near) kind read fits here is none came = absurd (no_flows_at_attempt near kind here is)
+  taken_at (Startup generation) kind read fits here is none came = absurd (no_flows_at_startup kind here is)
+  taken_at (Attempt near generation) kind read fits here is none came = absurd (no_flows_at_attempt near kind here is)
   taken_at (Session near) kind read fits here is none came = taken_read near read fits none came
 
   module _ (place : Place) (walk : Walk) (from : AddressParts) (draws : Draws) (c : Placed) (at : BeginsAt e place) (small : AreSmall walk.cursor) (came : CameTo e place s (pieces_read (data_reading walk.cursor c.kind c.payload)) h) where
@@ -176,14 +176,14 @@ pub record AllCame (e : End) (near : ℕ) (facts : List Fact) (before : Option N
   pub came : (x : Piece) → IsIn x (pieces_behind before cs) → CameIn e.who (back context) x h
 
 abbrev pub AllCameAt : End → Place → List Fact → Option Numbers → List Placed → History → Type 0
-AllCameAt e Startup facts before cs h = Unit {0}
-AllCameAt e (Attempt near) facts before cs h = Unit {0}
+AllCameAt e (Startup generation) facts before cs h = Unit {0}
+AllCameAt e (Attempt near generation) facts before cs h = Unit {0}
 AllCameAt e (Session near) facts before cs h = AllCame e near facts before cs h
 
 first_came : (e : End) (place : Place) (facts : List Fact) (s : State) (before : Option Numbers) (c : Placed) (cs : List Placed) (h : History) → Stands e facts s h → AllCameAt e place facts before (c ∷ cs) h →
     CameTo e place s (pieces_read (data_reading before c.kind c.payload)) h
-first_came e Startup facts s before c cs h stands all = tt
-first_came e (Attempt near) facts s before c cs h stands all = tt
+first_came e (Startup generation) facts s before c cs h stands all = tt
+first_came e (Attempt near generation) facts s before c cs h stands all = tt
 first_came e (Session near) facts s before c cs h stands all = λ row there x among.
     let both : Some all.context ≡ Some (away row.session) = sym all.named ∙ (stands.state.rows near row there).named in
     let is : all.context ≡ away row.session = cc in
@@ -196,8 +196,8 @@ stays e near facts more never (inr still) = still
 
 rest_came : (e : End) (place : Place) (facts : List Fact) (before : Option Numbers) (c : Placed) (cs : List Placed) (h : History) (d : Did) → BeginsAt e place → (one : Hands e facts d h) → AllCameAt e place facts before (c ∷ cs) h →
     AllCameAt e place (facts_onto d.entries facts) (before_next (data_reading before c.kind c.payload)) cs one.after
-rest_came e Startup facts before c cs h d at one all = tt
-rest_came e (Attempt near) facts before c cs h d at one all = tt
+rest_came e (Startup generation) facts before c cs h d at one all = tt
+rest_came e (Attempt near generation) facts before c cs h d at one all = tt
 rest_came e (Session near) facts before c cs h d at one all = record {
   context = all.context;
   named = stays e near facts (facts_onto d.entries facts) at (one.still near) ∙ all.named;

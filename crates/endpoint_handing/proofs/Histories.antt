@@ -264,8 +264,9 @@ module _ (ends : ℕ → Setup) (secret : List ℕ) (owed : (e : End) → FlowsH
       let at : OpensAt (ends who) (past_at who earlier) datagram (context_of row.session false) =
       opens_in_told (ends who) (log_of who earlier) (states who) datagram sized calls.0 standing (context_of row.session false) opens in
       let ours : IsHonestCall (ends who) (past_at who earlier) earlier (Receive from datagram draws) = subst (λ (call : Call). IsHonestCall (ends who) (past_at who earlier) earlier call) is given.honest.0 in
-      let was : WasOut datagram (context_of row.session false) earlier = ours (context_of row.session false) at.plain at.named at.opens in
-      carried.outs c datagram (subst (λ (d : Sealing). WasOut datagram d earlier) (sym (sealed_back row.session)) was)
+      let was : WasOut datagram (context_of row.session false) earlier = ours at.contexts (context_of row.session false) at.plain at.named at.opens in
+      let tied = tied_to_log (ends who) (log_of who earlier) (states who) sized calls.0 standing in
+      carried.outs c datagram (subst (λ (d : Sealing). WasOut datagram d earlier) (sym (sealed_back row.session (tied.sessions near row there).generation)) was)
 
   opens_as_asked : (near : ℕ) (call : FlowCall) → x.event.call ≡ OnFlows near call → entries ≡ (flow_called noted near call).entries → OpensAsAsked it noted near call
   opens_as_asked near (OpenFlow priority metadata answers) is are = λ row held b asked. asked metadata (record {

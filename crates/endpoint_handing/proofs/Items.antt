@@ -14,10 +14,10 @@ use Rattle.identity.specs.Discriminators.{discriminator_of}
 use Rattle.glare_core.specs.declared.facts.Why.{Why}
 use Rattle.glare_core.specs.declared.facts.Fact.{Fact}
 use Rattle.glare_core.specs.declared.facts.Fact.TheVariants.{Started, Confirmed, Ended}
-use Rattle.glare_core.specs.Calls.{first_that_stands}
-use Rattle.glare_core.specs.Calls.{where_true}
-use Rattle.startup.specs.declared.cause.Cause.{Cause}
-use Rattle.startup.specs.declared.cause.Cause.TheVariants.{Wide}
+use Rattle.rtmfp_base.specs.Reasons.{first_that_stands}
+use Rattle.rtmfp_base.specs.Reasons.{where_true}
+use Rattle.rtmfp_base.specs.declared.cause.Cause.{Cause}
+use Rattle.rtmfp_base.specs.declared.cause.Cause.TheVariants.{Wide}
 use Rattle.startup.specs.State.{StartupState}
 use Rattle.startup.specs.Attempts.{wide}
 use Rattle.startup.specs.Keyings.{selects, initiator_hello_answer}

@@ -151,10 +151,10 @@ named_append own [] ys facts p q = q
 named_append own (x ∷ xs) ys facts p q =
     (p.0, named_append own xs ys (fact_and (fact_in x) facts) p.1 q)
 
--- the context of a session that a datagram was sealed for
+-- the context of a session that a datagram was sealed for, in whatever generation
 abbrev pub session_of : Sealing → Option Context
-session_of Startup = None
-session_of (Session ni nr initiator responder near_i near_r to_responder) = Some (record {
+session_of (Startup generation) = None
+session_of (Session generation ni nr initiator responder near_i near_r to_responder) = Some (record {
   session = record {
     ni = ni;
     nr = nr;

@@ -7,8 +7,7 @@ use Rattle.std.proofs.Common.{refl, sym, ap, subst, ◌∙◌, append-nil}
 use Rattle.std.proofs.lemmas.List.{take-append-drop}
 use Rattle.std.specs.FinMap.{get}
 use Rattle.rtmfp_forms.specs.Address.{AddressParts}
-use Rattle.crypto_profile.specs.declared.keys.Context.{Context as Sealing}
-use Rattle.crypto_profile.specs.Keys.{keys_of}
+use Rattle.crypto_profile.specs.Keys.{Keys, keys_of}
 use Rattle.crypto_profile.specs.Opening.{plain_of}
 use Rattle.packet_scramble.specs.Datagram.{sid_of}
 use Rattle.rtmfp_packet.specs.declared.head.PacketHead.{PacketHead}
@@ -30,8 +29,8 @@ use Rattle.session_core.specs.Session.{SessionState, context_of, with_stamps}
 use Rattle.session_core.specs.Hearing.{opens_in as opens_in_session, is_new, count_of, unheard}
 use Rattle.session_core.specs.Hearing.{inward_keys, counted}
 use Rattle.crypto_profile.specs.Window.{window_answer}
-use Rattle.startup.specs.declared.cause.Cause.{Cause}
-use Rattle.startup.specs.declared.cause.Cause.TheVariants.{WrongPlace, Short as ShortDatagram}
+use Rattle.rtmfp_base.specs.declared.cause.Cause.{Cause}
+use Rattle.rtmfp_base.specs.declared.cause.Cause.TheVariants.{WrongPlace, Short as ShortDatagram}
 use Rattle.endpoint_model.specs.declared.config.Draws.{Draws}
 use Rattle.endpoint_model.specs.declared.answers.Stopped.{Stopped as Stop}
 use Rattle.endpoint_model.specs.declared.place.Place.{Place}
@@ -90,8 +89,8 @@ counted_alike s near part None is = alike_itself s
 counted_alike s near part (Some row) is = record { own = refl; secret = refl; rows = had_row s.sessions near row (record row { session = counted row.session part }) is (record { joined = refl; own = refl; role = refl; secret = refl; flows = refl }) }
 
 alike_counted : (s : State) (place : Place) (part : List ℕ) → IsAlike s (counted_at s place part)
-alike_counted s Startup part = alike_itself s
-alike_counted s (Attempt near) part = alike_itself s
+alike_counted s (Startup generation) part = alike_itself s
+alike_counted s (Attempt near generation) part = alike_itself s
 alike_counted s (Session near) part = counted_alike s near part (get s.sessions near) refl
 
 timed_alike : (s : State) (near : ℕ) (head : PacketHead) (o : Option Row) → get s.sessions near ≡ o → IsAlike s (timed_by s near head o)
@@ -99,8 +98,8 @@ timed_alike s near head None is = alike_itself s
 timed_alike s near head (Some row) is = record { own = refl; secret = refl; rows = had_row s.sessions near row (record row { session = with_stamps head s.moment row.session }) is (record { joined = refl; own = refl; role = refl; secret = refl; flows = refl }) }
 
 alike_timed : (s : State) (place : Place) (head : PacketHead) → IsAlike s (timed_at s place head)
-alike_timed s Startup head = alike_itself s
-alike_timed s (Attempt near) head = alike_itself s
+alike_timed s (Startup generation) head = alike_itself s
+alike_timed s (Attempt near generation) head = alike_itself s
 alike_timed s (Session near) head = timed_alike s near head (get s.sessions near) refl
 
 -- The datagram opens in the context of this session towards this end, and its packet is this one.
@@ -111,8 +110,8 @@ pub record OpensHere (s : State) (datagram : List ℕ) (near : ℕ) (packet : Wh
   pub opens : opens_in s datagram ≡ Some (context_of row.session false)
 
 abbrev pub OpensAt : State → List ℕ → Place → Whole → Type 0
-OpensAt s datagram Startup packet = Unit {0}
-OpensAt s datagram (Attempt near) packet = Unit {0}
+OpensAt s datagram (Startup generation) packet = Unit {0}
+OpensAt s datagram (Attempt near generation) packet = Unit {0}
 OpensAt s datagram (Session near) packet = OpensHere s datagram near packet
 
 abbrev pub AdmissionIs : State → List ℕ → Admission → Type 0
@@ -168,8 +167,8 @@ module _ (s : State) (datagram : List ℕ) where
 
   place_is : nat_lt (length datagram) 36 ≡ false → (o : Option Place) → place_of s (sid_of datagram) ≡ o → AdmissionIs s datagram (admitted s datagram (opened_found s o part))
   place_is long None is = alike_itself s
-  place_is long (Some Startup) is = startup_is Startup (λ packet. tt) (opened_in_startup s 0 part)
-  place_is long (Some (Attempt near)) is = startup_is (Attempt near) (λ packet. tt) (opened_in_startup s near part)
+  place_is long (Some (Startup generation)) is = startup_is (Startup generation) (λ packet. tt) (opened_in_startup s generation 0 part)
+  place_is long (Some (Attempt near generation)) is = startup_is (Attempt near generation) (λ packet. tt) (opened_in_startup s generation near part)
   place_is long (Some (Session near)) is = session_is long near is (get s.sessions near) refl
 
   pub admission_is : AdmissionIs s datagram (admission s datagram)
@@ -222,8 +221,8 @@ hands_as e A facts d h k = record {
 
 came_after : (e : End) (place : Place) (facts : List Fact) (before : Option Numbers) (cs : List Placed) (h : History) (d : Did) → BeginsAt e place → (one : Hands e facts d h) → AllCameAt e place facts before cs h →
     AllCameAt e place (facts_onto d.entries facts) before cs one.after
-came_after e Startup facts before cs h d at one all = tt
-came_after e (Attempt near) facts before cs h d at one all = tt
+came_after e (Startup generation) facts before cs h d at one all = tt
+came_after e (Attempt near generation) facts before cs h d at one all = tt
 came_after e (Session near) facts before cs h d at one all = record {
   context = all.context;
   named = stays e near facts (facts_onto d.entries facts) at (one.still near) ∙ all.named;
@@ -259,17 +258,25 @@ module _ (e : End) (owed : FlowsHand e) (place : Place) (from : AddressParts) (d
 
 -- ---- the datagram came
 
-pub sealed_back : (session : SessionState) → sealed_for (back (away session)) ≡ context_of session false
-sealed_back session = by session.role
+pub sealed_back : (session : SessionState) → session.generation ≡ 0 → sealed_for (back (away session)) ≡ context_of session false
+sealed_back session first = by session.role ∙ ap (λ (g : ℕ). context_of (record session { generation = g }) false) (sym first)
   where
-    by : (r : Role) → sealed_for (back (sends_in r session.own session.joined)) ≡ context_of (record session { role = r }) false
+    by : (r : Role) → sealed_for (back (sends_in r session.own session.joined)) ≡ context_of (record session { role = r; generation = 0 }) false
+    by Initiator = refl
+    by Responder = refl
+
+-- no key is made of a generation
+keys_back : (secret : List ℕ) (session : SessionState) → keys_of secret (sealed_for (back (away session))) ≡ keys_of secret (context_of session false)
+keys_back secret session = by session.role
+  where
+    by : (r : Role) → keys_of secret (sealed_for (back (sends_in r session.own session.joined))) ≡ keys_of secret (context_of (record session { role = r }) false)
     by Initiator = refl
     by Responder = refl
 
 came_pieces : (secret : List ℕ) (session : SessionState) (datagram : List ℕ) (packet : Whole) → session.secret ≡ secret → packet_in (plain_of (inward_keys session) (drop 4 datagram)) ≡ Ok packet →
     pieces_in secret (back (away session)) datagram ≡ pieces_of (chunks_of packet)
 came_pieces secret session datagram packet same reads =
-    ap (λ (c : Sealing). pieces_whole (packet_in (plain_of (keys_of secret c) (drop 4 datagram)))) (sealed_back session)
+    ap (λ (k : Keys). pieces_whole (packet_in (plain_of k (drop 4 datagram)))) (keys_back secret session)
     ∙ ap (λ (k : List ℕ). pieces_whole (packet_in (plain_of (keys_of k (context_of session false)) (drop 4 datagram)))) (sym same)
     ∙ ap pieces_whole reads
 
@@ -363,8 +370,8 @@ module _ (e : End) (owed : (A : Type 0) → FlowsHand (with_begins e A)) (from :
 
     -- at whatever place
     hands_admitted : (place : Place) → IsAlike s t → OpensAt s datagram place packet → Arrives open_end s datagram h → Stands open_end facts s h → AreNew open_end facts (did place).entries → Hands open_end facts (did place) h
-    hands_admitted Startup alike opens arrives stands new = hands_outside Startup tt tt (stands_silent open_end facts s t [] tt alike h stands) new
-    hands_admitted (Attempt near) alike opens arrives stands new = hands_outside (Attempt near) tt tt (stands_silent open_end facts s t [] tt alike h stands) new
+    hands_admitted (Startup generation) alike opens arrives stands new = hands_outside (Startup generation) tt tt (stands_silent open_end facts s t [] tt alike h stands) new
+    hands_admitted (Attempt near generation) alike opens arrives stands new = hands_outside (Attempt near generation) tt tt (stands_silent open_end facts s t [] tt alike h stands) new
     hands_admitted (Session near) alike opens arrives stands new = hands_inside near opens alike arrives stands (stands_silent open_end facts s t [] tt alike h stands) new
 
   module _ (short : length draws.token < 2 ^ 16) (arrives : Arrives open_end s datagram h) (stands : Stands open_end facts s h) where

@@ -24,7 +24,7 @@ use Rattle.endpoint_handing.proofs.Bodies.{body_pieces, datagram_pieces, session
 
 -- ---- in the startup context
 
-pub startup_silent : (to : AddressParts) (datagram : List ℕ) → IsSilent (OutEntry to datagram Startup)
+pub startup_silent : (to : AddressParts) (datagram : List ℕ) → IsSilent (OutEntry to datagram (Startup 0))
 startup_silent to datagram = record { told = λ own facts. refl; context = λ own near facts. refl; out = λ secret h. tt; no_message = refl }
 
 -- ---- in a session

@@ -6,7 +6,7 @@ use Rattle.glare_core.specs.declared.facts.Joined.{Joined}
 use Rattle.glare_core.specs.declared.facts.Why.TheVariants.{Near}
 use Rattle.session_flows.specs.Told.{begins_with_a}
 use Rattle.endpoint_model.specs.declared.entry.Entry.TheVariants as entry
-use Rattle.endpoint_model.specs.declared.answers.CallRefusal.TheVariants.{NoSession}
+use Rattle.session_flows.specs.declared.refusal.CallRefusal.TheVariants.{NoSession}
 use Rattle.endpoint_model.specs.Event.{OnFlows, Done, Refused, Event}
 use Rattle.endpoint_model.specs.FlowCall.{OpenFlow}
 use Rattle.flow_history.specs.Deeds.{Context, Name}

@@ -19,8 +19,8 @@ use Rattle.rtmfp_packet.specs.Spelling.{Chunk as RawChunk, chunk_bytes}
 use Rattle.rtmfp_packet.specs.Walk.{Placed, all_placed_from, visible, is_ignored}
 use Rattle.rtmfp_packet.specs.Whole.{Whole}
 use Rattle.rtmfp_packet.specs.Reading.{PacketReading, Reads}
-use Rattle.startup.specs.declared.cause.Cause.{Cause}
-use Rattle.startup.specs.declared.cause.Cause.TheVariants.{Short, WrongPlace}
+use Rattle.rtmfp_base.specs.declared.cause.Cause.{Cause}
+use Rattle.rtmfp_base.specs.declared.cause.Cause.TheVariants.{Short, WrongPlace}
 use Rattle.crypto_profile.specs.Sealing.{Opens}
 use Rattle.endpoint_model.specs.declared.row.Row.{Row}
 use Rattle.endpoint_model.proofs.Members.{tested}
@@ -49,11 +49,11 @@ use Rattle.endpoint_laws.proofs.Confirming.{HeardIn, HeardAt}
 -- ---- the place
 
 place_id_by : (sid : ℕ) (a b c : Bool) (place : Place) → (sid == 0) ≡ a →
-    (if a then Some Startup else if b then Some (Attempt sid) else if c then Some (Session sid) else None) ≡ Some place → sid_at place ≡ sid
+    (if a then Some (Startup 0) else if b then Some (Attempt sid 0) else if c then Some (Session sid) else None) ≡ Some place → sid_at place ≡ sid
 place_id_by sid true b c place z e =
-    let same : Startup ≡ place = cc in
+    let same : (Startup 0) ≡ place = cc in
     sym (ap sid_at same) ∙ sym (elim (tested sid 0) [ inl is ↦ is.0 | inr is ↦ absurd (let clash : true ≡ false = sym z ∙ is.1 in cc) ])
-place_id_by sid false true c place z e = let same : Attempt sid ≡ place = cc in sym (ap sid_at same)
+place_id_by sid false true c place z e = let same : Attempt sid 0 ≡ place = cc in sym (ap sid_at same)
 place_id_by sid false false true place z e = let same : Session sid ≡ place = cc in sym (ap sid_at same)
 place_id_by sid false false false place z e = absurd (cc)
 
@@ -85,19 +85,19 @@ datagram_is s datagram false cause found e = found_is s datagram (place_of s (si
 -- in the startup context
 
 record IsStartupPlain (s : State) (datagram : List ℕ) (sid : ℕ) (plain : List ℕ) : Type 0 where
-  under : OpensUnder s.startup.secret StartupContext sid datagram plain
+  under : OpensUnder s.startup.secret (StartupContext 0) sid datagram plain
   bytes : IsBytes plain
 
 by_none : (keys : Keys) (part : List ℕ) (o : Option SealFault) (plain : List ℕ) → opened_by keys part o ≡ Ok plain → (o ≡ None) × (plain ≡ plain_of keys part)
 by_none keys part None plain e = (refl, let same : plain ≡ plain_of keys part = cc in same)
 by_none keys part (Some fault) plain e = absurd (cc)
 
-startup_plain : (s : State) (datagram : List ℕ) (sid : ℕ) (plain : List ℕ) → IsBytes datagram → sid ≡ sid_of datagram → opened_in_startup s sid (drop 4 datagram) ≡ Ok plain → IsStartupPlain s datagram sid plain
+startup_plain : (s : State) (datagram : List ℕ) (sid : ℕ) (plain : List ℕ) → IsBytes datagram → sid ≡ sid_of datagram → opened_in_startup s 0 sid (drop 4 datagram) ≡ Ok plain → IsStartupPlain s datagram sid plain
 startup_plain s datagram sid plain are id e =
-    let both = by_none (startup_keys s) (drop 4 datagram) (open_refusal (startup_keys s) sid (drop 4 datagram)) plain e in
+    let both = by_none (startup_keys s 0) (drop 4 datagram) (open_refusal (startup_keys s 0) sid (drop 4 datagram)) plain e in
     record {
-      under = record { id = sym id; opens = (opens_by_its_tag s.startup.secret StartupContext sid (drop 4 datagram) plain).1 (both.0, tt, both.1) };
-      bytes = subst IsBytes (sym both.1) (plain_is (startup_keys s) (drop 4 datagram) (IsBytes-drop 4 datagram are));
+      under = record { id = sym id; opens = (opens_by_its_tag s.startup.secret (StartupContext 0) sid (drop 4 datagram) plain).1 (both.0, tt, both.1) };
+      bytes = subst IsBytes (sym both.1) (plain_is (startup_keys s 0) (drop 4 datagram) (IsBytes-drop 4 datagram are));
     }
 
 -- in a session
@@ -149,12 +149,12 @@ chunks_are plain packet are reads c among =
 -- ---- what a datagram that is taken is
 
 pub record IsRead (secret : List ℕ) (sid : ℕ) (datagram : List ℕ) (packet : Whole) : Type 0 where
-  pub reads : ReadsUnder secret StartupContext sid datagram packet
+  pub reads : ReadsUnder secret (StartupContext 0) sid datagram packet
   pub bytes : (c : Placed) → IsAmong c (chunks_of packet) → IsBytes c.payload
 
 abbrev pub Came : Setup → List ℕ → Place → Whole → Type 0
-Came setup datagram Startup packet = IsRead setup.secret 0 datagram packet × (packet.head.mode ≡ FromStartup)
-Came setup datagram (Attempt near) packet = IsRead setup.secret near datagram packet
+Came setup datagram (Startup generation) packet = IsRead setup.secret 0 datagram packet × (packet.head.mode ≡ FromStartup)
+Came setup datagram (Attempt near generation) packet = IsRead setup.secret near datagram packet
 Came setup datagram (Session near) packet = Unit {0}
 
 read_is : (plain : List ℕ) (packet : Whole) → IsBytes plain → packet_in plain ≡ Ok packet → Reads packet plain
@@ -165,7 +165,7 @@ startup_read : (setup : Setup) (past : Past) (s : State) (datagram : List ℕ) (
 startup_read setup past s datagram sid plain packet tied opened e =
     let reads = read_is plain packet opened.bytes e in
     record {
-      reads = record { plain = plain; opens = subst (λ secret. OpensUnder secret StartupContext sid datagram plain) tied.secret opened.under; reads = reads };
+      reads = record { plain = plain; opens = subst (λ secret. OpensUnder secret (StartupContext 0) sid datagram plain) tied.secret opened.under; reads = reads };
       bytes = chunks_are plain packet opened.bytes reads;
     }
 
@@ -176,15 +176,15 @@ mode_is FromStartup e = refl
 
 came_of : (setup : Setup) (past : Past) (s t : State) (datagram plain : List ℕ) (place : Place) (packet : Whole) → Tied setup past s → IsBytes datagram → IsOpened s datagram place plain →
     packet_in plain ≡ Ok packet → has_mode packet.head (mode_at t place) ≡ true → Came setup datagram place packet
-came_of setup past s t datagram plain Startup packet tied are opened e mode =
+came_of setup past s t datagram plain (Startup generation) packet tied are opened e mode =
     (startup_read setup past s datagram 0 plain packet tied (startup_plain s datagram 0 plain are opened.id opened.opened) e, mode_is packet.head.mode mode)
-came_of setup past s t datagram plain (Attempt near) packet tied are opened e mode =
+came_of setup past s t datagram plain (Attempt near generation) packet tied are opened e mode =
     startup_read setup past s datagram near plain packet tied (startup_plain s datagram near plain are opened.id opened.opened) e
 came_of setup past s t datagram plain (Session near) packet tied are opened e mode = tt
 
 heard_of : (setup : Setup) (past : Past) (s : State) (datagram plain : List ℕ) (place : Place) → Tied setup past s → IsOpened s datagram place plain → HeardAt s place datagram
-heard_of setup past s datagram plain Startup tied opened = tt
-heard_of setup past s datagram plain (Attempt near) tied opened = tt
+heard_of setup past s datagram plain (Startup generation) tied opened = tt
+heard_of setup past s datagram plain (Attempt near generation) tied opened = tt
 heard_of setup past s datagram plain (Session near) tied opened =
     session_heard datagram near (get s.sessions near) plain opened.id (λ row is. (tied.sessions near row is).id) opened.opened
 
@@ -203,8 +203,8 @@ counted_leaves setup past s datagram part near None is tied sent heard = record 
 counted_leaves setup past s datagram part near (Some row) is tied sent heard =
     let new : Row = record row { session = counted row.session part } in
     record {
-      tied = tied_session setup past s near row new tied is (record { joined = refl; own = refl; secret = refl; role = refl; held = refl; thing = λ e. refl; stage = λ f. f; since = λ e. inl refl });
-      sent = sent_session_changed setup past s near row new sent is refl refl refl refl;
+      tied = tied_session setup past s near row new tied is (record { joined = refl; own = refl; secret = refl; generation = refl; role = refl; held = refl; thing = λ e. refl; stage = λ f. f; since = λ e. inl refl });
+      sent = sent_session_changed setup past s near row new sent is refl refl refl refl refl;
       same = refl;
       heard = subst (HeardIn datagram near) (sym (get_inserted s.sessions near new)) heard;
     }
@@ -215,20 +215,20 @@ timed_leaves setup past s datagram head near None is tied sent heard = record { 
 timed_leaves setup past s datagram head near (Some row) is tied sent heard =
     let new : Row = record row { session = with_stamps head s.moment row.session } in
     record {
-      tied = tied_session setup past s near row new tied is (record { joined = refl; own = refl; secret = refl; role = refl; held = refl; thing = λ e. refl; stage = λ f. f; since = λ e. inl refl });
-      sent = sent_session_changed setup past s near row new sent is refl refl refl refl;
+      tied = tied_session setup past s near row new tied is (record { joined = refl; own = refl; secret = refl; generation = refl; role = refl; held = refl; thing = λ e. refl; stage = λ f. f; since = λ e. inl refl });
+      sent = sent_session_changed setup past s near row new sent is refl refl refl refl refl;
       same = refl;
       heard = subst (HeardIn datagram near) (sym (get_inserted s.sessions near new)) heard;
     }
 
 counted_at_leaves : (setup : Setup) (past : Past) (s : State) (datagram part : List ℕ) (place : Place) → Tied setup past s → Sent setup past s → HeardAt s place datagram → Leaves setup past s datagram place (counted_at s place part)
-counted_at_leaves setup past s datagram part Startup tied sent heard = record { tied = tied; sent = sent; same = refl; heard = heard }
-counted_at_leaves setup past s datagram part (Attempt near) tied sent heard = record { tied = tied; sent = sent; same = refl; heard = heard }
+counted_at_leaves setup past s datagram part (Startup generation) tied sent heard = record { tied = tied; sent = sent; same = refl; heard = heard }
+counted_at_leaves setup past s datagram part (Attempt near generation) tied sent heard = record { tied = tied; sent = sent; same = refl; heard = heard }
 counted_at_leaves setup past s datagram part (Session near) tied sent heard = counted_leaves setup past s datagram part near (get s.sessions near) refl tied sent heard
 
 timed_at_leaves : (setup : Setup) (past : Past) (s : State) (datagram : List ℕ) (head : PacketHead) (place : Place) → Tied setup past s → Sent setup past s → HeardAt s place datagram → Leaves setup past s datagram place (timed_at s place head)
-timed_at_leaves setup past s datagram head Startup tied sent heard = record { tied = tied; sent = sent; same = refl; heard = heard }
-timed_at_leaves setup past s datagram head (Attempt near) tied sent heard = record { tied = tied; sent = sent; same = refl; heard = heard }
+timed_at_leaves setup past s datagram head (Startup generation) tied sent heard = record { tied = tied; sent = sent; same = refl; heard = heard }
+timed_at_leaves setup past s datagram head (Attempt near generation) tied sent heard = record { tied = tied; sent = sent; same = refl; heard = heard }
 timed_at_leaves setup past s datagram head (Session near) tied sent heard = timed_leaves setup past s datagram head near (get s.sessions near) refl tied sent heard
 
 -- What an admission says: the state that it leaves agrees, and a datagram that is taken is what it has to be.

@@ -10,6 +10,9 @@ use Rattle.glare_core.specs.Things.{IsSession, near_of}
 use Rattle.glare_core.specs.Ledger.{held_with, row_count}
 use Rattle.glare_core.specs.Account.{StandsFor}
 use Rattle.rtmfp_base.proofs.Maps.{none_is_some, same_or_not}
+use Rattle.startup.specs.declared.aim.Aim.{Aim}
+use Rattle.startup.specs.declared.aim.Aim.TheVariants.{AtPeer}
+use Rattle.startup.specs.Aims.{IsHeldAs, peer_of_aim}
 use Rattle.startup.specs.State.{AttemptState, peer_of_attempt}
 use Rattle.session_core.specs.declared.stage.Role.{Role}
 use Rattle.session_core.specs.declared.stage.Role.TheVariants.{Initiator, Responder}
@@ -23,11 +26,16 @@ use Rattle.endpoint_model.specs.Event.{Setup, own_of}
 use Rattle.endpoint_laws.specs.Past.{Stamped, stamped, facts_of, ids_in_use, IsClosing, WasDone, Past}
 use Rattle.endpoint_model.specs.State.{State, is_used}
 use Rattle.endpoint_laws.proofs.Matching.{Found, of_peer, of_some, Matches, Ids}
+use Rattle.endpoint_laws.specs.OfTheLog.{WasStartedAs}
 use Rattle.endpoint_laws.proofs.Tied.{Tied, AreBy, StageFits, IsClosed, IsClosedThing, thing_of, held_of, found_in}
+
+-- what an attempt is, with its peer
+abbrev pub found_as : ℕ → List ℕ → Aim → Found
+found_as near ni (AtPeer peer n) = Some (peer, OpeningHeld n near ni)
 
 -- what stands under a session ID, with its peer
 abbrev pub combined : ℕ → Option AttemptState → Option Row → Found
-combined near (Some a) o = Some (a.peer, OpeningHeld a.n near a.ni)
+combined near (Some a) o = found_as near a.ni a.aim
 combined near None o = found_in o
 
 abbrev pub thing_at : State → ℕ → Found
@@ -38,6 +46,7 @@ pub record IsOurs (setup : Setup) (past : Past) (near : ℕ) (session : SessionS
   pub id : session.joined.near ≡ near
   pub own : session.own ≡ own_of setup
   pub secret : session.secret ≡ setup.secret
+  pub generation : session.generation ≡ 0
   pub stage : StageFits session.role session.stage
   pub closed : is_held session.stage ≡ false → IsClosed past near session
 
@@ -51,7 +60,12 @@ pub record IsGiven (setup : Setup) (s : State) : Type 0 where
   pub max_peers : s.startup.ledger.max_peers ≡ setup.config.max_peers
 
 abbrev pub WasStarted : Past → ℕ → AttemptState → Type 0
-WasStarted past near a = WasDone (stamped a.start (FactEntry (Started a.peer a.n near a.ni))) past
+WasStarted past near a = WasStartedAs past a.start near a.ni a.aim
+
+-- what was started stays so where all that was done stays so
+pub started_still : (past now : Past) (start near : ℕ) (ni : List ℕ) (aim : Aim) → ((x : Stamped) → WasDone x past → WasDone x now) →
+    WasStartedAs past start near ni aim → WasStartedAs now start near ni aim
+started_still past now start near ni (AtPeer peer n) done was = done _ was
 
 -- What closes by what was done is closing under its session ID.
 abbrev pub ClosesAt : Past → ℕ → Option Row → Type 0
@@ -120,8 +134,12 @@ held_row_is row e = ap (λ (b : Bool). of_peer row.session.joined.peer (if b the
 pub closing_row_is : (row : Row) → is_held row.session.stage ≡ false → found_in (Some row) ≡ None
 closing_row_is row e = ap (λ (b : Bool). of_peer row.session.joined.peer (if b then Some (thing_of row.session.role row.session.stage row.session.joined) else None)) e
 
-pub found_of_attempt : (s : State) (near : ℕ) (a : AttemptState) → get s.startup.attempts near ≡ Some a → thing_at s near ≡ Some (a.peer, OpeningHeld a.n near a.ni)
+pub found_of_attempt : (s : State) (near : ℕ) (a : AttemptState) → get s.startup.attempts near ≡ Some a → thing_at s near ≡ found_as near a.ni a.aim
 found_of_attempt s near a e = ap (λ (o : Option AttemptState). combined near o (get s.sessions near)) e
+
+-- where it is towards a peer
+pub found_of_peer : (s : State) (near : ℕ) (a : AttemptState) (peer : List ℕ) (n : ℕ) → get s.startup.attempts near ≡ Some a → a.aim ≡ AtPeer peer n → thing_at s near ≡ Some (peer, OpeningHeld n near a.ni)
+found_of_peer s near a peer n e aims = found_of_attempt s near a e ∙ ap (found_as near a.ni) aims
 
 pub found_at : (s : State) (near : ℕ) (row : Row) → get s.startup.attempts near ≡ None → get s.sessions near ≡ Some row → thing_at s near ≡ found_in (Some row)
 found_at s near row none e = ap (λ (o : Option AttemptState). combined near o (get s.sessions near)) none ∙ ap found_in e
@@ -142,11 +160,14 @@ no_attempt s near row apart e = go (get s.startup.attempts near) refl
 -- what is found is an attempt or a session
 peer_of_found : (near : ℕ) (oa : Option AttemptState) (os : Option Row) (peer : List ℕ) (h : Held) → combined near oa os ≡ Some (peer, h) →
     (((n m : ℕ) (ni : List ℕ) → h ≡ OpeningHeld n m ni → peer_of_attempt oa ≡ Some peer) × (IsSession h → found_in os ≡ Some (peer, h)))
-peer_of_found near (Some a) os peer h e =
-    let same : (a.peer, OpeningHeld a.n near a.ni) ≡ (peer, h) = cc in
-    let p : a.peer ≡ peer = ap (λ (x : List ℕ × Held). x.0) same in
-    let t : OpeningHeld a.n near a.ni ≡ h = ap (λ (x : List ℕ × Held). x.1) same in
-    ((λ n m ni is. ap (λ (q : List ℕ). Some q) p), (λ is. absurd (not_opening h a.n near a.ni is (sym t))))
+peer_of_found near (Some a) os peer h e = by a.aim e
+  where
+    by : (aim : Aim) → found_as near a.ni aim ≡ Some (peer, h) → (((n m : ℕ) (ni : List ℕ) → h ≡ OpeningHeld n m ni → peer_of_aim aim ≡ Some peer) × (IsSession h → found_in os ≡ Some (peer, h)))
+    by (AtPeer q number) e =
+        let same : (q, OpeningHeld number near a.ni) ≡ (peer, h) = cc in
+        let p : q ≡ peer = ap (λ (x : List ℕ × Held). x.0) same in
+        let t : OpeningHeld number near a.ni ≡ h = ap (λ (x : List ℕ × Held). x.1) same in
+        ((λ n m ni is. ap (λ (x : List ℕ). Some x) p), (λ is. absurd (not_opening h number near a.ni is (sym t))))
 peer_of_found near None os peer h e = (
   (λ n m ni is.
       let found = found_row os peer h e in
@@ -154,6 +175,10 @@ peer_of_found near None os peer h e = (
       absurd (not_opening (thing_of row.session.role row.session.stage row.session.joined) n m ni (is_session row.session.role row.session.stage row.session.joined) (found.2.thing ∙ is))),
   (λ is. e),
 )
+
+-- an attempt that is found is held as what it aims at
+held_of_found : (s : State) → Matches (thing_at s) (held_with s.startup.ledger) → (near : ℕ) (ni : List ℕ) (aim : Aim) → thing_at s near ≡ found_as near ni aim → IsHeldAs s.startup.ledger near ni aim
+held_of_found s matches near ni (AtPeer peer n) found = (matches.found near peer (OpeningHeld n near ni) found).0
 
 pub tied_of : (setup : Setup) (past : Past) (s : State) → Agrees setup past s → StandsFor 0 s.startup.ledger (facts_of past) → Tied setup past s
 tied_of setup past s a account = record {
@@ -166,7 +191,7 @@ tied_of setup past s a account = record {
   account = account;
   sound = record {
     own = a.given.own ∙ ap sha256 (sym a.given.cert);
-    held = λ near b e. (a.matches.found near b.peer (OpeningHeld b.n near b.ni) (found_of_attempt s near b e)).0;
+    held = λ near b e. held_of_found s a.matches near b.ni b.aim (found_of_attempt s near b e);
     there = λ peer n near ni e.
         (peer_of_found near (get s.startup.attempts near) (get s.sessions near) peer (OpeningHeld n near ni) (a.matches.there peer (OpeningHeld n near ni) e)).0 n near ni refl;
   };
@@ -176,6 +201,7 @@ tied_of setup past s a account = record {
         id = ours.id;
         own = ours.own;
         secret = ours.secret;
+        generation = ours.generation;
         stage = ours.stage;
         thing = λ held.
             (a.matches.found near row.session.joined.peer (thing_of row.session.role row.session.stage row.session.joined) (found_of_session s near row (no_attempt s near row (a.apart near) e) e held)).0;
@@ -198,10 +224,12 @@ tied_of setup past s a account = record {
 found_is : (setup : Setup) (past : Past) (s : State) → Tied setup past s → (near : ℕ) (oa : Option AttemptState) (os : Option Row) →
     get s.startup.attempts near ≡ oa → get s.sessions near ≡ os → (p : List ℕ) (h : Held) → combined near oa os ≡ Some (p, h) →
     (held_with s.startup.ledger p ≡ Some h) × (near_of h ≡ near)
-found_is setup past s t near (Some a) os ea es p h e =
-    let same : (a.peer, OpeningHeld a.n near a.ni) ≡ (p, h) = cc in
-    let is : held_with s.startup.ledger a.peer ≡ Some (OpeningHeld a.n near a.ni) = t.sound.held near a ea in
-    (subst (λ (x : List ℕ × Held). (held_with s.startup.ledger x.0 ≡ Some x.1) × (near_of x.1 ≡ near)) same (is, refl))
+found_is setup past s t near (Some a) os ea es p h e = by a.aim (t.sound.held near a ea) e
+  where
+    by : (aim : Aim) → IsHeldAs s.startup.ledger near a.ni aim → found_as near a.ni aim ≡ Some (p, h) → (held_with s.startup.ledger p ≡ Some h) × (near_of h ≡ near)
+    by (AtPeer q n) is e =
+        let same : (q, OpeningHeld n near a.ni) ≡ (p, h) = cc in
+        (subst (λ (x : List ℕ × Held). (held_with s.startup.ledger x.0 ≡ Some x.1) × (near_of x.1 ≡ near)) same (is, refl))
 found_is setup past s t near None os ea es p h e =
     let found = found_row os p h e in
     let row : Row = found.0 in
@@ -214,12 +242,16 @@ attempt_there : (setup : Setup) (past : Past) (s : State) → Tied setup past s 
     thing_at s near ≡ Some (peer, OpeningHeld n near ni)
 attempt_there setup past s t peer n near ni e = go (get s.startup.attempts near) refl (t.sound.there peer n near ni e)
   where
+    by_aim : (a : AttemptState) (aim : Aim) → a.aim ≡ aim → get s.startup.attempts near ≡ Some a → peer_of_aim aim ≡ Some peer → thing_at s near ≡ Some (peer, OpeningHeld n near ni)
+    by_aim a (AtPeer q m) aims is at =
+        let p : q ≡ peer = cc in
+        let held_is : held_with s.startup.ledger q ≡ Some (OpeningHeld m near a.ni) = subst (λ (aim : Aim). IsHeldAs s.startup.ledger near a.ni aim) aims (t.sound.held near a is) in
+        let both : Some (OpeningHeld m near a.ni) ≡ Some (OpeningHeld n near ni) = sym held_is ∙ ap (held_with s.startup.ledger) p ∙ e in
+        found_of_peer s near a q m is aims ∙ ap (λ (x : List ℕ). Some (x, OpeningHeld m near a.ni)) p ∙ ap (of_peer peer) both
+
     go : (o : Option AttemptState) → get s.startup.attempts near ≡ o → peer_of_attempt o ≡ Some peer → thing_at s near ≡ Some (peer, OpeningHeld n near ni)
     go None is at = absurd (cc)
-    go (Some a) is at =
-        let p : a.peer ≡ peer = cc in
-        let both : Some (OpeningHeld a.n near a.ni) ≡ Some (OpeningHeld n near ni) = sym (t.sound.held near a is) ∙ ap (held_with s.startup.ledger) p ∙ e in
-        found_of_attempt s near a is ∙ ap (λ (q : List ℕ). Some (q, OpeningHeld a.n near a.ni)) p ∙ ap (of_peer peer) both
+    go (Some a) is at = by_aim a a.aim refl is at
 
 session_there : (setup : Setup) (past : Past) (s : State) → Tied setup past s → (peer : List ℕ) (thing : Held) → held_with s.startup.ledger peer ≡ Some thing → IsSession thing →
     thing_at s (near_of thing) ≡ Some (peer, thing)
@@ -242,7 +274,7 @@ agrees_of setup past s t = record {
     found = λ near p h e. found_is setup past s t near (get s.startup.attempts near) (get s.sessions near) refl refl p h e;
     there = held_there setup past s t;
   };
-  ours = λ near row e. let is = t.sessions near row e in record { id = is.id; own = is.own; secret = is.secret; stage = is.stage; closed = is.closed };
+  ours = λ near row e. let is = t.sessions near row e in record { id = is.id; own = is.own; secret = is.secret; generation = is.generation; stage = is.stage; closed = is.closed };
   closing = t.closing;
   apart = t.apart;
   started = t.started;
@@ -330,7 +362,7 @@ agrees_changed setup past now s t near oa os a given at matches fits more closes
     | inl is ↦ subst (λ (k : ℕ). IsOurs setup now k row.session) (sym is.0) (fits_session setup now near oa os row fits (sym at.session ∙ ap (get t.sessions) (sym is.0) ∙ e))
     | inr is ↦
         let before = a.ours q row (sym (at.sessions q is.0) ∙ e) in
-        record { id = before.id; own = before.own; secret = before.secret; stage = before.stage; closed = λ c. closed_on past now near q row.session more is.0 (before.closed c) }
+        record { id = before.id; own = before.own; secret = before.secret; generation = before.generation; stage = before.stage; closed = λ c. closed_on past now near q row.session more is.0 (before.closed c) }
   ];
   closing = λ q thing m c. elim (same_or_not q near) [
     | inl is ↦
@@ -344,7 +376,7 @@ agrees_changed setup past now s t near oa os a given at matches fits more closes
   started = λ q b e. elim (same_or_not q near) [
     | inl is ↦
         subst (λ (k : ℕ). WasStarted now k b) (sym is.0) (fits_attempt setup now near oa os b fits (sym at.attempt ∙ ap (get t.startup.attempts) (sym is.0) ∙ e)).1
-    | inr is ↦ more.done _ (a.started q b (sym (at.attempts q is.0) ∙ e))
+    | inr is ↦ started_still past now b.start q b.ni b.aim more.done (a.started q b (sym (at.attempts q is.0) ∙ e))
   ];
   ids = ids;
   by_now = by_now;

@@ -55,9 +55,9 @@ scrambled_small keys sid number plain small =
     xor_of_32 (bit_xor sid (first_word part)) (second_word part) (xor_of_32 sid (first_word part) small first) second
 
 pub opens_again : (secret : List ℕ) (sid : ℕ) (number plain : List ℕ) → sid < 2 ^ 32 → length number ≡ 16 →
-    OpensUnder secret Startup sid (datagram sid (sealed_in secret Startup sid number plain)) plain
+    OpensUnder secret (Startup 0) sid (datagram sid (sealed_in secret (Startup 0) sid number plain)) plain
 opens_again secret sid number plain small size =
-    let keys : Keys = keys_of secret Startup in
+    let keys : Keys = keys_of secret (Startup 0) in
     let part : List ℕ = sealed keys sid number plain in
     let carries = sealed_carries keys sid number plain size in
     let id : sid_of (datagram sid part) ≡ sid =
@@ -67,7 +67,7 @@ opens_again secret sid number plain small size =
 -- ---- the keying of a session
 
 pub keying_answers : (setup : Setup) (j : Joined) (number : List ℕ) → j.far < 2 ^ 32 → j.near < 2 ^ 32 → length j.ni ≤ 16 → length j.nr ≤ 16 → length number ≡ 16 → j.k < 2 ^ 64 →
-    AnswersAttempt setup.secret (at_initiator (own_of setup) j) (datagram j.far (sealed_in setup.secret Startup j.far number (rikeying_packet setup.secret j.near j.nr j.k (own_of setup) j.ni)))
+    AnswersAttempt setup.secret (at_initiator (own_of setup) j) (datagram j.far (sealed_in setup.secret (Startup 0) j.far number (rikeying_packet setup.secret j.near j.nr j.k (own_of setup) j.ni)))
 unfolding rikeying_signed
 keying_answers setup j number far near ni nr size few =
     let own : List ℕ = own_of setup in

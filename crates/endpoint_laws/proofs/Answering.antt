@@ -17,8 +17,11 @@ use Rattle.glare_core.specs.Calls.{opened_fact}
 use Rattle.glare_core.specs.Account.{Gave}
 use Rattle.glare_core.proofs.Giving.{gave_opened}
 use Rattle.startup.specs.Packets.{is_signed}
+use Rattle.startup.specs.declared.aim.Aim.{Aim}
+use Rattle.startup.specs.declared.aim.Aim.TheVariants.{AtPeer}
+use Rattle.startup.specs.Aims.{IsHeldAs}
 use Rattle.startup.specs.State.{AttemptState}
-use Rattle.startup.specs.Keyings.{ResponderKeying, responder_keying_in, opened_reading, opened, after_opening}
+use Rattle.startup.specs.Keyings.{ResponderKeying, responder_keying_in, opened_as, opened_reading, opened, after_opening}
 use Rattle.session_core.specs.declared.stage.Role.TheVariants.{Initiator}
 use Rattle.session_core.specs.Session.{new_session}
 use Rattle.rtmfp_chunks.specs.Writing.{chunk_bytes}
@@ -35,7 +38,7 @@ use Rattle.endpoint_model.specs.Effects.{opening_done, responder_keyed}
 use Rattle.endpoint_laws.proofs.Matching.{of_peer, ids_same}
 use Rattle.endpoint_model.proofs.Members.{tested}
 use Rattle.endpoint_laws.proofs.Tied.{Tied}
-use Rattle.endpoint_laws.proofs.Agrees.{IsAt, found_of_attempt, used_here, used_elsewhere, agrees_changed, agrees_of, tied_of}
+use Rattle.endpoint_laws.proofs.Agrees.{IsAt, found_of_peer, used_here, used_elsewhere, agrees_changed, agrees_of, tied_of}
 use Rattle.endpoint_laws.proofs.Moving.{beside_fact, still_none, noted_matches, rows_after_known, knows_held}
 use Rattle.endpoint_laws.proofs.Facts.{stands_of}
 use Rattle.endpoint_laws.proofs.Made.{in_session_made}
@@ -49,10 +52,13 @@ use Rattle.endpoint_laws.proofs.Admitting.{IsRead}
 pub record OpensAttempt (s : State) (near : ℕ) (payload : List ℕ) : Type 0 where
   pub a : AttemptState
   pub there : get s.startup.attempts near ≡ Some a
+  pub peer : List ℕ
+  pub n : ℕ
+  pub aims : a.aim ≡ AtPeer peer n
   pub keying : ResponderKeying
   pub reads : responder_keying_in payload ≡ Ok keying
   pub signed : is_signed s.startup.secret payload keying.sign ≡ true
-  pub responder : keying.part.responder ≡ a.peer
+  pub responder : keying.part.responder ≡ peer
   pub ni : keying.part.ni ≡ a.ni
 
 first_or : (a b : Bool) → a ≡ true → (a || b) ≡ true
@@ -67,7 +73,7 @@ module _ (setup : Setup) (from : AddressParts) (datagram : List ℕ) (draws : Dr
   a = opens.a
 
   abbrev j : Joined
-  j = record { peer = a.peer; n = a.n; near = near; far = opens.keying.near; ni = a.ni; nr = opens.keying.part.nr; k = opens.keying.part.k }
+  j = record { peer = opens.peer; n = opens.n; near = near; far = opens.keying.near; ni = a.ni; nr = opens.keying.part.nr; k = opens.keying.part.k }
 
   abbrev new : Row
   new = new_row (new_session j s.startup.ledger.own Initiator from s.startup.secret s.moment)
@@ -78,17 +84,17 @@ module _ (setup : Setup) (from : AddressParts) (datagram : List ℕ) (draws : Dr
   abbrev now : Past
   now = stamped s.moment (FactEntry (Opened j)) ∷ past
 
-  held_is : held_with s.startup.ledger a.peer ≡ Some (Opening a.n near a.ni)
-  held_is = tied.sound.held near a opens.there
+  held_is : held_with s.startup.ledger opens.peer ≡ Some (Opening opens.n near a.ni)
+  held_is = subst (λ (aim : Aim). IsHeldAs s.startup.ledger near opens.a.ni aim) opens.aims (tied.sound.held near a opens.there)
 
   abbrev gave : Option Held → Type 0
-  gave o = Gave s.startup.ledger (option_to_list (opened_fact o a.peer j.nr j.far j.k)) (noted_if s.startup.ledger (opened_fact o a.peer j.nr j.far j.k))
+  gave o = Gave s.startup.ledger (option_to_list (opened_fact o opens.peer j.nr j.far j.k)) (noted_if s.startup.ledger (opened_fact o opens.peer j.nr j.far j.k))
 
   opened_tied : Tied setup now t
   opened_tied =
       let g = agrees_of setup past s tied in
       let no_session : get s.sessions near ≡ None = tied.apart near a opens.there in
-      let was = found_of_attempt s near a opens.there in
+      let was = found_of_peer s near a opens.peer opens.n opens.there opens.aims in
       let at : IsAt near None (Some new) s t = record {
         attempt = get_removed s.startup.attempts near;
         session = get_inserted s.sessions near new;
@@ -104,17 +110,17 @@ module _ (setup : Setup) (from : AddressParts) (datagram : List ℕ) (draws : Dr
       tied_of setup now t
       (agrees_changed setup past now s t near None (Some new) g
       (record { config = g.given.config; cert = g.given.cert; secret = g.given.secret; cookie_secret = g.given.cookie_secret; own = g.given.own; max_peers = g.given.max_peers }) at
-      (noted_matches s t (Opened j) near None (Some new) g.matches at refl (was ∙ sym (ap (of_peer a.peer) held_is))
-      (sym (ap (λ o. of_peer a.peer (opened_held j o)) held_is))
+      (noted_matches s t (Opened j) near None (Some new) g.matches at refl (was ∙ sym (ap (of_peer opens.peer) held_is))
+      (sym (ap (λ o. of_peer opens.peer (opened_held j o)) held_is))
       (λ h e. let same : Some (KeptAsInitiator j) ≡ Some h = sym (ap (opened_held j) held_is) ∙ e in let thing : KeptAsInitiator j ≡ h = cc in ap near_of (sym thing)))
-      (record { id = refl; own = tied.own; secret = tied.secret; stage = tt; closed = λ e. absurd (cc) })
-      (beside_fact near s.moment past (Opened j) tt) (still_none setup past s g near a.peer (Opening a.n near a.ni) was s.moment (Opened j) tt (Some new))
+      (record { id = refl; own = tied.own; secret = tied.secret; generation = refl; stage = tt; closed = λ e. absurd (cc) })
+      (beside_fact near s.moment past (Opened j) tt) (still_none setup past s g near opens.peer (Opening opens.n near a.ni) was s.moment (Opened j) tt (Some new))
       (ids_same setup.config.max_sessions (ids_in_use past) s t g.ids all_used
       (moved_one (len (remove s.startup.attempts near)) (len (insert s.sessions near new)) (len s.startup.attempts) (len s.sessions)
       (len_less s.startup.attempts near a opens.there) (some_entry s.startup.attempts near a opens.there) (len_new s.sessions near new no_session)))
       (omega arith, g.by_now)
-      (rows_after_known s.startup.ledger (Opened j) setup.config.max_peers (knows_held s.startup.ledger a.peer (Opening a.n near a.ni) held_is) tied.rows))
-      ((subst gave held_is (gave_opened s.startup.ledger a.peer j.nr j.far j.k)) 0 (facts_of past) tied.account)
+      (rows_after_known s.startup.ledger (Opened j) setup.config.max_peers (knows_held s.startup.ledger opens.peer (Opening opens.n near a.ni) held_is) tied.rows))
+      ((subst gave held_is (gave_opened s.startup.ledger opens.peer j.nr j.far j.k)) 0 (facts_of past) tied.account)
 
   answers : IsRead setup.secret near datagram packet → IsAmong c (chunks_of packet) → c.kind ≡ 0x78 → AnswersAttempt setup.secret j datagram
   answers read among kind =
@@ -136,7 +142,7 @@ module _ (setup : Setup) (from : AddressParts) (datagram : List ℕ) (draws : Dr
       }
 
   told : opened s.startup near c.payload ≡ Some (Opened j)
-  told = ap (λ (o : Option AttemptState). opened_reading near o (responder_keying_in c.payload)) opens.there ∙ ap (opened_reading near (Some a)) opens.reads
+  told = ap (λ (o : Option AttemptState). opened_reading near o (responder_keying_in c.payload)) opens.there ∙ ap (opened_reading near (Some a)) opens.reads ∙ ap (opened_as near opens.keying opens.a.ni) opens.aims
 
   pub goes_responder : IsRead setup.secret near datagram packet → IsAmong c (chunks_of packet) → c.kind ≡ 0x78 → Goes setup (Receive from datagram draws) past s (responder_keyed s near from c.payload)
   goes_responder read among kind =

@@ -28,9 +28,10 @@ use Rattle.glare_core.specs.declared.answers.HearRefusal.TheVariants.{Stale, Gla
 use Rattle.glare_core.specs.Standing.{held}
 use Rattle.glare_core.specs.Things.{IsAttempt}
 use Rattle.glare_core.specs.Ledger.{Ledger, held_with, floor_of, row_count}
-use Rattle.glare_core.specs.Calls.{where_true, first_that_stands, is_born_of, again_of, glare_of, peers_full, birth_refusal, hear_refusal}
+use Rattle.rtmfp_base.specs.Reasons.{where_true, first_that_stands}
+use Rattle.glare_core.specs.Calls.{is_born_of, again_of, glare_of, peers_full, birth_refusal, hear_refusal}
 use Rattle.glare_core.proofs.Accounts.{reads_held, reads_floor, reads_knows, reads_rows}
-use Rattle.startup.specs.declared.cause.Cause.TheVariants.{WrongResponder, OwnCertificate}
+use Rattle.rtmfp_base.specs.declared.cause.Cause.TheVariants.{WrongResponder, OwnCertificate}
 use Rattle.startup.specs.Packets.{is_signed}
 use Rattle.startup.specs.Keyings.{InitiatorKeying, initiator_keying_in, keying_of, is_own, heard_cause, named_cause, cookie_cause, repeated_session}
 use Rattle.endpoint_model.specs.Event.{Setup, own_of}

@@ -12,6 +12,8 @@ use Rattle.glare_core.specs.declared.facts.Held.{Held}
 use Rattle.glare_core.specs.declared.facts.Held.TheVariants.{Opening, HalfOpen, KeptAsResponder, KeptAsInitiator}
 use Rattle.glare_core.specs.Things.{IsSession, near_of}
 use Rattle.glare_core.specs.Ledger.{held_with, row_count, noted}
+use Rattle.startup.specs.declared.aim.Aim.{Aim}
+use Rattle.startup.specs.declared.aim.Aim.TheVariants.{AtPeer}
 use Rattle.startup.specs.State.{AttemptState, Attempts}
 use Rattle.endpoint_model.specs.declared.row.Row.{Row}
 use Rattle.endpoint_model.specs.declared.entry.Entry.TheVariants.{Fact as FactEntry}
@@ -20,7 +22,7 @@ use Rattle.endpoint_laws.specs.Past.{Past, stamped, is_close, ids_in_use}
 use Rattle.endpoint_model.specs.State.{State, uses, is_used}
 use Rattle.endpoint_laws.proofs.Matching.{of_peer, ids_more, ids_less}
 use Rattle.endpoint_laws.proofs.Tied.{by_later, found_in}
-use Rattle.endpoint_laws.proofs.Agrees.{Agrees, IsGiven, IsOurs, IsAt, combined, thing_at, is_session, found_row, no_attempt, used_here, used_elsewhere, agrees_changed}
+use Rattle.endpoint_laws.proofs.Agrees.{found_as, Agrees, IsGiven, IsOurs, IsAt, combined, thing_at, is_session, found_row, no_attempt, used_here, used_elsewhere, agrees_changed}
 use Rattle.endpoint_laws.proofs.Moving.{beside_fact, still_none, none_there_still, noted_matches, rows_after_known, knows_held}
 use Rattle.endpoint_laws.proofs.Ending.{some_entry, ids_gone}
 use Rattle.endpoint_laws.proofs.Starting.{IsNew}
@@ -120,11 +122,14 @@ session_found : (setup : Setup) (past : Past) (s : State) (peer : List ℕ) (thi
     (row : Row) × (get s.sessions (near_of thing) ≡ Some row)
 session_found setup past s peer thing g is sess = go (get s.startup.attempts (near_of thing)) (get s.sessions (near_of thing)) (g.matches.there peer thing is)
   where
+    by_aim : (ni : List ℕ) (aim : Aim) → found_as (near_of thing) ni aim ≡ Some (peer, thing) → ⊥
+    by_aim ni (AtPeer q n) e =
+        let same : (q, Opening n (near_of thing) ni) ≡ (peer, thing) = cc in
+        let is : Opening n (near_of thing) ni ≡ thing = ap (λ (x : List ℕ × Held). x.1) same in
+        subst IsSession (sym is) sess
+
     go : (oa : Option AttemptState) (os : Option Row) → combined (near_of thing) oa os ≡ Some (peer, thing) → (row : Row) × (os ≡ Some row)
-    go (Some a) os e =
-        let same : (a.peer, Opening a.n (near_of thing) a.ni) ≡ (peer, thing) = cc in
-        let is : Opening a.n (near_of thing) a.ni ≡ thing = ap (λ (x : List ℕ × Held). x.1) same in
-        absurd (subst IsSession (sym is) sess)
+    go (Some a) os e = absurd (by_aim a.ni a.aim e)
     go None os e = let found = found_row os peer thing e in (found.0, found.1)
 
 without_attempt_is : (setup : Setup) (past : Past) (s : State) (fact : Fact) (peer : List ℕ) (n near : ℕ) (ni : List ℕ) → Agrees setup past s → held_with s.startup.ledger peer ≡ Some (Opening n near ni) → IsWithout s fact (Opening n near ni)

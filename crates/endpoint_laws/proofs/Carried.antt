@@ -82,12 +82,12 @@ answer_same : (i i' : ℕ) (p p' : List ℕ) (r r' : ℕ) (nr nr' : List ℕ) (k
     Answer i p r nr k ni no_generation ≡ Answer i' p' r' nr' k' ni' no_generation
 answer_same i i' p p' r r' nr nr' k k' ni ni' a b c d e f = λ x. Answer (a x) (b x) (c x) (d x) (e x) (f x) no_generation
 
-module _ (secret sent : List ℕ) (steps : List Step) (there : Carried secret sent Startup steps) (sid : ℕ) (plain : List ℕ) (opens : OpensUnder secret Startup sid sent plain) (packet : Whole) (reads : PacketReading plain (Ok packet)) where
+module _ (secret sent : List ℕ) (steps : List Step) (there : Carried secret sent (Startup 0) steps) (sid : ℕ) (plain : List ℕ) (opens : OpensUnder secret (Startup 0) sid sent plain) (packet : Whole) (reads : PacketReading plain (Ok packet)) where
   reads_there : PacketReading there.line.plain (Ok packet)
   reads_there =
-      let made : sent ≡ datagram there.line.sid (sealed_in secret Startup there.line.sid there.line.number there.line.plain) =
-      there.line.is ∙ ap (λ (s : List ℕ). datagram there.line.sid (sealed_in s Startup there.line.sid there.line.number there.line.plain)) there.group in
-      subst (λ (b : List ℕ). PacketReading b (Ok packet)) (plain_is secret Startup there.line.sid sid there.line.number there.line.plain plain sent there.line.numbered made opens) reads
+      let made : sent ≡ datagram there.line.sid (sealed_in secret (Startup 0) there.line.sid there.line.number there.line.plain) =
+      there.line.is ∙ ap (λ (s : List ℕ). datagram there.line.sid (sealed_in s (Startup 0) there.line.sid there.line.number there.line.plain)) there.group in
+      subst (λ (b : List ℕ). PacketReading b (Ok packet)) (plain_is secret (Startup 0) there.line.sid sid there.line.number there.line.plain plain sent there.line.numbered made opens) reads
 
   pub keying_carried : (c : Placed) (near : ℕ) (cookie cert ni : List ℕ) (n : ℕ) (own sign : List ℕ) → IsAmong c (chunks_of packet) → Spells (IIKeying near cookie cert (initiator_part ni n own) sign) c.kind c.payload →
       length ni ≡ 16 → n < 2 ^ 64 → WasSent (Keying (sha256 cert) own n ni near no_generation) steps
@@ -103,7 +103,7 @@ module _ (secret sent : List ℕ) (steps : List Step) (there : Carried secret se
   born_carried : (j : Joined) (near : ℕ) (nr : List ℕ) (k : ℕ) (peer ni : List ℕ) → WasSent (Answer j.far (own_of there.setup) j.near j.nr j.k j.ni no_generation) steps → BornSizes j → AreBytes sent → there.line.sid ≡ j.far → near ≡ j.near →
       length peer ≡ 32 → length ni ≡ 16 → k < 2 ^ 64 → responder_part nr k peer ni ≡ responder_part j.nr j.k (own_of there.setup) j.ni → WasSent (Answer sid peer near nr k ni no_generation) steps
   born_carried j near nr k peer ni told sizes all sid_is near_is peer_size ni_size fits values =
-      let part : List ℕ = sealed_in there.setup.secret Startup there.line.sid there.line.number there.line.plain in
+      let part : List ℕ = sealed_in there.setup.secret (Startup 0) there.line.sid there.line.number there.line.plain in
       let small : there.line.sid < 2 ^ 32 = subst (λ (x : ℕ). x < 2 ^ 32) (sym sid_is) sizes.far in
       let id : sid ≡ j.far = sym opens.id ∙ id_is there.line.sid part sent small all there.line.is ∙ sid_is in
       let same = one_responder_part nr j.nr k j.k peer (own_of there.setup) ni j.ni sizes.nr fits sizes.k peer_size (length-sha256 there.setup.cert) ni_size sizes.ni values in
@@ -123,12 +123,12 @@ module _ (secret sent : List ℕ) (steps : List Step) (there : Carried secret se
 -- ---- a session
 
 values_of : Values → Context → Values
-values_of other Startup = other
-values_of other (Session ni nr fp_i fp_r sid_i sid_r to_responder) = record { ni = ni; nr = nr; initiator = fp_i; responder = fp_r; near_i = sid_i; near_r = sid_r }
+values_of other (Startup generation) = other
+values_of other (Session generation ni nr fp_i fp_r sid_i sid_r to_responder) = record { ni = ni; nr = nr; initiator = fp_i; responder = fp_r; near_i = sid_i; near_r = sid_r }
 
 direction_of : Context → Bool
-direction_of Startup = false
-direction_of (Session ni nr fp_i fp_r sid_i sid_r to_responder) = to_responder
+direction_of (Startup generation) = false
+direction_of (Session generation ni nr fp_i fp_r sid_i sid_r to_responder) = to_responder
 
 other_way : false ≡ true → ⊥
 other_way e = absurd (cc)

@@ -8,13 +8,16 @@ use Rattle.rtmfp_packet.specs.Walk.{Placed}
 use Rattle.rtmfp_packet.specs.Whole.{Whole}
 use Rattle.rtmfp_chunks.specs.FieldReading.{chunk_reading}
 use Rattle.rtmfp_data_chunks.specs.Reader.{data_reading}
-use Rattle.startup.specs.declared.cause.Cause.{Cause}
-use Rattle.startup.specs.declared.cause.Cause.TheVariants.{NoAttempt, SecondKeying, WrongState, WrongPeer, BadSignature, Wide}
+use Rattle.rtmfp_base.specs.declared.cause.Cause.{Cause}
+use Rattle.rtmfp_base.specs.declared.cause.Cause.TheVariants.{NoAttempt, SecondKeying, WrongState, WrongPeer, BadSignature, Wide}
+use Rattle.startup.specs.declared.aim.Aim.{Aim}
+use Rattle.startup.specs.declared.aim.Aim.TheVariants.{AtPeer}
+use Rattle.startup.specs.Aims.{is_towards}
 use Rattle.startup.specs.State.{AttemptState}
 use Rattle.startup.specs.Packets.{is_signed}
 use Rattle.startup.specs.Keyings.{InitiatorKeying, ResponderKeying, initiator_keying_in, responder_keying_in, fault_in, cause_by, named_cause, cookie_cause, initiator_cause, iikeying_cause, is_in_hello, attempt_cause, responder_cause, rikeying_cause}
 use Rattle.cookies.specs.Cookie.{cookie_test}
-use Rattle.glare_core.specs.Calls.{where_true}
+use Rattle.rtmfp_base.specs.Reasons.{where_true, first_that_stands}
 use Rattle.endpoint_model.specs.declared.walk.Walk.{Walk}
 use Rattle.endpoint_model.specs.declared.config.Draws.{Draws}
 use Rattle.endpoint_model.specs.declared.place.Place.{Place}
@@ -76,21 +79,31 @@ heard_of s from payload keying reads e =
 opens_of : (s : State) (near : ℕ) (payload : List ℕ) (keying : ResponderKeying) → responder_keying_in payload ≡ Ok keying → (o : Option AttemptState) → get s.startup.attempts near ≡ o →
     is_signed s.startup.secret payload keying.sign ≡ true → attempt_cause keying o ≡ None → OpensAttempt s near payload
 opens_of s near payload keying reads None is signed e = absurd (cc)
-opens_of s near payload keying reads (Some a) is signed e =
-    let all = all_none (
-    where_true (is_in_hello a.stage) WrongState
-    ∷ where_true (not (bytes_eq keying.part.responder a.peer)) WrongPeer
-    ∷ where_true (not (bytes_eq keying.part.ni a.ni)) NoAttempt
-    ∷ []) e in
-    record {
-      a = a;
-      there = is;
-      keying = keying;
-      reads = reads;
-      signed = signed;
-      responder = same_bytes keying.part.responder a.peer (test_fails (not (bytes_eq keying.part.responder a.peer)) WrongPeer all.1.0);
-      ni = same_bytes keying.part.ni a.ni (test_fails (not (bytes_eq keying.part.ni a.ni)) NoAttempt all.1.1.0);
-    }
+opens_of s near payload keying reads (Some a) is signed e = by a.aim refl e
+  where
+    by : (aim : Aim) → a.aim ≡ aim → first_that_stands (
+        where_true (is_in_hello a.stage) WrongState
+        ∷ where_true (not (is_towards keying.part.responder aim)) WrongPeer
+        ∷ where_true (not (bytes_eq keying.part.ni a.ni)) NoAttempt
+        ∷ []) ≡ None → OpensAttempt s near payload
+    by (AtPeer peer n) aims none =
+        let all = all_none (
+        where_true (is_in_hello a.stage) WrongState
+        ∷ where_true (not (bytes_eq keying.part.responder peer)) WrongPeer
+        ∷ where_true (not (bytes_eq keying.part.ni a.ni)) NoAttempt
+        ∷ []) none in
+        record {
+          a = a;
+          there = is;
+          peer = peer;
+          n = n;
+          aims = aims;
+          keying = keying;
+          reads = reads;
+          signed = signed;
+          responder = same_bytes keying.part.responder peer (test_fails (not (bytes_eq keying.part.responder peer)) WrongPeer all.1.0);
+          ni = same_bytes keying.part.ni a.ni (test_fails (not (bytes_eq keying.part.ni a.ni)) NoAttempt all.1.1.0);
+        }
 
 pub opening_of : (s : State) (near : ℕ) (payload : List ℕ) (keying : ResponderKeying) → responder_keying_in payload ≡ Ok keying → responder_keying_cause s near payload ≡ None → OpensAttempt s near payload
 opening_of s near payload keying reads e = by (contains_key s.startup.attempts near) e
@@ -108,15 +121,15 @@ opening_of s near payload keying reads e = by (contains_key s.startup.attempts n
 
 -- ---- chunks that are told in a session
 
-pub not_at_startup : (k : ℕ) → (k ≡ 0x0c) ⊎ ((k ≡ 0x4c) ⊎ (k ≡ 0x41)) → takes Startup k ≡ true → ⊥
-not_at_startup k (inl e) taken = let clash : true ≡ false = sym taken ∙ ap (takes Startup) e in cc
-not_at_startup k (inr (inl e)) taken = let clash : true ≡ false = sym taken ∙ ap (takes Startup) e in cc
-not_at_startup k (inr (inr e)) taken = let clash : true ≡ false = sym taken ∙ ap (takes Startup) e in cc
+pub not_at_startup : (k : ℕ) → (k ≡ 0x0c) ⊎ ((k ≡ 0x4c) ⊎ (k ≡ 0x41)) → takes (Startup 0) k ≡ true → ⊥
+not_at_startup k (inl e) taken = let clash : true ≡ false = sym taken ∙ ap (takes (Startup 0)) e in cc
+not_at_startup k (inr (inl e)) taken = let clash : true ≡ false = sym taken ∙ ap (takes (Startup 0)) e in cc
+not_at_startup k (inr (inr e)) taken = let clash : true ≡ false = sym taken ∙ ap (takes (Startup 0)) e in cc
 
-pub not_at_attempt : (near k : ℕ) → (k ≡ 0x0c) ⊎ ((k ≡ 0x4c) ⊎ (k ≡ 0x41)) → takes (Attempt near) k ≡ true → ⊥
-not_at_attempt near k (inl e) taken = let clash : true ≡ false = sym taken ∙ ap (takes (Attempt near)) e in cc
-not_at_attempt near k (inr (inl e)) taken = let clash : true ≡ false = sym taken ∙ ap (takes (Attempt near)) e in cc
-not_at_attempt near k (inr (inr e)) taken = let clash : true ≡ false = sym taken ∙ ap (takes (Attempt near)) e in cc
+pub not_at_attempt : (near k : ℕ) → (k ≡ 0x0c) ⊎ ((k ≡ 0x4c) ⊎ (k ≡ 0x41)) → takes (Attempt near 0) k ≡ true → ⊥
+not_at_attempt near k (inl e) taken = let clash : true ≡ false = sym taken ∙ ap (takes (Attempt near 0)) e in cc
+not_at_attempt near k (inr (inl e)) taken = let clash : true ≡ false = sym taken ∙ ap (takes (Attempt near 0)) e in cc
+not_at_attempt near k (inr (inr e)) taken = let clash : true ≡ false = sym taken ∙ ap (takes (Attempt near 0)) e in cc
 
 pub either_way : (b : Bool) → (b ≡ true) ⊎ (b ≡ false)
 either_way true = inl refl
@@ -128,25 +141,25 @@ module _ (setup : Setup) (from : AddressParts) (datagram : List ℕ) (draws : Dr
 
   initiator_goes : (s : State) (past : Past) (place : Place) (walk : Walk) (c : Placed) → Tied setup past s → Came setup datagram place packet → IsAmong c (chunks_of packet) → (walk.keyed ≡ false → c.kind ≡ 0x38 → IsFirst c (chunks_of packet)) →
       c.kind ≡ 0x38 → takes place 0x38 ≡ true → initiator_keying_cause s walk from c.payload ≡ None → fault_in (initiator_keying_in c.payload) ≡ None → Goes setup call past s (initiator_keyed s from draws c.payload)
-  initiator_goes s past Startup walk c tied came among first kind taken none formed =
+  initiator_goes s past (Startup generation) walk c tied came among first kind taken none formed =
       let reads = read_ok (initiator_keying_in c.payload) formed in
       let both = keyed_none s walk from c.payload none in
       goes_initiator setup from datagram draws most small past s tied reads.0 packet c came.0 came.1 among (first both.0 kind) kind (heard_of s from c.payload reads.0 reads.1 both.1)
-  initiator_goes s past (Attempt near) walk c tied came among first kind taken none formed = absurd (cc)
+  initiator_goes s past (Attempt near generation) walk c tied came among first kind taken none formed = absurd (cc)
   initiator_goes s past (Session near) walk c tied came among first kind taken none formed = absurd (cc)
 
   responder_goes : (s : State) (past : Past) (place : Place) (c : Placed) → Tied setup past s → Came setup datagram place packet → IsAmong c (chunks_of packet) →
       c.kind ≡ 0x78 → takes place 0x78 ≡ true → responder_keying_cause s (sid_at place) c.payload ≡ None → fault_in (responder_keying_in c.payload) ≡ None → Goes setup call past s (responder_keyed s (sid_at place) from c.payload)
-  responder_goes s past Startup c tied came among kind taken none formed = absurd (cc)
-  responder_goes s past (Attempt near) c tied came among kind taken none formed =
+  responder_goes s past (Startup generation) c tied came among kind taken none formed = absurd (cc)
+  responder_goes s past (Attempt near generation) c tied came among kind taken none formed =
       let reads = read_ok (responder_keying_in c.payload) formed in
       goes_responder setup from datagram draws packet past s tied near c (opening_of s near c.payload reads.0 reads.1 none) came among kind
   responder_goes s past (Session near) c tied came among kind taken none formed = absurd (cc)
 
   told_goes : (s : State) (past : Past) (place : Place) (c : Placed) → Tied setup past s → PassedAt past place datagram packet s → IsAmong c (chunks_of packet) → is_told_in_session c.kind ≡ true →
       takes place c.kind ≡ true → has_state_for s place c.kind ≡ true → Goes setup call past s (told_in_session s (sid_at place) from c)
-  told_goes s past Startup c tied passed among told taken has = absurd (not_at_startup c.kind (told_kinds c.kind told) taken)
-  told_goes s past (Attempt near) c tied passed among told taken has = absurd (not_at_attempt near c.kind (told_kinds c.kind told) taken)
+  told_goes s past (Startup generation) c tied passed among told taken has = absurd (not_at_startup c.kind (told_kinds c.kind told) taken)
+  told_goes s past (Attempt near generation) c tied passed among told taken has = absurd (not_at_attempt near c.kind (told_kinds c.kind told) taken)
   told_goes s past (Session near) c tied passed among told taken has = goes_told setup from datagram draws packet past s tied near passed c among has
 
   pub chunk_goes : (s : State) (past : Past) (place : Place) (walk : Walk) (c : Placed) → Tied setup past s → Came setup datagram place packet → PassedAt past place datagram packet s → IsAmong c (chunks_of packet) → (walk.keyed ≡ false → c.kind ≡ 0x38 → IsFirst c (chunks_of packet)) →

@@ -35,12 +35,12 @@ use Rattle.glare_core.specs.Standing.{count}
 use Rattle.glare_core.specs.Ledger.{Ledger, held_with}
 use Rattle.glare_core.specs.Calls.{way_made, heard, heard_noted}
 use Rattle.glare_core.proofs.Accounts.{reads_started}
-use Rattle.startup.specs.declared.cause.Cause.{Cause}
-use Rattle.startup.specs.declared.cause.Cause.TheVariants.{Short, WrongPlace, SecondKeying}
+use Rattle.rtmfp_base.specs.declared.cause.Cause.{Cause}
+use Rattle.rtmfp_base.specs.declared.cause.Cause.TheVariants.{Short, WrongPlace, SecondKeying}
 use Rattle.startup.specs.declared.answer.Answer.{Answer}
 use Rattle.startup.specs.State.{StartupState}
 use Rattle.startup.specs.Packets.{rikeying_packet}
-use Rattle.startup.specs.Keyings.{InitiatorKeying, keying_of, fault_in, iikeying_cause, responder_keying_in, session_answer, born_session, again_or_birth, keyed_with, keyed_reading, after_again_or_birth, after_keyed_with, after_keyed_reading, opened, opened_reading, after_opening}
+use Rattle.startup.specs.Keyings.{InitiatorKeying, keying_of, fault_in, iikeying_cause, responder_keying_in, session_answer, born_session, again_or_birth, keyed_with, keyed_reading, after_again_or_birth, after_keyed_with, after_keyed_reading, opened, opened_as as opened_by_aim, opened_reading, after_opening}
 use Rattle.session_core.specs.Session.{new_session, head_at}
 use Rattle.session_core.specs.Sealed.{number_bytes}
 use Rattle.glare_core.specs.Tells.{as_initiator}
@@ -138,21 +138,21 @@ none_unseen (x ∷ xs) are =
 
 module _ (from : AddressParts) (draws : Draws) where
   -- another chunk at the place of startup states nothing, and ends no closing
-  none_other : (s : State) (walk : Walk) (c : Placed) → c.kind ≢ 0x38 → StatesNone (chunk_did Startup from draws walk s c).entries
-  none_other s walk c other = chunk_by_kind (λ d. StatesNone d.entries) Startup from draws walk s c (record {
+  none_other : (s : State) (walk : Walk) (c : Placed) → c.kind ≢ 0x38 → StatesNone (chunk_did (Startup 0) from draws walk s c).entries
+  none_other s walk c other = chunk_by_kind (λ d. StatesNone d.entries) (Startup 0) from draws walk s c (record {
     discarded = λ cause. (tt, (refl, tt));
     initiator = λ kind taken none formed. absurd (other kind);
     responder = λ kind taken none formed. absurd (cc);
     told = λ told taken has. absurd (not_at_startup c.kind (told_kinds c.kind told) taken);
     flows = λ is taken none. (let read = data_reading walk.cursor c.kind c.payload in none_unseen (flow_taken s 0 read).entries (taken_unseen s 0 read));
-    reads = λ none. (let read = chunk_reading c.kind c.payload in read_by none_sends s Startup from read (tt, tt) (carries_any Any (λ body. tt) (read_reply s Startup from read)));
+    reads = λ none. (let read = chunk_reading c.kind c.payload in read_by none_sends s (Startup 0) from read (tt, tt) (carries_any Any (λ body. tt) (read_reply s (Startup 0) from read)));
   })
 
-  none_front : (front : List Placed) → AreOthers front → (walk : Walk) (s : State) → StatesNone (chunks_did Startup from draws walk s front).entries
+  none_front : (front : List Placed) → AreOthers front → (walk : Walk) (s : State) → StatesNone (chunks_did (Startup 0) from draws walk s front).entries
   none_front [] others walk s = (tt, tt)
   none_front (c ∷ front) others walk s =
-      let d : Did = chunk_did Startup from draws walk s c in
-      none_sends.steps.and_then s d (chunks_did Startup from draws (walked walk c) d.state front) (none_other s walk c others.0) (none_front front others.1 (walked walk c) d.state)
+      let d : Did = chunk_did (Startup 0) from draws walk s c in
+      none_sends.steps.and_then s d (chunks_did (Startup 0) from draws (walked walk c) d.state front) (none_other s walk c others.0) (none_front front others.1 (walked walk c) d.state)
 
 -- chunks one after another add what each of them adds
 gone_in_two : (place : Place) (from : AddressParts) (draws : Draws) (walk : Walk) (front : List Placed) (c : Placed) (back : List Placed) (s : State) →
@@ -213,12 +213,12 @@ module _ (setup : Setup) (past : Past) (u : State) (tied : Tied setup past u) (f
   keyed_so : initiator_keyed u from draws payload ≡ by_repeat None
   keyed_so = ap by_reading b.reads ∙ ap by_test b.current ∙ ap by_repeat b.repeated
 
-  born_entries : (initiator_keyed u from draws payload).entries ≡ fact_entries way ++ FactEntry (Born j) ∷ Out from sent StartupContext ∷ []
+  born_entries : (initiator_keyed u from draws payload).entries ≡ fact_entries way ++ FactEntry (Born j) ∷ Out from sent (StartupContext 0) ∷ []
   born_entries =
       ap (λ (d : Did). d.entries) keyed_so
       ∙ ap (λ (d : Did). (fact_entries way ++ FactEntry (Born j) ∷ []) ++ d.entries)
-      (false_is (u.sealed == last_count) (nothing t) (record { state = record t { sealed = t.sealed + 1 }; entries = Out from sent StartupContext ∷ [] }) some)
-      ∙ append_assoc (fact_entries way) (FactEntry (Born j) ∷ []) (Out from sent StartupContext ∷ [])
+      (false_is (u.sealed == last_count) (nothing t) (record { state = record t { sealed = t.sealed + 1 }; entries = Out from sent (StartupContext 0) ∷ [] }) some)
+      ∙ append_assoc (fact_entries way) (FactEntry (Born j) ∷ []) (Out from sent (StartupContext 0) ∷ [])
 
   abbrev number : List ℕ
   number = startup_number (own_of setup) (u.sealed + 1)
@@ -229,11 +229,11 @@ module _ (setup : Setup) (past : Past) (u : State) (tied : Tied setup past u) (f
   print_is : sha256 u.startup.cert ≡ own_of setup
   print_is = ap sha256 tied.cert
 
-  sent_is : sent ≡ datagram j.far (sealed_in setup.secret StartupContext j.far number (rikeying_packet setup.secret j.near j.nr j.k (own_of setup) j.ni))
+  sent_is : sent ≡ datagram j.far (sealed_in setup.secret (StartupContext 0) j.far number (rikeying_packet setup.secret j.near j.nr j.k (own_of setup) j.ni))
   sent_is =
-      ap (λ (o : List ℕ). datagram j.far (sealed_in u.startup.secret StartupContext j.far (startup_number o (u.sealed + 1)) answer.plain)) own_is
-      ∙ ap (λ (secret : List ℕ). datagram j.far (sealed_in secret StartupContext j.far number (rikeying_packet secret j.near j.nr j.k (sha256 u.startup.cert) j.ni))) tied.secret
-      ∙ ap (λ (o : List ℕ). datagram j.far (sealed_in setup.secret StartupContext j.far number (rikeying_packet setup.secret j.near j.nr j.k o j.ni))) print_is
+      ap (λ (o : List ℕ). datagram j.far (sealed_in u.startup.secret (StartupContext 0) j.far (startup_number o (u.sealed + 1)) answer.plain)) own_is
+      ∙ ap (λ (secret : List ℕ). datagram j.far (sealed_in secret (StartupContext 0) j.far number (rikeying_packet secret j.near j.nr j.k (sha256 u.startup.cert) j.ni))) tied.secret
+      ∙ ap (λ (o : List ℕ). datagram j.far (sealed_in setup.secret (StartupContext 0) j.far number (rikeying_packet setup.secret j.near j.nr j.k o j.ni))) print_is
 
   number_size : length number ≡ 16
   number_size = omega (arith, length-append (take 8 (own_of setup)) (to_be_bytes w64 (u.sealed + 1)), length-take-le 8 (own_of setup) (omega (arith, length-sha256 setup.cert)))
@@ -257,33 +257,33 @@ module _ (setup : Setup) (past : Past) (s : State) (tied : Tied setup past s) (s
   abbrev plain : List ℕ
   plain = a.reads.plain
 
-  opens_so : (open_refusal (keys_of setup.secret StartupContext) 0 part ≡ None) × (plain ≡ plain_of (keys_of setup.secret StartupContext) part)
-  opens_so = let told = (opens_by_its_tag setup.secret StartupContext 0 part plain).0 a.reads.opens.opens in (told.0, told.2)
+  opens_so : (open_refusal (keys_of setup.secret (StartupContext 0)) 0 part ≡ None) × (plain ≡ plain_of (keys_of setup.secret (StartupContext 0)) part)
+  opens_so = let told = (opens_by_its_tag setup.secret (StartupContext 0) 0 part plain).0 a.reads.opens.opens in (told.0, told.2)
 
-  opened_so : opened_datagram s datagram ≡ Ok (Startup, plain)
+  opened_so : opened_datagram s datagram ≡ Ok ((Startup 0), plain)
   opened_so =
       let long : 32 ≤ length part = a.reads.opens.opens.0 in
       let enough : 36 ≤ length datagram = omega (arith, long, length-drop 4 datagram) in
       let short : nat_lt (length datagram) 36 ≡ false = grind (arith, nat_tests, enough) in
-      let here : List ℕ → Result (Place × List ℕ) Cause = λ p. Ok (Startup, p) in
+      let here : List ℕ → Result (Place × List ℕ) Cause = λ p. Ok ((Startup 0), p) in
       ap (λ (b : Bool). if b then Err Short else opened_found s (place_of s (sid_of datagram)) part) short
       ∙ ap (λ (sid : ℕ). opened_found s (place_of s sid) part) a.reads.opens.id
-      ∙ ap (λ (secret : List ℕ). placed Startup (opened_by (keys_of secret StartupContext) part (open_refusal (keys_of secret StartupContext) 0 part))) tied.secret
-      ∙ ap (λ o. placed Startup (opened_by (keys_of setup.secret StartupContext) part o)) opens_so.0
+      ∙ ap (λ (secret : List ℕ). placed (Startup 0) (opened_by (keys_of secret (StartupContext 0)) part (open_refusal (keys_of secret (StartupContext 0)) 0 part))) tied.secret
+      ∙ ap (λ o. placed (Startup 0) (opened_by (keys_of setup.secret (StartupContext 0)) part o)) opens_so.0
       ∙ ap here (sym opens_so.1)
 
   packet_so : packet_in plain ≡ Ok a.packet
   packet_so =
       packet_reading_same plain (packet_in plain) (Ok a.packet)
-      (packet_reads plain (subst IsBytes (sym opens_so.1) (plain_is (keys_of setup.secret StartupContext) part (IsBytes-drop 4 datagram bytes)))) a.reads.reads
+      (packet_reads plain (subst IsBytes (sym opens_so.1) (plain_is (keys_of setup.secret (StartupContext 0)) part (IsBytes-drop 4 datagram bytes)))) a.reads.reads
 
-  admission_so : admission s datagram ≡ Admitted s Startup a.packet
+  admission_so : admission s datagram ≡ Admitted s (Startup 0) a.packet
   admission_so =
-      ap (admitted s datagram) opened_so ∙ ap (admitted_packet s Startup) packet_so
-      ∙ true_is (has_mode a.packet.head FromStartup) (Admitted s Startup a.packet) (Rejected s WrongPlace) (ap (λ (m : Mode). mode_number m == mode_number FromStartup) a.mode)
+      ap (admitted s datagram) opened_so ∙ ap (admitted_packet s (Startup 0)) packet_so
+      ∙ true_is (has_mode a.packet.head FromStartup) (Admitted s (Startup 0) a.packet) (Rejected s WrongPlace) (ap (λ (m : Mode). mode_number m == mode_number FromStartup) a.mode)
 
-  came : Came setup datagram Startup a.packet
-  came = let is : AdmissionIs setup past s datagram (Admitted s Startup a.packet) = subst (AdmissionIs setup past s datagram) admission_so (admission_is setup past s datagram tied sent_so bytes) in is.came
+  came : Came setup datagram (Startup 0) a.packet
+  came = let is : AdmissionIs setup past s datagram (Admitted s (Startup 0) a.packet) = subst (AdmissionIs setup past s datagram) admission_so (admission_is setup past s datagram tied sent_so bytes) in is.came
 
   kind : a.chunk.kind ≡ 0x38
   kind = a.spells.0
@@ -295,13 +295,13 @@ module _ (setup : Setup) (past : Past) (s : State) (tied : Tied setup past s) (s
   in_all = goes ∙ ap (λ (cs : List Placed). cs ++ rest) cut.whole ∙ append_assoc cut.front (a.chunk ∷ cut.back) rest
 
   abbrev first : Did
-  first = chunks_did Startup from draws outset s cut.front
+  first = chunks_did (Startup 0) from draws outset s cut.front
 
   abbrev u : State
   u = first.state
 
   front_orderly : Orderly setup (Receive from datagram draws) past s first
-  front_orderly = chunks_orderly setup is from datagram draws fits a.packet Startup came outset [] cut.front (a.chunk ∷ (cut.back ++ rest)) s past (record { whole = in_all; keyed = λ e c none is. none; small = tt }) tied sent_so well tt
+  front_orderly = chunks_orderly setup is from datagram draws fits a.packet (Startup 0) came outset [] cut.front (a.chunk ∷ (cut.back ++ rest)) s past (record { whole = in_all; keyed = λ e c none is. none; small = tt }) tied sent_so well tt
 
   abbrev after_front : Goes setup (Receive from datagram draws) past s first
   after_front = front_orderly.goes
@@ -334,31 +334,31 @@ module _ (setup : Setup) (past : Past) (s : State) (tied : Tied setup past s) (s
   unkeyed_before : initiator_keying_cause u walk from a.chunk.payload ≡ None
   unkeyed_before = ap (λ (b : Bool). if b then Some SecondKeying else iikeying_cause u.startup a.chunk.payload from u.moment (full u)) (keyed_false cut.front cut.others outset refl) ∙ bearing.cause
 
-  no_cause : chunk_cause u Startup walk from this ≡ None
-  no_cause = none_all (causes u Startup walk from this) (refl, (ap fault_in bearing.reads, (refl, (refl, (unkeyed_before, tt)))))
+  no_cause : chunk_cause u (Startup 0) walk from this ≡ None
+  no_cause = none_all (causes u (Startup 0) walk from this) (refl, (ap fault_in bearing.reads, (refl, (refl, (unkeyed_before, tt)))))
 
-  chunk_so : chunk_did Startup from draws walk u a.chunk ≡ initiator_keyed u from draws a.chunk.payload
-  chunk_so = ap (chunk_did Startup from draws walk u) this_is ∙ ap (λ (o : Option Cause). discarded_or u a.chunk.at o (initiator_keyed u from draws a.chunk.payload)) no_cause
+  chunk_so : chunk_did (Startup 0) from draws walk u a.chunk ≡ initiator_keyed u from draws a.chunk.payload
+  chunk_so = ap (chunk_did (Startup 0) from draws walk u) this_is ∙ ap (λ (o : Option Cause). discarded_or u a.chunk.at o (initiator_keyed u from draws a.chunk.payload)) no_cause
 
   abbrev later : List Entry
-  later = (chunks_did Startup from draws (walked walk a.chunk) (chunk_did Startup from draws walk u a.chunk).state cut.back).entries
+  later = (chunks_did (Startup 0) from draws (walked walk a.chunk) (chunk_did (Startup 0) from draws walk u a.chunk).state cut.back).entries
 
-  in_two : (chunks_did Startup from draws outset s gone).entries ≡ first.entries ++ ((chunk_did Startup from draws walk u a.chunk).entries ++ later)
+  in_two : (chunks_did (Startup 0) from draws outset s gone).entries ≡ first.entries ++ ((chunk_did (Startup 0) from draws walk u a.chunk).entries ++ later)
   in_two =
-      ap (λ (cs : List Placed). (chunks_did Startup from draws outset s cs).entries) cut.whole
-      ∙ gone_in_two Startup from draws outset cut.front a.chunk cut.back s
+      ap (λ (cs : List Placed). (chunks_did (Startup 0) from draws outset s cs).entries) cut.whole
+      ∙ gone_in_two (Startup 0) from draws outset cut.front a.chunk cut.back s
 
-  few_so : u.sealed ≤ s.sealed + outs_in (chunks_did Startup from draws outset s gone).entries
+  few_so : u.sealed ≤ s.sealed + outs_in (chunks_did (Startup 0) from draws outset s gone).entries
   few_so =
-      omega (arith, chunks_made few_law few_begins Startup from draws outset s cut.front tt, ap outs_in in_two, outs_append first.entries ((chunk_did Startup from draws walk u a.chunk).entries ++ later))
+      omega (arith, chunks_made few_law few_begins (Startup 0) from draws outset s cut.front tt, ap outs_in in_two, outs_append first.entries ((chunk_did (Startup 0) from draws walk u a.chunk).entries ++ later))
 
-  bears : (u.sealed == last_count) ≡ false → count (facts_of past) < 2 ^ 64 → (x : Joined) × IsOfOffer offer draws.nonce (facts_of past) x × IsBornAndTold setup from x (chunks_did Startup from draws outset s gone).entries
+  bears : (u.sealed == last_count) ≡ false → count (facts_of past) < 2 ^ 64 → (x : Joined) × IsOfOffer offer draws.nonce (facts_of past) x × IsBornAndTold setup from x (chunks_did (Startup 0) from draws outset s gone).entries
   bears some counted =
       let x : Joined = j setup told u after_front.tied from draws a.chunk.payload keying bearing some in
       let made : Option Fact = way setup told u after_front.tied from draws a.chunk.payload keying bearing some in
       let went : List ℕ = sent setup told u after_front.tied from draws a.chunk.payload keying bearing some in
       let facts : List Entry = fact_entries made in
-      let both : List Entry = FactEntry (Born x) ∷ Out from went StartupContext ∷ [] in
+      let both : List Entry = FactEntry (Born x) ∷ Out from went (StartupContext 0) ∷ [] in
       let started : u.startup.ledger.started ≡ count (facts_of past) =
       omega (arith, reads_started 0 u.startup.ledger (facts_of told) after_front.tied.account, ap count facts_same) in (
         x,
@@ -412,10 +412,10 @@ went_entries noted t u place from datagram draws (Stopped stop) entries packet g
 went_entries noted t u place from datagram draws OutOfMemory entries packet gone step at alone went = absurd went
 
 -- at the places without a session
-its_chunks_at_startup : (u : State) (from : AddressParts) (draws : Draws) → AddsItsChunks u Startup from draws
+its_chunks_at_startup : (u : State) (from : AddressParts) (draws : Draws) → AddsItsChunks u (Startup 0) from draws
 its_chunks_at_startup u from draws = record { quiet = refl; unacked = λ d count. then_nothing d; untested = then_nothing; nothing_left = then_nothing }
 
-its_chunks_at_attempt : (u : State) (near : ℕ) (from : AddressParts) (draws : Draws) → AddsItsChunks u (Attempt near) from draws
+its_chunks_at_attempt : (u : State) (near : ℕ) (from : AddressParts) (draws : Draws) → AddsItsChunks u (Attempt near 0) from draws
 its_chunks_at_attempt u _ from draws = record { quiet = refl; unacked = λ d count. then_nothing d; untested = then_nothing; nothing_left = then_nothing }
 
 -- these are the first of the packet's chunks
@@ -441,9 +441,9 @@ admissible_keyings_bear setup log s t moment from datagram draws answer entries 
     let at : noted.moment ≡ now = ap (λ (m : ℕ). max m moment) last in
     let cut = went_first answer (chunks_of a.packet) gone went in
     let so = admission_so setup past noted tied sent_so well from datagram draws offer now a at is fits other gone cut.0 cut.1 firstly in
-    let entries_are : entries ≡ (chunks_did Startup from draws outset noted gone).entries = went_entries noted t noted Startup from datagram draws answer entries a.packet gone step so (its_chunks_at_startup noted from draws) went in
+    let entries_are : entries ≡ (chunks_did (Startup 0) from draws outset noted gone).entries = went_entries noted t noted (Startup 0) from datagram draws answer entries a.packet gone step so (its_chunks_at_startup noted from draws) went in
     let left : State = u setup past noted tied sent_so well from datagram draws offer now a at is fits other gone cut.0 cut.1 firstly in
-    let sealed_few : left.sealed ≤ noted.sealed + outs_in (chunks_did Startup from draws outset noted gone).entries =
+    let sealed_few : left.sealed ≤ noted.sealed + outs_in (chunks_did (Startup 0) from draws outset noted gone).entries =
     few_so setup past noted tied sent_so well from datagram draws offer now a at is fits other gone cut.0 cut.1 firstly in
     let room : left.sealed < last_count = omega (arith, sealed_few, said.few, ap outs_in entries_are, few) in
     let born = bears setup past noted tied sent_so well from datagram draws offer now a at is fits other gone cut.0 cut.1 firstly (less_is_other left.sealed last_count room) said.holds.counted in
@@ -453,13 +453,13 @@ admissible_keyings_bear setup log s t moment from datagram draws answer entries 
 
 module _ (s : State) (near : ℕ) (from : AddressParts) (draws : Draws) (c : Placed) (opens : OpensAttempt s near c.payload) where
   abbrev session : Joined
-  session = record { peer = opens.a.peer; n = opens.a.n; near = near; far = opens.keying.near; ni = opens.a.ni; nr = opens.keying.part.nr; k = opens.keying.part.k }
+  session = record { peer = opens.peer; n = opens.n; near = near; far = opens.keying.near; ni = opens.a.ni; nr = opens.keying.part.nr; k = opens.keying.part.k }
 
   abbrev kept : Row
   kept = new_row (new_session session s.startup.ledger.own Initiator from s.startup.secret s.moment)
 
   opened_as : opened s.startup near c.payload ≡ Some (Opened session)
-  opened_as = ap (λ o. opened_reading near o (responder_keying_in c.payload)) opens.there ∙ ap (opened_reading near (Some opens.a)) opens.reads
+  opened_as = ap (λ o. opened_reading near o (responder_keying_in c.payload)) opens.there ∙ ap (opened_reading near (Some opens.a)) opens.reads ∙ ap (opened_by_aim near opens.keying opens.a.ni) opens.aims
 
   abbrev after_it : State
   after_it = with_opened (with_startup s (after_opening s.startup near (Opened session))) (Opened session) from
@@ -487,8 +487,7 @@ module _ (s : State) (near : ℕ) (from : AddressParts) (draws : Draws) (c : Pla
     attempt = opens.a;
     there = opens.there;
     j = session;
-    peer = refl;
-    n = refl;
+    aim = opens.aims;
     ni = refl;
     id = refl;
     before = before;
@@ -499,29 +498,29 @@ module _ (s : State) (near : ℕ) (from : AddressParts) (draws : Draws) (c : Pla
   }
 
 -- a keying that has no cause opens its session, whatever came before it
-one_opens : (s : State) (near : ℕ) (walk other : Walk) (from : AddressParts) (draws : Draws) (c : Placed) → c.kind ≡ 0x78 → chunk_cause s (Attempt near) walk from c ≡ None →
-    OpensAttempt s near c.payload × (chunk_did (Attempt near) from draws other s c ≡ responder_keyed s near from c.payload)
+one_opens : (s : State) (near : ℕ) (walk other : Walk) (from : AddressParts) (draws : Draws) (c : Placed) → c.kind ≡ 0x78 → chunk_cause s (Attempt near 0) walk from c ≡ None →
+    OpensAttempt s near c.payload × (chunk_did (Attempt near 0) from draws other s c ≡ responder_keyed s near from c.payload)
 one_opens s near walk other from draws c kind none =
-    let all = all_none (causes s (Attempt near) walk from c) none in
+    let all = all_none (causes s (Attempt near 0) walk from c) none in
     let that : Placed = record { kind = 0x78; at = c.at; payload = c.payload } in
     let as_kind : ℕ → Placed = λ x. record { kind = x; at = c.at; payload = c.payload } in
     let is : c ≡ that = ap as_kind kind in
     let formed : fault_in (responder_keying_in c.payload) ≡ None = ap (λ (x : ℕ). form_cause walk.cursor x c.payload) (sym kind) ∙ all.1.0 in
     let read = read_ok (responder_keying_in c.payload) formed in
-    let last = ap (last_cause s (Attempt near) walk from) (sym is) ∙ all.1.1.1.1.0 in
+    let last = ap (last_cause s (Attempt near 0) walk from) (sym is) ∙ all.1.1.1.1.0 in
     let opens : OpensAttempt s near c.payload = opening_of s near c.payload read.0 read.1 last in
-    let no_cause : chunk_cause s (Attempt near) other from that ≡ None = ap (chunk_cause s (Attempt near) walk from) (sym is) ∙ none in
-    let did : chunk_did (Attempt near) from draws other s c ≡ responder_keyed s near from c.payload =
-    ap (chunk_did (Attempt near) from draws other s) is ∙ ap (λ (o : Option Cause). discarded_or s c.at o (responder_keyed s near from c.payload)) no_cause in
+    let no_cause : chunk_cause s (Attempt near 0) other from that ≡ None = ap (chunk_cause s (Attempt near 0) walk from) (sym is) ∙ none in
+    let did : chunk_did (Attempt near 0) from draws other s c ≡ responder_keyed s near from c.payload =
+    ap (chunk_did (Attempt near 0) from draws other s) is ∙ ap (λ (o : Option Cause). discarded_or s c.at o (responder_keyed s near from c.payload)) no_cause in
     (opens, did)
 
 pub keyings_without_cause_open : KeyingsWithoutCauseOpen
 keyings_without_cause_open s t u moment near from datagram draws answer entries packet front back c walk step at went kind none =
-    let v : State = (chunks_did (Attempt near) from draws outset u front).state in
+    let v : State = (chunks_did (Attempt near 0) from draws outset u front).state in
     let one = one_opens v near walk (walk_through outset front) from draws c kind none in
-    let later : List Entry = (chunks_did (Attempt near) from draws (walked (walk_through outset front) c) (chunk_did (Attempt near) from draws (walk_through outset front) v c).state back).entries in
-    let are : entries ≡ (chunks_did (Attempt near) from draws outset u front).entries ++ ((responder_keyed v near from c.payload).entries ++ later) =
-    went_entries (at_moment s moment) t u (Attempt near) from datagram draws answer entries packet (front ++ c ∷ back) step at (its_chunks_at_attempt u near from draws) went
-    ∙ gone_in_two (Attempt near) from draws outset front c back u
-    ∙ ap (λ (d : Did). (chunks_did (Attempt near) from draws outset u front).entries ++ (d.entries ++ later)) one.1 in
-    opens_its_session v near from draws c one.0 entries (chunks_did (Attempt near) from draws outset u front).entries later are
+    let later : List Entry = (chunks_did (Attempt near 0) from draws (walked (walk_through outset front) c) (chunk_did (Attempt near 0) from draws (walk_through outset front) v c).state back).entries in
+    let are : entries ≡ (chunks_did (Attempt near 0) from draws outset u front).entries ++ ((responder_keyed v near from c.payload).entries ++ later) =
+    went_entries (at_moment s moment) t u (Attempt near 0) from datagram draws answer entries packet (front ++ c ∷ back) step at (its_chunks_at_attempt u near from draws) went
+    ∙ gone_in_two (Attempt near 0) from draws outset front c back u
+    ∙ ap (λ (d : Did). (chunks_did (Attempt near 0) from draws outset u front).entries ++ (d.entries ++ later)) one.1 in
+    opens_its_session v near from draws c one.0 entries (chunks_did (Attempt near 0) from draws outset u front).entries later are

@@ -114,6 +114,7 @@ module _ (setup : Setup) (from : AddressParts) (datagram : List ℕ) (draws : Dr
         id = ours.id;
         own = ours.own;
         secret = ours.secret;
+        generation = ours.generation;
         stage = subst (λ r. StageFits r (confirmed_stage row.session.stage)) (sym role) (subst (λ g. StageFits Responder (confirmed_stage g)) (sym stage) tt);
         closed = λ e. let both : true ≡ false = sym now_held ∙ e in absurd (cc);
       })
@@ -131,7 +132,8 @@ module _ (setup : Setup) (from : AddressParts) (datagram : List ℕ) (draws : Dr
       let held_is : held_with s.startup.ledger j.peer ≡ Some (HalfOpen j) =
       is.thing (ap is_held half.1) ∙ ap (λ h. Some h) (ap (λ r. thing_of r row.session.stage j) half.0 ∙ ap (λ g. thing_of Responder g j) half.1) in
       let after = confirmed_tied past tied half.0 half.1 held_is in
-      let context : context_of row.session false ≡ inward (own_of setup) (HalfOpen j) = ap (λ r. context_between j row.session.own r false) half.0 ∙ ap (λ own. context_between j own Responder false) is.own in
+      let context : context_of row.session false ≡ inward (own_of setup) (HalfOpen j) = ap (λ g. context_between g j row.session.own row.session.role false) is.generation ∙ ap (λ r. context_between 0 j row.session.own r false) half.0
+      ∙ ap (λ own. context_between 0 j own Responder false) is.own in
       let under : OpensUnder setup.secret (inward (own_of setup) (HalfOpen j)) j.near datagram heard.0 =
       subst (λ id. OpensUnder setup.secret (inward (own_of setup) (HalfOpen j)) id datagram heard.0) (sym is.id)
       (subst (λ c. OpensUnder setup.secret c near datagram heard.0) context (subst (λ x. OpensUnder x (context_of row.session false) near datagram heard.0) is.secret heard.1)) in
@@ -164,11 +166,11 @@ goes_confirming_by setup from datagram draws s near (Some row) is heard = either
 
 -- The datagram opens in the session of its place.
 abbrev pub HeardAt : State → Place → List ℕ → Type 0
-HeardAt s Startup datagram = Unit {0}
-HeardAt s (Attempt near) datagram = Unit {0}
+HeardAt s (Startup generation) datagram = Unit {0}
+HeardAt s (Attempt near generation) datagram = Unit {0}
 HeardAt s (Session near) datagram = HeardIn datagram near (get s.sessions near)
 
 pub goes_confirming : (setup : Setup) (from : AddressParts) (datagram : List ℕ) (draws : Draws) (s : State) (place : Place) → HeardAt s place datagram → Keeps setup (Receive from datagram draws) s (confirming s place)
-goes_confirming setup from datagram draws s Startup heard = goes_nothing setup (Receive from datagram draws) s
-goes_confirming setup from datagram draws s (Attempt near) heard = goes_nothing setup (Receive from datagram draws) s
+goes_confirming setup from datagram draws s (Startup generation) heard = goes_nothing setup (Receive from datagram draws) s
+goes_confirming setup from datagram draws s (Attempt near generation) heard = goes_nothing setup (Receive from datagram draws) s
 goes_confirming setup from datagram draws s (Session near) heard = goes_confirming_by setup from datagram draws s near (get s.sessions near) refl heard

@@ -8,7 +8,8 @@ use Rattle.glare_core.specs.declared.facts.Fact.TheVariants.{Started, Born, Open
 use Rattle.glare_core.specs.declared.answers.StartRefusal.TheVariants.{OwnPrint, AttemptsSpent, PeersFull}
 use Rattle.glare_core.specs.Standing.{count}
 use Rattle.glare_core.specs.Ledger.{Ledger, held_with, row_count}
-use Rattle.glare_core.specs.Calls.{where_true, start_held, peers_full}
+use Rattle.rtmfp_base.specs.Reasons.{where_true}
+use Rattle.glare_core.specs.Calls.{start_held, peers_full}
 use Rattle.glare_core.proofs.Accounts.{reads_started}
 use Rattle.startup.specs.Attempts.{begin_spread, after_begin}
 use Rattle.endpoint_model.proofs.Apart.{opens_alone}

@@ -15,12 +15,14 @@ use Rattle.glare_core.specs.declared.facts.Held.TheVariants.{Opening as OpeningH
 use Rattle.glare_core.specs.declared.answers.Keying.{Keying}
 use Rattle.glare_core.specs.Ledger.{held_with}
 use Rattle.glare_core.specs.Calls.{way_made, born_fact}
-use Rattle.startup.specs.declared.cause.Cause.{Cause}
-use Rattle.startup.specs.declared.cause.Cause.TheVariants.{SecondKeying}
+use Rattle.rtmfp_base.specs.declared.cause.Cause.{Cause}
+use Rattle.rtmfp_base.specs.declared.cause.Cause.TheVariants.{SecondKeying}
 use Rattle.startup.specs.declared.answer.Answer.{Answer}
+use Rattle.startup.specs.declared.aim.Aim.{Aim}
+use Rattle.startup.specs.declared.aim.Aim.TheVariants.{AtPeer}
 use Rattle.startup.specs.State.{AttemptState, StartupState, SpreadParts}
 use Rattle.startup.specs.Attempts.{begin_spread, after_begin}
-use Rattle.startup.specs.Keyings.{InitiatorKeying, ResponderKeying, initiator_keying_in, responder_keying_in, iikeying_cause, keying_of, repeated_session, again_or_birth, keyed_with, keyed_reading, after_keying, change_answer, session_answer, born_session, opened_reading}
+use Rattle.startup.specs.Keyings.{InitiatorKeying, ResponderKeying, initiator_keying_in, responder_keying_in, iikeying_cause, keying_of, repeated_session, again_or_birth, keyed_with, keyed_reading, after_keying, change_answer, session_answer, born_session, opened_as, opened_reading}
 use Rattle.endpoint_model.specs.InSessions.{closing, tested as tested_at}
 use Rattle.rtmfp_chunks.specs.Writing.{chunk_bytes}
 use Rattle.glare_core.specs.declared.facts.Fact.{Fact}
@@ -167,10 +169,13 @@ once_keyed s from draws payload =
 
 -- ---- the other chunks draw none
 
+none_opening_as : (s : State) (near : ℕ) (from : AddressParts) (keying : ResponderKeying) (ni : List ℕ) (aim : Aim) → drawn (opening_done s near from (opened_as near keying ni aim)).entries ≡ []
+none_opening_as s near from keying ni (AtPeer peer n) = in_session_made none_quiet.sends _ near from (chunk_bytes (Ping [])) tt
+
 none_opening : (s : State) (near : ℕ) (from : AddressParts) (o : Option AttemptState) (r : Result ResponderKeying Cause) → drawn (opening_done s near from (opened_reading near o r)).entries ≡ []
 none_opening s near from None r = refl
 none_opening s near from (Some a) (Err cause) = refl
-none_opening s near from (Some a) (Ok keying) = in_session_made none_quiet.sends _ near from (chunk_bytes (Ping [])) tt
+none_opening s near from (Some a) (Ok keying) = none_opening_as s near from keying a.ni a.aim
 
 none_responder : (s : State) (near : ℕ) (from : AddressParts) (payload : List ℕ) → drawn (responder_keyed s near from payload).entries ≡ []
 none_responder s near from payload = none_opening s near from (get s.startup.attempts near) (responder_keying_in payload)

@@ -18,8 +18,11 @@ use Rattle.glare_core.specs.Calls.{ended_fact, MayEnd}
 use Rattle.glare_core.specs.Account.{Gave}
 use Rattle.glare_core.proofs.Accounts.{reads_held}
 use Rattle.glare_core.proofs.Giving.{gave_ended}
+use Rattle.startup.specs.declared.aim.Aim.{Aim}
+use Rattle.startup.specs.declared.aim.Aim.TheVariants.{AtPeer}
+use Rattle.startup.specs.Aims.{IsHeldAs, is_numbered, end_of_aim}
 use Rattle.startup.specs.State.{AttemptState}
-use Rattle.startup.specs.Attempts.{lowest, has_number, with_attempt, without_attempt, ended_attempt, end_of, after_end_of}
+use Rattle.startup.specs.Attempts.{lowest, has_number, with_attempt, without_attempt, without_attempt_by, end_of, after_end_of}
 use Rattle.startup.specs.declared.answer.Due.{Due}
 use Rattle.startup.specs.declared.answer.Due.TheVariants.{Ended as EndDue, Hello as HelloDue, Keying as KeyingDue}
 use Rattle.startup.specs.declared.attempt.Stage.{Stage}
@@ -37,7 +40,8 @@ use Rattle.endpoint_model.proofs.Members.{has, without}
 use Rattle.endpoint_model.proofs.Ids.{has_keys, count_keys}
 use Rattle.endpoint_laws.proofs.Matching.{of_peer, Ids, ids_less}
 use Rattle.endpoint_laws.proofs.Tied.{Tied}
-use Rattle.endpoint_laws.proofs.Agrees.{IsAt, found_of_attempt, used_here, used_elsewhere, agrees_changed, agrees_of, tied_of}
+use Rattle.endpoint_laws.specs.OfTheLog.{WasStartedAs}
+use Rattle.endpoint_laws.proofs.Agrees.{IsAt, found_of_peer, used_here, used_elsewhere, agrees_changed, agrees_of, tied_of}
 use Rattle.endpoint_laws.proofs.Moving.{beside_fact, still_none, noted_matches, rows_after_known, knows_held, tied_attempt}
 use Rattle.endpoint_laws.proofs.Facts.{stands_of}
 use Rattle.endpoint_laws.proofs.Made.{answer_made, spread_made}
@@ -80,19 +84,22 @@ pub ids_gone : {most : ℕ} (why : Why) (ids : List ℕ) (near : ℕ) (t : State
 ids_gone {most} why ids near t opens i = subst (λ (b : Bool). Ids most (if b then ids else without near ids) t) (sym opens) i
 
 -- the end of an attempt, for a cause that may end attempts
-module _ (setup : Setup) (past : Past) (s : State) (tied : Tied setup past s) (near : ℕ) (a : AttemptState) (there : get s.startup.attempts near ≡ Some a) (why : Why) where
+module _ (setup : Setup) (past : Past) (s : State) (tied : Tied setup past s) (near : ℕ) (a : AttemptState) (peer : List ℕ) (n : ℕ) (aims : a.aim ≡ AtPeer peer n) (there : get s.startup.attempts near ≡ Some a) (why : Why) where
+  pub held_is : held_with s.startup.ledger peer ≡ Some (Opening n near a.ni)
+  held_is = subst (λ (aim : Aim). IsHeldAs s.startup.ledger near a.ni aim) aims (tied.sound.held near a there)
+
   abbrev the_end : Fact
-  the_end = Ended a.peer near why
+  the_end = Ended peer near why
 
   abbrev left : State
   left = with_startup s (without_attempt s.startup near the_end)
 
-  pub end_tied : MayEnd why (Opening a.n near a.ni) → Tied setup (stamped s.moment (FactEntry the_end) ∷ past) left
+  pub end_tied : MayEnd why (Opening n near a.ni) → Tied setup (stamped s.moment (FactEntry the_end) ∷ past) left
   end_tied may =
       let now : Past = stamped s.moment (FactEntry the_end) ∷ past in
       let g = agrees_of setup past s tied in
-      let is : held_with s.startup.ledger a.peer ≡ Some (Opening a.n near a.ni) = tied.sound.held near a there in
-      let was = found_of_attempt s near a there in
+      let is : held_with s.startup.ledger peer ≡ Some (Opening n near a.ni) = held_is in
+      let was = found_of_peer s near a peer n there aims in
       let at : IsAt near None None s left = record {
         attempt = get_removed s.startup.attempts near;
         session = tied.apart near a there;
@@ -102,34 +109,38 @@ module _ (setup : Setup) (past : Past) (s : State) (tied : Tied setup past s) (n
       tied_of setup now left
       (agrees_changed setup past now s left near None None g
       (record { config = g.given.config; cert = g.given.cert; secret = g.given.secret; cookie_secret = g.given.cookie_secret; own = g.given.own; max_peers = g.given.max_peers }) at
-      (noted_matches s left the_end near None None g.matches at refl (found_of_attempt s near a there ∙ sym (ap (of_peer a.peer) is)) refl (λ h e. absurd (cc)))
-      tt (beside_fact near s.moment past the_end refl) (still_none setup past s g near _ _ was s.moment the_end (attempt_opens why a.n near a.ni may) None)
-      (ids_gone why (ids_in_use past) near left (attempt_opens why a.n near a.ni may)
+      (noted_matches s left the_end near None None g.matches at refl (was ∙ sym (ap (of_peer peer) is)) refl (λ h e. absurd (cc)))
+      tt (beside_fact near s.moment past the_end refl) (still_none setup past s g near _ _ was s.moment the_end (attempt_opens why n near a.ni may) None)
+      (ids_gone why (ids_in_use past) near left (attempt_opens why n near a.ni may)
       (ids_less setup.config.max_sessions (ids_in_use past) s left near g.ids (used_elsewhere near None None s left at) (used_here near None None s left at)
       (used_before (get s.startup.attempts near) (get s.sessions near) there)
       (less_one (len s.startup.attempts) (len (remove s.startup.attempts near)) (len s.sessions) (len_less s.startup.attempts near a there) (some_entry s.startup.attempts near a there))))
       (omega arith, g.by_now)
-      (rows_after_known s.startup.ledger the_end setup.config.max_peers (knows_held s.startup.ledger a.peer (Opening a.n near a.ni) is) tied.rows))
-      (gave_end s.startup.ledger a.peer (Opening a.n near a.ni) why is may 0 (facts_of past) tied.account)
+      (rows_after_known s.startup.ledger the_end setup.config.max_peers (knows_held s.startup.ledger peer (Opening n near a.ni) is) tied.rows))
+      (gave_end s.startup.ledger peer (Opening n near a.ni) why is may 0 (facts_of past) tied.account)
 
 -- ---- giving one up
 
 number_is : (a b : ℕ) → (a == b) ≡ true → b ≡ a
 number_is a b e = grind (arith, nat_tests)
 
-cancel_by : (setup : Setup) (s : State) (n : ℕ) (e : Option (ℕ × AttemptState)) → lowest (has_number n) s.startup.attempts ≡ e →
-    Keeps setup (Cancel n) s (record { state = with_startup s (after_end_of s.startup e Cancelled); entries = fact_entries (end_of e Cancelled) })
-cancel_by setup s n None is = goes_nothing setup (Cancel n) s
-cancel_by setup s n (Some e) is = λ past tied.
-    let found = first_is_there (has_number n) s.startup.attempts e is in
-    let after = end_tied setup past s tied e.0 e.1 found.0 Cancelled tt in
-    let held_is : held_with s.startup.ledger e.1.peer ≡ Some (Opening e.1.n e.0 e.1.ni) = tied.sound.held e.0 e.1 found.0 in
+cancel_as : (setup : Setup) (s : State) (number near : ℕ) (a : AttemptState) (aim : Aim) → a.aim ≡ aim → get s.startup.attempts near ≡ Some a → is_numbered number aim ≡ true →
+    Keeps setup (Cancel number) s (record { state = with_startup s (without_attempt_by s.startup near (end_of_aim near Cancelled aim)); entries = fact_entries (end_of_aim near Cancelled aim) })
+cancel_as setup s number near a (AtPeer peer n) aims there same = λ past tied.
+    let the_end : Fact = Ended peer near Cancelled in
+    let after = end_tied setup past s tied near a peer n aims there Cancelled tt in
     record {
       meets = (
         (
           (
-            stands_of (own_of setup) (noted s.startup.ledger (ended_attempt e Cancelled)) (ended_attempt e Cancelled) (facts_of past) after.own after.account,
-            record { n = e.1.n; near = e.0; ni = e.1.ni; is_held = sym (reads_held 0 s.startup.ledger (facts_of past) tied.account e.1.peer) ∙ held_is; by = number_is e.1.n n found.1 },
+            stands_of (own_of setup) (noted s.startup.ledger the_end) the_end (facts_of past) after.own after.account,
+            record {
+              n = n;
+              near = near;
+              ni = a.ni;
+              is_held = sym (reads_held 0 s.startup.ledger (facts_of past) tied.account peer) ∙ held_is setup past s tied near a peer n aims there Cancelled;
+              by = number_is n number same;
+            },
           ),
           tt,
         ),
@@ -138,6 +149,13 @@ cancel_by setup s n (Some e) is = λ past tied.
       tied = after;
       moment = refl;
     }
+
+cancel_by : (setup : Setup) (s : State) (n : ℕ) (e : Option (ℕ × AttemptState)) → lowest (has_number n) s.startup.attempts ≡ e →
+    Keeps setup (Cancel n) s (record { state = with_startup s (after_end_of s.startup e Cancelled); entries = fact_entries (end_of e Cancelled) })
+cancel_by setup s n None is = goes_nothing setup (Cancel n) s
+cancel_by setup s n (Some e) is =
+    let found = first_is_there (has_number n) s.startup.attempts e is in
+    cancel_as setup s n e.0 e.1 e.1.aim refl found.0 found.1
 
 pub goes_cancelling : (setup : Setup) (s : State) (n : ℕ) → Keeps setup (Cancel n) s (cancelling s n)
 goes_cancelling setup s n = cancel_by setup s n (lowest (has_number n) s.startup.attempts) refl
@@ -154,25 +172,24 @@ IsSending (HelloDue spread) = Unit {0}
 IsSending (KeyingDue answer) = Unit {0}
 
 module _ (setup : Setup) (call : Call) (is_tick : IsTick call) (s : State) where
-  pub tick_end : (e : ℕ × AttemptState) → get s.startup.attempts e.0 ≡ Some e.1 → is_over s.moment e.1 ≡ true →
-      Keeps setup call s (record { state = with_startup s (without_attempt s.startup e.0 (ended_attempt e Expired)); entries = FactEntry (ended_attempt e Expired) ∷ [] })
-  tick_end e there over past tied =
-      let after = end_tied setup past s tied e.0 e.1 there Expired tt in
-      let held_is : held_with s.startup.ledger e.1.peer ≡ Some (Opening e.1.n e.0 e.1.ni) = tied.sound.held e.0 e.1 there in
+  pub tick_end : (near : ℕ) (a : AttemptState) (peer : List ℕ) (n : ℕ) → a.aim ≡ AtPeer peer n → get s.startup.attempts near ≡ Some a → is_over s.moment a ≡ true →
+      Keeps setup call s (record { state = with_startup s (without_attempt s.startup near (Ended peer near Expired)); entries = FactEntry (Ended peer near Expired) ∷ [] })
+  tick_end near a peer n aims there over past tied =
+      let after = end_tied setup past s tied near a peer n aims there Expired tt in
       record {
         meets = (
           (
             (
-              stands_of (own_of setup) (noted s.startup.ledger (ended_attempt e Expired)) (ended_attempt e Expired) (facts_of past) after.own after.account,
+              stands_of (own_of setup) (noted s.startup.ledger (Ended peer near Expired)) (Ended peer near Expired) (facts_of past) after.own after.account,
               (
                 is_tick,
                 record {
-                  n = e.1.n;
-                  ni = e.1.ni;
-                  is_held = sym (reads_held 0 s.startup.ledger (facts_of past) tied.account e.1.peer) ∙ held_is;
-                  start = e.1.start;
-                  started = tied.started e.0 e.1 there;
-                  over = over_is e.1.start s.moment over;
+                  n = n;
+                  ni = a.ni;
+                  is_held = sym (reads_held 0 s.startup.ledger (facts_of past) tied.account peer) ∙ held_is setup past s tied near a peer n aims there Expired;
+                  start = a.start;
+                  started = subst (λ (aim : Aim). WasStartedAs past a.start near a.ni aim) aims (tied.started near a there);
+                  over = over_is a.start s.moment over;
                 },
               ),
             ),

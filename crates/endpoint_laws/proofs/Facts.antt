@@ -4,7 +4,7 @@ use Rattle.glare_core.specs.declared.facts.Fact.{Fact}
 use Rattle.glare_core.specs.Standing.{count}
 use Rattle.glare_core.specs.Stands.{Stands}
 use Rattle.glare_core.specs.Ledger.{Ledger}
-use Rattle.glare_core.specs.Calls.{where_true, first_that_stands}
+use Rattle.rtmfp_base.specs.Reasons.{where_true, first_that_stands}
 use Rattle.glare_core.specs.Account.{StandsFor}
 
 pub first_none : {A : Type 0} (x : Option A) (rest : List (Option A)) → first_that_stands (x ∷ rest) ≡ None → (x ≡ None) × (first_that_stands rest ≡ None)

@@ -1,7 +1,7 @@
 -- What time makes due of a session and of its flows: what is stated is lawful, each datagram that goes out meets its line, and the state agrees with both.
 use Rattle.std.proofs.Common.{◌≡◌, ℕ, [], ◌∷◌, Bool, true, false, if◌then◌else◌, Option, Some, None, inl, refl, ap}
 use Rattle.std.specs.FinMap.{get}
-use Rattle.glare_core.specs.Calls.{where_true, first_that_stands}
+use Rattle.rtmfp_base.specs.Reasons.{where_true, first_that_stands}
 use Rattle.session_core.specs.declared.stage.SessionDue.{SessionDue}
 use Rattle.session_core.specs.Session.{SessionState}
 use Rattle.session_core.specs.Closing.{first_due, needs_keepalive, with_loss}
@@ -30,7 +30,7 @@ use Rattle.endpoint_laws.proofs.FlowData.{data_is_modest}
 
 like_if : (late : Bool) (moment : ℕ) (session : SessionState) → IsLike moment session (if late then with_loss true session else session)
 like_if true moment session = record {
-  alike = record { joined = refl; own = refl; secret = refl; role = refl; held = refl; thing = λ e. refl; stage = λ f. f; since = λ e. inl refl };
+  alike = record { joined = refl; own = refl; secret = refl; generation = refl; role = refl; held = refl; thing = λ e. refl; stage = λ f. f; since = λ e. inl refl };
   descends = record { same = refl; opening = λ e. (e, refl) };
   sealed = refl;
 }

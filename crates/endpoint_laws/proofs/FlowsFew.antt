@@ -34,11 +34,11 @@ use Rattle.flow_send.proofs.Ends.{next_unfinished}
 use Rattle.flow_send.proofs.Queuings.{allowed}
 use Rattle.flow_send.proofs.Steadies.{bounded, steady_abandoned, steady_finished, steady_lost, steady_new}
 use Rattle.flow_send.proofs.Steadies.{steady_queued, steady_sent, steady_told}
-use Rattle.glare_core.specs.Calls.{where_true, first_that_stands}
+use Rattle.rtmfp_base.specs.Reasons.{where_true, first_that_stands}
 use Rattle.session_core.specs.Closing.{is_held}
 use Rattle.session_core.specs.Session.{SessionState}
 use Rattle.session_core.specs.Trips.{resend_time}
-use Rattle.session_flows.specs.declared.cause.FlowCause.TheVariants.{WrongState, AckBeyond}
+use Rattle.rtmfp_base.specs.declared.cause.Cause.TheVariants.{WrongState, AckBeyond}
 use Rattle.session_flows.specs.declared.pace.Pace.{Pace}
 use Rattle.session_flows.specs.declared.refusal.CallRefusal.TheVariants as call_refusal
 use Rattle.session_flows.specs.declared.taking.TakingFlow.{TakingFlow}

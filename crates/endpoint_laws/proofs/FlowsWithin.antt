@@ -20,14 +20,14 @@ use Rattle.flow_send.specs.declared.waiting.MessageOptions.{MessageOptions}
 use Rattle.flow_send.specs.Choice.{chunk_for}
 use Rattle.flow_send.specs.Flow.{Flow}
 use Rattle.flow_send.specs.Acks.{Told, told}
-use Rattle.glare_core.specs.Calls.{where_true, first_that_stands}
+use Rattle.rtmfp_base.specs.Reasons.{where_true, first_that_stands}
 use Rattle.session_core.specs.Session.{SessionState}
 use Rattle.session_core.specs.Closing.{is_held}
 use Rattle.session_core.specs.Trips.{resend_time}
 use Rattle.session_flows.specs.declared.pace.Pace.{Pace}
-use Rattle.session_flows.specs.declared.cause.FlowCause.{FlowCause}
-use Rattle.session_flows.specs.declared.cause.FlowCause.TheVariants.{WrongState, UnknownFlow}
-use Rattle.session_flows.specs.declared.cause.FlowCause.TheVariants.{FlowsFull}
+use Rattle.rtmfp_base.specs.declared.cause.Cause.{Cause}
+use Rattle.rtmfp_base.specs.declared.cause.Cause.TheVariants.{WrongState, UnknownFlow}
+use Rattle.rtmfp_base.specs.declared.cause.Cause.TheVariants.{FlowsFull}
 use Rattle.session_flows.specs.declared.taking.TakingFlow.{TakingFlow}
 use Rattle.session_flows.specs.Keeping.{FlowsState, sending_at, taking_at, new_taking}
 use Rattle.session_flows.specs.Keeping.{changed, with_sending}
@@ -125,7 +125,7 @@ sound_changed s id f keeps h = record {
 
 -- ---- data
 
-not_where : (b : Bool) (c : FlowCause) → where_true b c ≡ None → b ≡ false
+not_where : (b : Bool) (c : Cause) → where_true b c ≡ None → b ≡ false
 not_where true c e = absurd cc
 not_where false c e = refl
 

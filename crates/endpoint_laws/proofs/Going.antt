@@ -4,7 +4,7 @@ use Rattle.glare_core.specs.declared.facts.Why.{Why}
 use Rattle.glare_core.specs.declared.facts.Why.TheVariants.{Cancelled, Expired, Glare, Override, Unconfirmed, Near, Far, Idle}
 use Rattle.glare_core.specs.declared.facts.Fact.{Fact}
 use Rattle.glare_core.specs.declared.facts.Fact.TheVariants.{Started, Born, Opened, Confirmed, Ended}
-use Rattle.startup.specs.declared.cause.Cause.{Cause}
+use Rattle.rtmfp_base.specs.declared.cause.Cause.{Cause}
 use Rattle.session_core.specs.Session.{SessionState}
 use Rattle.session_core.specs.Sealed.{after_seal, is_spent}
 use Rattle.endpoint_model.specs.Views.{fact_in}
@@ -97,7 +97,7 @@ goes_discarded setup call s at cause past t = record { meets = ((tt, tt), tt); t
 
 seal_alike : (b : Bool) (moment : ℕ) (session : SessionState) → IsAlike moment session (if b then session else sealed_once session)
 seal_alike true moment session = alike_itself moment session
-seal_alike false moment session = record { joined = refl; own = refl; secret = refl; role = refl; held = refl; thing = λ e. refl; stage = λ f. f; since = λ e. inl refl }
+seal_alike false moment session = record { joined = refl; own = refl; secret = refl; generation = refl; role = refl; held = refl; thing = λ e. refl; stage = λ f. f; since = λ e. inl refl }
 
 -- what goes out
 pub goes_sends : (setup : Setup) (call : Call) → Sends Any (Keeps setup call)

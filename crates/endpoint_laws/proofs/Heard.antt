@@ -28,7 +28,8 @@ use Rattle.endpoint_model.specs.declared.entry.Entry.{Entry}
 use Rattle.endpoint_model.specs.declared.entry.Entry.TheVariants.{Fact as FactEntry}
 use Rattle.endpoint_model.specs.Event.{Setup, own_of, Call, Open, Receive, OpenCall, ReceiveCall, open_in, receive_in}
 use Rattle.endpoint_laws.specs.Past.{Past, stamped, facts_of}
-use Rattle.endpoint_laws.specs.Contexts.{session_context, inward, ContextOf, OpensUnder}
+use Rattle.endpoint_laws.specs.Contexts.{session_context, inward, OpensUnder}
+use Rattle.endpoint_laws.proofs.OneContext.{ContextOf}
 use Rattle.endpoint_model.specs.Keying.{IsFirst, IsAmong, chunks_of}
 use Rattle.endpoint_laws.specs.Admissible.{Admissible, Offer}
 use Rattle.endpoint_laws.specs.Lawful.{Opens, Bears, FactLine, BornLine, EndedLine, AnswersAttempt, BornFollows, IsCounted, EntriesLawful, IsBornIn, LineOf, OpensIn, BearsIn, TakesAnswerIn, TakesUnderIn}
@@ -70,8 +71,8 @@ pub keying_told : (setup : Setup) (begin past : Past) (now : ℕ) (base : List S
 keying_told setup begin past now base from datagram draws offer carried a =
     let plain : List ℕ = a.reads.plain in
     let id : sid_of datagram ≡ 0 = a.reads.opens.id in
-    let opens : OpensUnder setup.secret Startup (sid_of datagram) datagram plain = subst (λ (s : ℕ). OpensUnder setup.secret Startup s datagram plain) (sym id) a.reads.opens in
-    let there = carried Startup plain (inl (id, refl)) opens in
+    let opens : OpensUnder setup.secret (Startup 0) (sid_of datagram) datagram plain = subst (λ (s : ℕ). OpensUnder setup.secret (Startup 0) s datagram plain) (sym id) a.reads.opens in
+    let there = carried (Startup 0) plain (inl (id, refl)) opens in
     subst (λ (p : List ℕ). WasSent (Keying p (own_of setup) offer.n offer.ni offer.far no_generation) base) (sym a.peer)
     (keying_carried setup.secret datagram base there (sid_of datagram) plain opens a.packet a.reads.reads a.chunk offer.far a.cookie a.cert offer.ni offer.n (own_of setup) a.sign
     (first_among a.chunk (chunks_of a.packet) a.first) a.spells a.nonce_size a.number)
@@ -82,8 +83,8 @@ pub answer_told : (setup : Setup) (begin : Past) (facts : List Fact) (base : Lis
 answer_told setup begin facts base from datagram draws j carried is_call is_held peer_size ni_size a =
     let plain : List ℕ = a.reads.plain in
     let id : sid_of datagram ≡ j.near = a.reads.opens.id in
-    let opens : OpensUnder setup.secret Startup (sid_of datagram) datagram plain = subst (λ (s : ℕ). OpensUnder setup.secret Startup s datagram plain) (sym id) a.reads.opens in
-    let there = carried Startup plain (inr (Opening j.n j.near j.ni, inl (record { peer = j.peer; is_held = is_held; id = sym id }), refl)) opens in
+    let opens : OpensUnder setup.secret (Startup 0) (sid_of datagram) datagram plain = subst (λ (s : ℕ). OpensUnder setup.secret (Startup 0) s datagram plain) (sym id) a.reads.opens in
+    let there = carried (Startup 0) plain (inr (Opening j.n j.near j.ni, inl (record { peer = j.peer; is_held = is_held; id = sym id }), refl)) opens in
     answer_carried setup.secret datagram base there j.near plain a.reads.opens a.packet a.reads.reads a.chunk j.far j.nr j.k j.peer j.ni a.sign a.among a.spells is_call.0 peer_size ni_size a.number
 
 pub under_told : (setup : Setup) (begin : Past) (base : List Step) (from : AddressParts) (datagram : List ℕ) (draws : Draws) (peer : List ℕ) (near : ℕ) (j : Joined) →

@@ -17,8 +17,8 @@ use Rattle.rtmfp_packet.specs.Head.{mode_number}
 use Rattle.rtmfp_packet.specs.Whole.{Whole}
 use Rattle.rtmfp_packet.specs.Reading.{PacketReading}
 use Rattle.rtmfp_packet.proofs.Readings.{packet_reading_same}
-use Rattle.startup.specs.declared.cause.Cause.{Cause}
-use Rattle.startup.specs.declared.cause.Cause.TheVariants.{Short, WrongPlace}
+use Rattle.rtmfp_base.specs.declared.cause.Cause.{Cause}
+use Rattle.rtmfp_base.specs.declared.cause.Cause.TheVariants.{Short, WrongPlace}
 use Rattle.session_core.specs.declared.hearing.Unheard.TheVariants.{Short as ShortPart, BadTag as WrongTag, Repeated as OldNumber}
 use Rattle.session_core.specs.Session.{SessionState, context_of, with_stamps}
 use Rattle.session_core.specs.Hearing.{counted, opens_in, is_new, count_of, inward_keys}
@@ -126,21 +126,21 @@ module _ (past : Past) (s : State) (e : Event) (datagram : List ℕ) (are : IsBy
   off u place packet true w p = (w, p)
   off u place packet false w p = w
 
-  at_startup : IsWell more now t → (r : Result (List ℕ) Cause) → AdmissionHeard more now datagram (admitted t datagram (placed Startup r))
+  at_startup : IsWell more now t → (r : Result (List ℕ) Cause) → AdmissionHeard more now datagram (admitted t datagram (placed (Startup 0) r))
   at_startup w (Err cause) = w
   at_startup w (Ok plain) = by (packet_in plain)
     where
-      by : (r : Result Whole PacketFault) → AdmissionHeard more now datagram (admitted_packet t Startup r)
+      by : (r : Result Whole PacketFault) → AdmissionHeard more now datagram (admitted_packet t (Startup 0) r)
       by (Err fault) = w
-      by (Ok packet) = off t Startup packet (has_mode packet.head FromStartup) w tt
+      by (Ok packet) = off t (Startup 0) packet (has_mode packet.head FromStartup) w tt
 
-  at_attempt : (near : ℕ) → IsWell more now t → (r : Result (List ℕ) Cause) → AdmissionHeard more now datagram (admitted t datagram (placed (Attempt near) r))
+  at_attempt : (near : ℕ) → IsWell more now t → (r : Result (List ℕ) Cause) → AdmissionHeard more now datagram (admitted t datagram (placed (Attempt near 0) r))
   at_attempt near w (Err cause) = w
   at_attempt near w (Ok plain) = by (packet_in plain)
     where
-      by : (r : Result Whole PacketFault) → AdmissionHeard more now datagram (admitted_packet t (Attempt near) r)
+      by : (r : Result Whole PacketFault) → AdmissionHeard more now datagram (admitted_packet t (Attempt near 0) r)
       by (Err fault) = w
-      by (Ok packet) = off t (Attempt near) packet (has_mode packet.head FromStartup) w tt
+      by (Ok packet) = off t (Attempt near 0) packet (has_mode packet.head FromStartup) w tt
 
   -- ---- in a session
 
@@ -297,9 +297,9 @@ module _ (past : Past) (s : State) (e : Event) (datagram : List ℕ) (are : IsBy
   there_is (Some row) e = (row, refl)
 
   at_place : (a b c : Bool) → (sid == 0) ≡ a → contains_key s.startup.attempts sid ≡ b → contains_key s.sessions sid ≡ c →
-      AdmissionHeard more now datagram (admitted t datagram (opened_found t (if a then Some Startup else if b then Some (Attempt sid) else if c then Some (Session sid) else None) part))
-  at_place true b c p q r = at_startup (unopened (λ row there plain under. (named sid row there).some (is_zero sid p))) (opened_at t Startup part)
-  at_place false true c p q r = at_attempt sid (unopened (λ row there plain under. let clash : true ≡ false = sym q ∙ (named sid row there).apart in cc)) (opened_at t (Attempt sid) part)
+      AdmissionHeard more now datagram (admitted t datagram (opened_found t (if a then Some (Startup 0) else if b then Some (Attempt sid 0) else if c then Some (Session sid) else None) part))
+  at_place true b c p q r = at_startup (unopened (λ row there plain under. (named sid row there).some (is_zero sid p))) (opened_at t (Startup 0) part)
+  at_place false true c p q r = at_attempt sid (unopened (λ row there plain under. let clash : true ≡ false = sym q ∙ (named sid row there).apart in cc)) (opened_at t (Attempt sid 0) part)
   at_place false false true p q r = let found = there_is (get s.sessions sid) r in at_session found.0 found.1
   at_place false false false p q r = unopened (λ row there plain under. let clash : true ≡ false = sym (ap (λ (o : Option Row). is_some o) there) ∙ r in cc)
 

@@ -28,15 +28,16 @@ pub record Lasting : Type 0 where
   pub own : List ℕ
   pub role : Role
   pub secret : List ℕ
+  pub generation : ℕ
   pub window : WindowState
   pub taken : ℕ
 
 abbrev pub lasting : SessionState → Lasting
-lasting s = record { joined = s.joined; own = s.own; role = s.role; secret = s.secret; window = s.window; taken = s.taken }
+lasting s = record { joined = s.joined; own = s.own; role = s.role; secret = s.secret; generation = s.generation; window = s.window; taken = s.taken }
 
 -- the context of what it takes, and the mode
 abbrev pub inward_of : Lasting → Context
-inward_of l = context_between l.joined l.own l.role false
+inward_of l = context_between l.generation l.joined l.own l.role false
 
 abbrev pub mode_in : Lasting → Mode
 mode_in l = peers_mode l.role

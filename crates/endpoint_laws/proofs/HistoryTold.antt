@@ -4,6 +4,7 @@ use Rattle.crypto_profile.specs.declared.keys.Context.{Context}
 use Rattle.glare_core.specs.Tells.{Tell}
 use Rattle.glare_core.specs.Steps.{Step, view, facts}
 use Rattle.glare_core.specs.Told.{WasSent, nonces, AllDifferent}
+use Rattle.packet_scramble.specs.Datagram.{sid_of}
 use Rattle.endpoint_model.specs.Event.{Setup, own_of, Call, Event, moment_at, ReceiveCall, receive_in}
 use Rattle.endpoint_laws.specs.Past.{Past, facts_of, last_moment, past_of, begun, with_event}
 use Rattle.endpoint_laws.specs.Lawful.{IsLawful}
@@ -11,6 +12,7 @@ use Rattle.endpoint_laws.specs.Laws.{AreCalls}
 use Rattle.endpoint_laws.specs.History.{Happened, History, log_of, AreLawful, WasSent as WentOut, IsHonestCall, IsHonest, TakesPart, IsHonestReceive, past_at}
 use Rattle.endpoint_laws.specs.Agreed.{stated}
 use Rattle.endpoint_model.proofs.Members.{tested}
+use Rattle.endpoint_laws.proofs.OneContext.{one_context, opens_first}
 use Rattle.endpoint_laws.proofs.FactsAlone.{alone, facts_alone}
 use Rattle.endpoint_laws.proofs.Fresh.{different_before}
 use Rattle.endpoint_laws.proofs.HeldTold.{tell_of}
@@ -77,7 +79,8 @@ was_carried setup begin earlier steps call honest outs = in_receive (receive_in 
   where
     in_receive : (o : Option ReceiveCall) → IsHonestReceive setup begin earlier o → CarriedIn setup begin steps o
     in_receive None h = tt
-    in_receive (Some r) h = λ context plain of opens. outs r.datagram context (h context plain of opens)
+    in_receive (Some r) h = λ context plain of opens. outs r.datagram context
+        (h (context ∷ []) context plain (one_context (own_of setup) begin (sid_of r.datagram) context of) (opens_first setup.secret (sid_of r.datagram) r.datagram context plain opens))
 
 -- ---- all of it
 

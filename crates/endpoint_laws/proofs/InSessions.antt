@@ -79,6 +79,7 @@ pub record IsLeft (moment : ℕ) (old left : SessionState) : Type 0 where
   pub joined : left.joined ≡ old.joined
   pub own : left.own ≡ old.own
   pub secret : left.secret ≡ old.secret
+  pub generation : left.generation ≡ old.generation
   pub role : left.role ≡ old.role
   pub closing : is_held left.stage ≡ false
   pub stage : StageFits left.role left.stage
@@ -153,6 +154,7 @@ module _ (setup : Setup) (call : Call) (past : Past) (s : State) (tied : Tied se
         id = ap (λ k. k.near) l.joined ∙ ours.id;
         own = l.own ∙ ours.own;
         secret = l.secret ∙ ours.secret;
+        generation = l.generation ∙ ours.generation;
         stage = l.stage;
         closed = λ e. record { thing = thing; at = s.moment; was = was_it; closing = inl ((id, closes, held_facts), refl); since = omega (arith, l.since) };
       })

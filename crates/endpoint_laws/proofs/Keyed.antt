@@ -143,7 +143,7 @@ module _ (setup : Setup) (from : AddressParts) (datagram : List ℕ) (draws : Dr
         sessions = λ q other. get_beside s.sessions j.near new q other;
       }) refl (omega (arith, len_new s.sessions j.near new fresh_id.session)) (omega arith, omega arith) (room_left setup past s tied (may.place unheld))
       (rows_after_either l (Born j) setup.config.max_peers k.peer refl tied.rows (row_left setup past s k.peer tied may.row)) refl
-      (record { id = refl; own = tied.own; secret = tied.secret; stage = tt; closed = λ e. absurd (cc) }) in
+      (record { id = refl; own = tied.own; secret = tied.secret; generation = refl; stage = tt; closed = λ e. absurd (cc) }) in
       let account = gave 0 (facts_of past) tied.account in
       record {
         meets = (
@@ -206,7 +206,7 @@ module _ (setup : Setup) (from : AddressParts) (datagram : List ℕ) (draws : Dr
           attempts = λ q other. refl;
           sessions = λ q other. get_beside (remove s.sessions (near_of thing)) j.near new q other;
         }) refl (omega (arith, len_new (remove s.sessions (near_of thing)) j.near new free.session)) (omega arith, omega arith) (omega (arith, way.count, tied.within)) known refl
-        (record { id = refl; own = tied.own; secret = tied.secret; stage = tt; closed = λ e. absurd (cc) }) in
+        (record { id = refl; own = tied.own; secret = tied.secret; generation = refl; stage = tt; closed = λ e. absurd (cc) }) in
         let account = gave 0 (facts_of past) tied.account in
         record {
           meets = (

@@ -13,9 +13,9 @@ use Rattle.glare_core.specs.declared.answers.Heard.{Heard}
 use Rattle.glare_core.specs.declared.answers.Heard.TheVariants.{Again, Birth}
 use Rattle.glare_core.specs.Ledger.{Ledger, held_with, noted_if}
 use Rattle.glare_core.specs.Calls.{heard, heard_noted}
-use Rattle.startup.specs.declared.cause.Cause.{Cause}
+use Rattle.rtmfp_base.specs.declared.cause.Cause.{Cause}
 use Rattle.startup.specs.State.{StartupState, AttemptState}
-use Rattle.startup.specs.Attempts.{lowest, has_tag, changed, after_end_of, confirm_fact}
+use Rattle.startup.specs.Attempts.{lowest, has_tag, changed, confirm_fact}
 use Rattle.startup.specs.Attempts.{after_confirm, end_fact, after_end, after_answer, after_rhello}
 use Rattle.startup.specs.Attempts.{after_change}
 use Rattle.startup.specs.Attempts.{after_cookie_change}
@@ -37,10 +37,6 @@ noted_own l None = refl
 noted_own l (Some fact) = refl
 
 -- ---- attempts
-
-pub kin_ended : (s : StartupState) (o : Option (ℕ × AttemptState)) (why : Why) → IsKin s (after_end_of s o why)
-kin_ended s None why = kin_itself s
-kin_ended s (Some e) why = record { own = refl; secret = refl }
 
 pub kin_confirm : (s : StartupState) (peer : List ℕ) → IsKin s (after_confirm s peer)
 kin_confirm s peer = record { own = noted_own s.ledger (confirm_fact s peer); secret = refl }

@@ -55,6 +55,7 @@ mod FlowData
 mod FlowTimes
 mod Orderly
 pub mod Logged
+pub mod OneContext
 pub mod Opened
 pub mod Drawn
 mod OfTheLog

@@ -8,11 +8,14 @@ use Rattle.endpoint_model.specs.Log.{Answers, stopped}
 use Rattle.rtmfp_data_chunks.specs.Fitting.{AreSmall, FitsIn}
 use Rattle.endpoint_model.specs.declared.place.Place.TheVariants.{Attempt, Session, Startup}
 use Rattle.startup.specs.declared.attempt.Stage.{Stage as AttemptStage}
+use Rattle.startup.specs.declared.aim.Aim.{Aim}
+use Rattle.startup.specs.declared.aim.Aim.TheVariants.{AtPeer}
+use Rattle.startup.specs.Aims.{end_of_aim}
 use Rattle.startup.specs.State.{AttemptState, SpreadParts, StartupState}
 use Rattle.cookies.specs.declared.CookieTest.TheVariants.{Bad, Moved as CookieMoved, Expired as Stale, Current}
 use Rattle.std.proofs.Common.{drop, ◌≡◌, ℕ, ◌∷◌, ◌==◌, if◌then◌else◌, ◌||◌, ◌∙◌, [], Bool, Err, List, None, Ok, Option, Result, Some, ap, false, refl, take, true}
 use Rattle.glare_core.specs.declared.facts.Why.TheVariants.{Cancelled, Expired, Far, Idle as WasIdle, Near, Unconfirmed as NotConfirmed}
-use Rattle.startup.specs.declared.cause.Cause.{Cause}
+use Rattle.rtmfp_base.specs.declared.cause.Cause.{Cause}
 use Rattle.rtmfp_chunks.specs.Chunk.{Chunk, Close as CloseChunk, CloseAck, CookieChange, Ping, RHello, Redirect}
 use Rattle.rtmfp_chunks.specs.declared.reading.ChunkFault.{ChunkFault}
 use Rattle.session_core.specs.declared.stage.Stage.TheVariants.{Opening, Open as OpenStage, NearClose, FarLinger, Closed}
@@ -25,14 +28,13 @@ use Rattle.endpoint_model.specs.declared.entry.Entry.{Entry}
 use Rattle.glare_core.specs.declared.facts.Fact.{Fact}
 use Rattle.endpoint_model.specs.declared.entry.Entry.TheVariants.{Fact as FactEntry}
 use Rattle.endpoint_model.specs.FlowCall.{FlowCall, flow_did, flow_refusal}
-use Rattle.session_flows.specs.declared.cause.FlowCause.{FlowCause}
 use Rattle.session_flows.specs.declared.refusal.CallRefusal.{CallRefusal as FlowRefusal}
 use Rattle.glare_core.specs.declared.facts.Held.TheVariants.{HalfOpen, KeptAsInitiator, KeptAsResponder, Opening as OpeningHeld}
 use Rattle.glare_core.specs.declared.facts.Held.{Held}
 use Rattle.startup.specs.declared.attempt.Stage.TheVariants.{Hello, Keying}
 use Rattle.endpoint_model.specs.Effects.{Hellos, InSession, InStartup, Introduction, Reply, Silence, cancelling, chunk_did, chunks_did, due_done, forwarded, initiator_keyed, keying_done, most_acks, opening, opening_done, outset, part_received, read_done, read_left, read_reply, received, replied, responder_keyed, tick_once, ticks, walked, walked_and_acked, with_opened}
 use Rattle.session_core.specs.declared.stage.SessionDue.TheVariants.{Idle, Over, RepeatClose, Unconfirmed}
-use Rattle.startup.specs.Keyings.{InitiatorKeying, ResponderKeying, after_keying, after_opening, again_or_birth, born_session, change_answer, initiator_keying_in, keyed_reading, keyed_with, keying_of, opened_reading, opened_with, repeated_session, responder_keying_in, session_answer}
+use Rattle.startup.specs.Keyings.{InitiatorKeying, ResponderKeying, after_keying, after_opening, again_or_birth, born_session, change_answer, initiator_keying_in, keyed_reading, keyed_with, keying_of, opened_as, opened_reading, opened_with, repeated_session, responder_keying_in, session_answer}
 use Rattle.glare_core.specs.declared.facts.Joined.{Joined}
 use Rattle.rtmfp_packet.specs.declared.head.PacketFault.{PacketFault}
 use Rattle.rtmfp_packet.specs.declared.head.PacketHead.{PacketHead}
@@ -48,21 +50,22 @@ use Rattle.mobility.specs.declared.pending.Test.{Test}
 use Rattle.endpoint_model.specs.declared.walk.Walk.{Walk}
 use Rattle.rtmfp_packet.specs.Whole.{Whole}
 use Rattle.glare_core.specs.declared.facts.Why.{Why}
-use Rattle.startup.specs.declared.cause.Cause.TheVariants.{WrongPlace}
-use Rattle.endpoint_model.specs.FlowChunks.{acked, acks_body, flow_cause, flow_taken, flow_taken_by, taking_cause, told_cause, unowed}
+use Rattle.rtmfp_base.specs.declared.cause.Cause.TheVariants.{WrongPlace}
+use Rattle.endpoint_model.specs.FlowChunks.{acked, acks_body, flow_cause, flow_taken, flow_taken_by, taking_cause, unowed}
 use Rattle.mobility.specs.Tests.{address_for, after_reply, after_seen, asks}
 use Rattle.startup.specs.Attempts.{after_end_of, after_begin, after_confirm, after_end, begin_spread, end_fact, end_of, has_number, hello_spread, keying_signed, lowest, session_in}
 use Rattle.startup.specs.Due.{repeat_of, repeat_signed}
 use Rattle.session_core.specs.Closing.{first_due as session_first_due, after_due as after_due_in, asked_to_close, closed_near, is_held, is_near_close, kept_alive, needs_keepalive}
 use Rattle.endpoint_model.specs.FlowTimes.{end_due, abandon_due, all_late, data_body, row_due, row_due_done}
-use Rattle.endpoint_model.specs.OnFlows.{call_refusal, call_refusal_by, flow_called, flow_called_by, flow_refused, flows_done}
+use Rattle.endpoint_model.specs.OnFlows.{call_refusal, call_refusal_by, flow_called, flow_called_by, flows_done}
 use Rattle.endpoint_laws.proofs.ByKind.{chunk_by_kind}
 use Rattle.rtmfp_chunks.specs.Writing.{chunk_bytes}
 use Rattle.endpoint_model.specs.Causes.{initiator_keying_cause, takes}
 use Rattle.rtmfp_chunks.specs.FieldReading.{chunk_reading}
 use Rattle.endpoint_model.specs.Keying.{chunks_of}
 use Rattle.endpoint_model.specs.InSessions.{close_taken_by, closing, closing_by, dropped, ended_as, held_row, if_held, kept_alive_by, lingering, moved_by, moved_where, sent_home, sent_home_by, session_due_done, tested as tested_at, tested_by, told_in_session}
-use Rattle.glare_core.specs.Calls.{where_true, confirmed_fact, ended_fact, first_that_stands, started_fact, way_made}
+use Rattle.rtmfp_base.specs.Reasons.{where_true, first_that_stands}
+use Rattle.glare_core.specs.Calls.{confirmed_fact, ended_fact, started_fact, way_made}
 use Rattle.cookies.specs.Cookie.{cookie_test}
 use Rattle.rtmfp_data_chunks.specs.Reader.{data_reading}
 use Rattle.session_flows.specs.Timing.{overdue_in}
@@ -77,9 +80,9 @@ use Rattle.sha2.specs.Sha256.{sha256}
 use Rattle.rtmfp_data_chunks.proofs.Fitting.{small_next, what_is_read_fits}
 use Rattle.endpoint_laws.proofs.Small.{FlowThing, GoesOn, Called, Came, Acked, Unowed, Late, Overdue, Packed, on_flows, birth, stated, MayBe, IsNoChunk, Any, Sends, Quiet, Timed, All, Begins, Enters}
 use Rattle.startup.specs.Due.{repeated}
-use Rattle.startup.specs.Attempts.{with_attempt}
+use Rattle.startup.specs.Attempts.{with_attempt, without_attempt_by}
 use Rattle.endpoint_laws.proofs.Walks.{Steps, tick_walked, acked_walked, unowed_walked, tick_all_walked}
-use Rattle.endpoint_laws.proofs.Kin.{IsKin, kin_ended, kin_confirm, kin_end, kin_rhello, kin_redirect, kin_change, kin_keying}
+use Rattle.endpoint_laws.proofs.Kin.{IsKin, kin_confirm, kin_end, kin_rhello, kin_redirect, kin_change, kin_keying}
 
 -- what an answer carries in sessions
 abbrev pub Carries : (List ℕ → Type 0) → Reply → Type 0
@@ -223,9 +226,12 @@ module _ {Body : List ℕ → Type 0} {P : State → Did → Type 0} (q : Quiet 
   pub cancelling_made : (s : State) (n : ℕ) → P s (cancelling s n)
   cancelling_made s n = by (lowest (has_number n) s.startup.attempts)
     where
+      by_aim : (near : ℕ) (aim : Aim) → P s (record { state = with_startup s (without_attempt_by s.startup near (end_of_aim near Cancelled aim)); entries = fact_entries (end_of_aim near Cancelled aim) })
+      by_aim near (AtPeer peer n) = q.ends s _ peer near Cancelled (record { own = refl; secret = refl })
+
       by : (o : Option (ℕ × AttemptState)) → P s (record { state = with_startup s (after_end_of s.startup o Cancelled); entries = fact_entries (end_of o Cancelled) })
       by None = q.sends.steps.does_nothing s
-      by (Some e) = q.ends s _ e.1.peer e.0 Cancelled (kin_ended s.startup (Some e) Cancelled)
+      by (Some e) = by_aim e.0 e.1.aim
 
   -- ---- the ends of sessions
 
@@ -286,8 +292,8 @@ module _ {Body : List ℕ → Type 0} {P : State → Did → Type 0} (q : Quiet 
       (q.sends.steps.does_nothing s)
 
   pub tested_made : (s : State) (place : Place) (from : AddressParts) (draws : Draws) → Body (chunk_bytes (Ping draws.token)) → P s (tested_at s place from draws)
-  tested_made s Startup from draws carries = q.sends.steps.does_nothing s
-  tested_made s (Attempt near) from draws carries = q.sends.steps.does_nothing s
+  tested_made s (Startup generation) from draws carries = q.sends.steps.does_nothing s
+  tested_made s (Attempt near generation) from draws carries = q.sends.steps.does_nothing s
   tested_made s (Session near) from draws carries = tested_by_made s near from draws.token carries (held_row s near) refl
 
   confirming_by_made : (s : State) (near : ℕ) (o : Option Row) → get s.sessions near ≡ o → P s (confirming_by s near o)
@@ -301,8 +307,8 @@ module _ {Body : List ℕ → Type 0} {P : State → Did → Type 0} (q : Quiet 
       (q.sends.steps.does_nothing s)
 
   pub confirming_made : (s : State) (place : Place) → P s (confirming s place)
-  confirming_made s Startup = q.sends.steps.does_nothing s
-  confirming_made s (Attempt near) = q.sends.steps.does_nothing s
+  confirming_made s (Startup generation) = q.sends.steps.does_nothing s
+  confirming_made s (Attempt near generation) = q.sends.steps.does_nothing s
   confirming_made s (Session near) = confirming_by_made s near (get s.sessions near) refl
 
   -- ---- time
@@ -325,14 +331,6 @@ module _ {Body : List ℕ → Type 0} {P : State → Did → Type 0} (q : Quiet 
       and_home_made q.sends s near (chunk_bytes CloseChunk) (nothing (with_row s near new)) (q.goes_on s near row new is (record { descends = record { same = refl; opening = λ e. (e, refl) }; flows = refl })) q.close
 
 -- ---- flows
-
-pub none_told : (o : Option FlowCause) → option_map told_cause o ≡ None → o ≡ None
-none_told None e = refl
-none_told (Some cause) e = absurd (cc)
-
-none_refused : (o : Option FlowRefusal) → option_map flow_refused o ≡ None → o ≡ None
-none_refused None e = refl
-none_refused (Some refusal) e = absurd (cc)
 
 -- a message that is due to be abandoned is the first that is overdue
 abandon_is : (a : Option SessionDue) (b : Option (ℕ × ℕ)) (c d : Bool) (flow seq : ℕ) → first_that_stands (end_due a ∷ abandon_due b ∷ where_true c Data ∷ where_true d Keepalive ∷ []) ≡ Some (Abandon flow seq) → b ≡ Some (flow, seq)
@@ -364,7 +362,7 @@ module _ {Body : List ℕ → Type 0} {P : State → Did → Type 0} (k : Timed 
   pub tick_made : (s : State) → P s (tick_once s)
   tick_made s = tick_walked (P s) s (record {
     none = k.quiet.sends.steps.does_nothing s;
-    ends = λ e there over. k.quiet.ends s _ e.1.peer e.0 Expired (record { own = refl; secret = refl });
+    ends = λ near a peer n aims there over. k.quiet.ends s _ peer near Expired (record { own = refl; secret = refl });
     repeats = λ e there. (let startup : StartupState = with_attempt s.startup e.0 (repeated e.1 s.moment) in
         let t : State = with_startup s startup in
         k.quiet.sends.steps.and_then s (nothing t) (due_done t (repeat_of s.startup e.0 e.1)) (k.quiet.attempts s startup (record { own = refl; secret = refl })) (repeated_made k.quiet t e.0 e.1 _ _ e.1.stage));
@@ -400,7 +398,7 @@ CallsDo P = (s : State) (near : ℕ) (row : Row) (call : FlowCall) → get s.ses
 module _ (P : State → Did → Type 0) (calls : CallsDo P) where
   called_by_made : (s : State) (near : ℕ) (c : FlowCall) (o : Option Row) → held_row s near ≡ o → call_refusal_by c o ≡ None → P s (flow_called_by s near c o)
   called_by_made s near c None is none = absurd (cc)
-  called_by_made s near c (Some row) is none = calls s near row c (held_is_there (get s.sessions near) row is) (none_refused (flow_refusal row.flows c) none)
+  called_by_made s near c (Some row) is none = calls s near row c (held_is_there (get s.sessions near) row is) none
 
   call_made : (s : State) (near : ℕ) (c : FlowCall) → call_refusal s near c ≡ None → P s (flow_called s near c)
   call_made s near c none = called_by_made s near c (held_row s near) refl none
@@ -411,7 +409,7 @@ module _ {Body : List ℕ → Type 0} {P : State → Did → Type 0} (a : All Bo
 
   taken_by_made : (s : State) (near : ℕ) (chunk : DataChunk) → FitsIn chunk → (o : Option Row) → get s.sessions near ≡ o → taking_cause o chunk ≡ None → P s (flow_taken_by s near chunk o)
   taken_by_made s near chunk fits None is none = absurd (cc)
-  taken_by_made s near chunk fits (Some row) is none = a.takes s near row chunk is fits (none_told (flows_cause row.session row.flows chunk) none)
+  taken_by_made s near chunk fits (Some row) is none = a.takes s near row chunk is fits none
 
   flow_taken_made : (s : State) (near : ℕ) (read : Result DataChunk DataFault) → ((chunk : DataChunk) → read ≡ Ok chunk → FitsIn chunk) → flow_cause (get s.sessions near) read ≡ None → P s (flow_taken s near read)
   flow_taken_made s near (Ok chunk) fits none = taken_by_made s near chunk (fits chunk refl) (get s.sessions near) refl none
@@ -476,12 +474,15 @@ module _ {Body : List ℕ → Type 0} {Q P : State → Did → Type 0} (q : Quie
       b.steps.and_then s (nothing t) _ (b.quiet s (nothing t) (q.attempts s t.startup (kin_keying s.startup payload from s.moment (free_from s draws.word) draws.nonce)))
       (keyed_made t s.startup from s.moment (free_from s draws.word) draws.nonce (initiator_keying_in payload))
 
-  opened_made : (s : State) (near : ℕ) (from : AddressParts) (o : Option AttemptState) (r : Result ResponderKeying Cause) → P s (opening_done s near from (opened_reading near o r))
-  opened_made s near from (Some e) (Ok keying) =
-      let fact : Fact = opened_with near keying e in
+  opened_as_made : (s : State) (near : ℕ) (from : AddressParts) (keying : ResponderKeying) (ni : List ℕ) (aim : Aim) → P s (opening_done s near from (opened_as near keying ni aim))
+  opened_as_made s near from keying ni (AtPeer peer n) =
+      let fact : Fact = opened_with near keying peer n ni in
       let t : State = with_opened (with_startup s (after_opening s.startup near fact)) fact from in
       b.steps.and_then s (record { state = t; entries = FactEntry fact ∷ [] }) (sent_in_session t near from (chunk_bytes (Ping []))) (b.opens s (after_opening s.startup near fact) _ from (record { own = refl; secret = refl }))
       (b.quiet t _ (in_session_made q.sends t near from (chunk_bytes (Ping [])) q.empty_ping))
+
+  opened_made : (s : State) (near : ℕ) (from : AddressParts) (o : Option AttemptState) (r : Result ResponderKeying Cause) → P s (opening_done s near from (opened_reading near o r))
+  opened_made s near from (Some e) (Ok keying) = opened_as_made s near from keying e.ni e.aim
   opened_made s near from (Some e) (Err cause) = b.steps.does_nothing s
   opened_made s near from None r = b.steps.does_nothing s
 
@@ -497,8 +498,8 @@ left_by (Admitted s place packet) = s
 
 module _ {P : State → Did → Type 0} (steps : Steps P) (e : Enters P) where
   counted_made : (s : State) (place : Place) (part : List ℕ) → P s (nothing (counted_at s place part))
-  counted_made s Startup part = steps.does_nothing s
-  counted_made s (Attempt near) part = steps.does_nothing s
+  counted_made s (Startup generation) part = steps.does_nothing s
+  counted_made s (Attempt near generation) part = steps.does_nothing s
   counted_made s (Session near) part = by (get s.sessions near) refl
     where
       by : (o : Option Row) → get s.sessions near ≡ o → P s (nothing (counted_by s near part o))
@@ -506,8 +507,8 @@ module _ {P : State → Did → Type 0} (steps : Steps P) (e : Enters P) where
       by (Some row) is = e.counts s near row _ is
 
   timed_made : (s : State) (place : Place) (head : PacketHead) → P s (nothing (timed_at s place head))
-  timed_made s Startup head = steps.does_nothing s
-  timed_made s (Attempt near) head = steps.does_nothing s
+  timed_made s (Startup generation) head = steps.does_nothing s
+  timed_made s (Attempt near generation) head = steps.does_nothing s
   timed_made s (Session near) head = by (get s.sessions near) refl
     where
       by : (o : Option Row) → get s.sessions near ≡ o → P s (nothing (timed_by s near head o))

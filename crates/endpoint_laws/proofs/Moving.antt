@@ -10,6 +10,9 @@ use Rattle.glare_core.specs.Ledger.{Ledger, PeerRow, row_in, row_or_blank, row_a
 use Rattle.glare_core.proofs.Maps.{len_inserted}
 use Rattle.rtmfp_base.proofs.Maps.{get_inserted, get_beside, len_known}
 use Rattle.introducer.specs.Directory.{AddressRows}
+use Rattle.glare_core.specs.declared.facts.Held.TheVariants.{Opening}
+use Rattle.startup.specs.declared.aim.Aim.{Aim}
+use Rattle.startup.specs.declared.aim.Aim.TheVariants.{AtPeer}
 use Rattle.startup.specs.State.{AttemptState}
 use Rattle.startup.specs.Attempts.{with_attempt}
 use Rattle.session_core.specs.Session.{SessionState}
@@ -25,7 +28,7 @@ use Rattle.endpoint_laws.proofs.Matching.{Found, of_peer, Matches, changed_match
 use Rattle.glare_core.specs.Account.{StandsFor}
 use Rattle.endpoint_model.proofs.Members.{tested}
 use Rattle.endpoint_laws.proofs.Tied.{Tied, AreBy, by_later, closing_by, StageFits, IsClosed, IsClosedThing, thing_of, found_in}
-use Rattle.endpoint_laws.proofs.Agrees.{Agrees, IsOurs, IsGiven, IsAt, Fits, GoesOnBeside, ClosesAt, WasStarted, combined, thing_at, thing_here, thing_elsewhere, used_here, used_elsewhere, found_of_attempt, found_at, held_row_is, closing_row_is, none_closes, no_attempt, agrees_changed, agrees_of, tied_of}
+use Rattle.endpoint_laws.proofs.Agrees.{Agrees, IsOurs, IsGiven, IsAt, Fits, GoesOnBeside, ClosesAt, WasStarted, started_still, combined, thing_at, thing_here, thing_elsewhere, used_here, used_elsewhere, found_of_attempt, found_of_peer, found_at, held_row_is, closing_row_is, none_closes, no_attempt, agrees_changed, agrees_of, tied_of}
 
 -- ---- the ledger after a fact
 
@@ -179,6 +182,7 @@ pub record IsAlike (moment : ℕ) (old new : SessionState) : Type 0 where
   pub joined : new.joined ≡ old.joined
   pub own : new.own ≡ old.own
   pub secret : new.secret ≡ old.secret
+  pub generation : new.generation ≡ old.generation
   pub role : new.role ≡ old.role
   pub held : is_held new.stage ≡ is_held old.stage
   pub thing : is_held old.stage ≡ true → thing_of new.role new.stage new.joined ≡ thing_of old.role old.stage old.joined
@@ -186,7 +190,7 @@ pub record IsAlike (moment : ℕ) (old new : SessionState) : Type 0 where
   pub since : is_held old.stage ≡ false → (new.since ≡ old.since) ⊎ (new.since ≡ moment)
 
 pub alike_itself : (moment : ℕ) (session : SessionState) → IsAlike moment session session
-alike_itself moment session = record { joined = refl; own = refl; secret = refl; role = refl; held = refl; thing = λ e. refl; stage = λ f. f; since = λ e. inl refl }
+alike_itself moment session = record { joined = refl; own = refl; secret = refl; generation = refl; role = refl; held = refl; thing = λ e. refl; stage = λ f. f; since = λ e. inl refl }
 
 either_way : (b : Bool) → (b ≡ true) ⊎ (b ≡ false)
 either_way true = inl refl
@@ -220,6 +224,7 @@ ours_alike setup moment past near old new a are ours = record {
   id = ap (λ j. j.near) a.joined ∙ ours.id;
   own = a.own ∙ ours.own;
   secret = a.secret ∙ ours.secret;
+  generation = a.generation ∙ ours.generation;
   stage = a.stage ours.stage;
   closed = λ e. let before = sym a.held ∙ e in closed_alike moment past near old new a are before (ours.closed before);
 }
@@ -246,6 +251,11 @@ tied_session setup past s near old new tied is alike =
     (omega (arith, len_known s.sessions near new old is)) refl (ours_alike setup s.moment past near old.session new.session alike a.by_now (a.ours near old is))
     (closes_alike s.moment past near (get s.sessions near) old new (a.closing near) is alike)) tied.account
 
+-- what stands where an attempt is isn't closing
+attempt_is_open : (setup : Setup) (past : Past) (s : State) → Agrees setup past s → (near : ℕ) (old : AttemptState) (aim : Aim) → old.aim ≡ aim → get s.startup.attempts near ≡ Some old →
+    (thing : Held) (at : ℕ) → IsClosing near thing at past → ⊥
+attempt_is_open setup past s a near old (AtPeer peer n) aims is thing at c = none_closes setup past s a near peer (Opening n near old.ni) (found_of_peer s near old peer n is aims) thing at c
+
 -- an attempt is replaced by one with the same values
 pub tied_attempt : (setup : Setup) (past : Past) (s : State) (near : ℕ) (old new : AttemptState) → Tied setup past s → get s.startup.attempts near ≡ Some old →
     combined near (Some new) None ≡ combined near (Some old) None → (WasStarted past near old → WasStarted past near new) → Tied setup past (with_startup s (with_attempt s.startup near new))
@@ -260,7 +270,7 @@ tied_attempt setup past s near old new tied is same was =
       sessions = λ q other. refl;
     }) refl (same ∙ sym there)
     (sym (some_or (is_some (get s.startup.attempts near)) (is_some (get s.sessions near)) (inl (ap (λ (o : Option AttemptState). is_some o) is))))
-    (omega (arith, len_known s.startup.attempts near new old is)) refl (was (a.started near old is)) (λ thing at c. none_closes setup past s a near _ _ there thing at c)) tied.account
+    (omega (arith, len_known s.startup.attempts near new old is)) refl (was (a.started near old is)) (λ thing at c. attempt_is_open setup past s a near old old.aim refl is thing at c)) tied.account
 
 -- more was done that states no fact, and ends no closing
 pub tied_more : (setup : Setup) (past : Past) (s : State) (x : Stamped) → x.moment ≤ s.moment → fact_done x.what ≡ None → closed_done x.what ≡ None → Tied setup past s → Tied setup (x ∷ past) s
@@ -283,12 +293,13 @@ tied_more setup past s x in_time no_fact no_closed t =
             id = o.id;
             own = o.own;
             secret = o.secret;
+            generation = o.generation;
             stage = o.stage;
             closed = λ c. let d = o.closed c in record { thing = d.thing; at = d.at; was = d.was; closing = on near d.thing d.at d.closing; since = d.since };
           };
       closing = λ near thing at c. a.closing near thing at (back near thing at c);
       apart = a.apart;
-      started = λ near b e. inr (a.started near b e);
+      started = λ near b e. started_still past (x ∷ past) b.start near b.ni b.aim (λ y was. inr was) (a.started near b e);
       ids = subst P (sym ids) a.ids;
       by_now = (in_time, a.by_now);
       rows = a.rows;

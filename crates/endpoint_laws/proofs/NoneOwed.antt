@@ -56,7 +56,7 @@ use Rattle.endpoint_laws.proofs.EachRow.{IsKeptAlone, Each, Keeps, put, each_qui
 use Rattle.endpoint_laws.proofs.EachRow.{each_calls, each_begins, each_enters, after_every_log}
 use Rattle.endpoint_laws.proofs.FlowsWithin.{sound_is_kept}
 use Rattle.endpoint_laws.proofs.Made.{Given, admission_made, answers_by, acked_made, carries_any}
-use Rattle.endpoint_laws.proofs.Made.{confirming_made, initiator_made, left_by, none_told}
+use Rattle.endpoint_laws.proofs.Made.{confirming_made, initiator_made, left_by}
 use Rattle.endpoint_laws.proofs.Made.{read_made, responder_made, tested_made, told_made}
 use Rattle.endpoint_laws.proofs.Made.{unowed_made}
 use Rattle.endpoint_laws.proofs.Small.{Any}
@@ -65,8 +65,8 @@ use Rattle.endpoint_laws.proofs.Small.{Any}
 
 -- The session is that of the place.
 abbrev IsOf : Place → ℕ → Type 0
-IsOf Startup near = ⊥
-IsOf (Attempt id) near = ⊥
+IsOf (Startup generation) near = ⊥
+IsOf (Attempt id generation) near = ⊥
 IsOf (Session id) near = near ≡ id
 
 -- No ack is owed but in the session of the place, and all that may be owed there go into 256
@@ -78,7 +78,7 @@ record IsPaidBut (place : Place) (near : ℕ) (f : FlowsState) : Type 0 where
 
 -- no ack is owed in any
 abbrev IsPaid : ℕ → FlowsState → Type 0
-IsPaid = IsPaidBut Startup
+IsPaid = IsPaidBut (Startup 0)
 
 but : (place : Place) (s : State) → Each IsPaid s → Each (IsPaidBut place) s
 but place s each near row is =
@@ -143,7 +143,7 @@ module _ (place : Place) where
       let h = each near row is in
       put (IsPaidBut place) s.sessions near _ (record {
         sound = sound_is_kept.chunk row.session row.flows chunk fits
-            (none_told (flows_cause row.session row.flows chunk) none) h.sound;
+            none h.sound;
         short = chunk_short row.flows chunk fits h.short;
         paid = λ other. absurd (other own);
       }) each
@@ -158,8 +158,8 @@ module _ (place : Place) where
 -- chunks of flows come in sessions alone
 own_of : (place : Place) (kind : ℕ) → is_of_flows kind ≡ true → takes place kind ≡ true →
     IsOf place (sid_at place)
-own_of Startup kind flows taken = grind (arith, nat_tests)
-own_of (Attempt near) kind flows taken = grind (arith, nat_tests)
+own_of (Startup generation) kind flows taken = grind (arith, nat_tests)
+own_of (Attempt near generation) kind flows taken = grind (arith, nat_tests)
 own_of (Session near) kind flows taken = refl
 
 module _ (place : Place) (from : AddressParts) (draws : Draws) where
@@ -289,8 +289,10 @@ module _ (s : State) where
 
   acked_pays : (place : Place) → Each (IsPaidBut place) s →
       Each IsPaid (acked most_acks s place).state
-  acked_pays Startup each near row is = each near row is
-  acked_pays (Attempt id) each near row is =
+  acked_pays (Startup generation) each near row is =
+      let h = each near row is in
+      record { sound = h.sound; short = h.short; paid = h.paid }
+  acked_pays (Attempt id generation) each near row is =
       let h = each near row is in
       record { sound = h.sound; short = h.short; paid = h.paid }
   acked_pays (Session id) each near row is =
@@ -314,8 +316,10 @@ module _ (s : State) where
       ap owes_by (get_inserted s.sessions id _) ∙ none_paid row.flows.taking
 
   unowed_pays : (place : Place) → Each (IsPaidBut place) s → Each IsPaid (unowed s place)
-  unowed_pays Startup each near row is = each near row is
-  unowed_pays (Attempt id) each near row is =
+  unowed_pays (Startup generation) each near row is =
+      let h = each near row is in
+      record { sound = h.sound; short = h.short; paid = h.paid }
+  unowed_pays (Attempt id generation) each near row is =
       let h = each near row is in
       record { sound = h.sound; short = h.short; paid = h.paid }
   unowed_pays (Session id) each near row is =
@@ -341,7 +345,7 @@ walked_stays : (s : State) (place : Place) (from : AddressParts) (draws : Draws)
 walked_stays s place from draws cs each =
     let t : State = (confirming s place).state in
     chunks_stay place from draws outset t cs tt (but place t (confirming_made
-    (each_quiet IsPaid (kept Startup)) s place each))
+    (each_quiet IsPaid (kept (Startup 0))) s place each))
 
 received_pays : (s : State) (from : AddressParts) (draws : Draws) (a : Admission) →
     Each IsPaid (left_by a) → Each IsPaid (received from draws a).state
@@ -349,7 +353,7 @@ received_pays s from draws (Rejected t cause) each = each
 received_pays s from draws (Admitted t place packet) each =
     let u : State = (chunks_did place from draws outset (confirming t place).state
     (chunks_of packet)).state in
-    tested_made (each_quiet IsPaid (kept Startup)) (acked most_acks u place).state place from draws
+    tested_made (each_quiet IsPaid (kept (Startup 0))) (acked most_acks u place).state place from draws
     tt (acked_pays u place (walked_stays t place from draws (chunks_of packet) each))
 
 part_pays : (s : State) (from : AddressParts) (draws : Draws) (a : Admission) (count acks : ℕ) →
@@ -374,7 +378,7 @@ stopped_pays s from draws a stop acks each entered = by stop.taken
 
 given_pays : Given (Keeps IsPaid)
 given_pays =
-    let k = kept Startup in
+    let k = kept (Startup 0) in
     let q = each_quiet IsPaid k in
     record {
       whole = λ s from draws datagram each. received_pays s from draws (admission s datagram)
@@ -390,7 +394,7 @@ pub no_ack_is_owed : NoAckIsOwed
 no_ack_is_owed setup log s near stands = by (get s.sessions near) refl
   where
     k : IsKeptAlone IsPaid
-    k = kept Startup
+    k = kept (Startup 0)
 
     each : Each IsPaid s
     each = after_every_log IsPaid (answers_by (each_timed IsPaid k) (each_calls IsPaid k)

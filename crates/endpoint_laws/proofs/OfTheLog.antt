@@ -8,6 +8,9 @@ use Rattle.glare_core.specs.Standing.{held}
 use Rattle.glare_core.specs.Things.{near_of}
 use Rattle.glare_core.specs.Ledger.{held_with}
 use Rattle.glare_core.proofs.Accounts.{reads_held, reads_floor, reads_started, reads_knows, reads_rows}
+use Rattle.startup.specs.declared.aim.Aim.{Aim}
+use Rattle.startup.specs.declared.aim.Aim.TheVariants.{AtPeer}
+use Rattle.startup.specs.Aims.{IsHeldAs, peer_of_aim}
 use Rattle.startup.specs.State.{AttemptState, peer_of_attempt}
 use Rattle.session_core.specs.declared.stage.Role.{Role}
 use Rattle.session_core.specs.declared.stage.Role.TheVariants.{Initiator, Responder}
@@ -17,7 +20,7 @@ use Rattle.endpoint_model.specs.declared.row.Row.{Row}
 use Rattle.endpoint_model.specs.Event.{Setup}
 use Rattle.endpoint_laws.specs.Past.{Past, facts_of, past_of, last_moment}
 use Rattle.endpoint_model.specs.State.{State}
-use Rattle.endpoint_laws.specs.OfTheLog.{IsThing, IsClosingStage, AttemptIsThere, SessionStands, SessionIsThere, ClosingIsThere, IsOfTheLog, TheStateIsOfTheLog}
+use Rattle.endpoint_laws.specs.OfTheLog.{IsHeldByLog, IsThing, IsClosingStage, AttemptIsThere, SessionStands, SessionIsThere, ClosingIsThere, IsOfTheLog, TheStateIsOfTheLog}
 use Rattle.endpoint_laws.proofs.Tied.{Tied, StageFits, IsClosedThing, thing_of, found_in}
 use Rattle.endpoint_laws.proofs.Agrees.{found_row}
 use Rattle.endpoint_laws.proofs.Chunked.{either_way}
@@ -68,13 +71,22 @@ module _ (setup : Setup) (past : Past) (s : State) (tied : Tied setup past s) wh
   holds : (q : List ℕ) → held_with s.startup.ledger q ≡ held q (facts_of past)
   holds = reads_held 0 s.startup.ledger (facts_of past) tied.account
 
+  attempt_as : (peer : List ℕ) (n near : ℕ) (ni : List ℕ) (a : AttemptState) (aim : Aim) → a.aim ≡ aim → get s.startup.attempts near ≡ Some a → peer_of_aim aim ≡ Some peer →
+      held_with s.startup.ledger peer ≡ Some (AttemptHeld n near ni) → AttemptIsThere s peer n near ni
+  attempt_as peer n near ni a (AtPeer q m) aims e is thing =
+      let same : q ≡ peer = cc in
+      let held_is : held_with s.startup.ledger q ≡ Some (AttemptHeld m near a.ni) = subst (λ (aim : Aim). IsHeldAs s.startup.ledger near a.ni aim) aims (tied.sound.held near a e) in
+      let both : Some (AttemptHeld m near a.ni) ≡ Some (AttemptHeld n near ni) = sym held_is ∙ ap (held_with s.startup.ledger) same ∙ thing in
+      let number : m ≡ n = same_n m n near near a.ni ni both in
+      record { attempt = a; there = e; aim_is = aims ∙ (λ i. AtPeer (same i) (number i)); ni_is = same_ni m n near near a.ni ni both }
+
+  held_by_log : (near : ℕ) (ni : List ℕ) (aim : Aim) → IsHeldAs s.startup.ledger near ni aim → IsHeldByLog past near ni aim
+  held_by_log near ni (AtPeer peer n) is = sym (holds peer) ∙ is
+
   attempt_there : (peer : List ℕ) (n near : ℕ) (ni : List ℕ) (o : Option AttemptState) → get s.startup.attempts near ≡ o → peer_of_attempt o ≡ Some peer → held_with s.startup.ledger peer ≡ Some (AttemptHeld n near ni) →
       AttemptIsThere s peer n near ni
   attempt_there peer n near ni None e is thing = absurd (cc)
-  attempt_there peer n near ni (Some a) e is thing =
-      let same : a.peer ≡ peer = cc in
-      let both : Some (AttemptHeld a.n near a.ni) ≡ Some (AttemptHeld n near ni) = sym (tied.sound.held near a e) ∙ ap (held_with s.startup.ledger) same ∙ thing in
-      record { attempt = a; there = e; peer_is = same; n_is = same_n a.n n near near a.ni ni both; ni_is = same_ni a.n n near near a.ni ni both }
+  attempt_there peer n near ni (Some a) e is thing = attempt_as peer n near ni a a.aim refl e is thing
 
   session_there : (peer : List ℕ) (thing : Held) → found_in (get s.sessions (near_of thing)) ≡ Some (peer, thing) → SessionIsThere s thing
   session_there peer thing e =
@@ -105,7 +117,7 @@ module _ (setup : Setup) (past : Past) (s : State) (tied : Tied setup past s) wh
     moment = at;
     ids = tied.used;
     uses_are = tied.count;
-    attempts = λ near a e. record { is_held = sym (holds a.peer) ∙ tied.sound.held near a e; started = tied.started near a e };
+    attempts = λ near a e. record { is_held = held_by_log near a.ni a.aim (tied.sound.held near a e); started = tied.started near a e };
     attempts_there = λ peer n near ni e. let thing = holds peer ∙ e in attempt_there peer n near ni (get s.startup.attempts near) refl (tied.sound.there peer n near ni thing) thing;
     sessions = λ near x e. let ties = tied.sessions near x e in record { stands = stands near x e; id = ties.id; own = ties.own };
     sessions_there = λ peer thing e is. session_there peer thing (tied.there peer thing (holds peer ∙ e) is);

@@ -79,7 +79,7 @@ module _ (s : State) (near : ℕ) (old new : Row) (there : get s.sessions near �
   pub meets_unseen : (setup : Setup) (call : Call) (past : Past) → Sent setup past s → Meets setup s.moment call past changed
   meets_unseen setup call past sent = record {
     lines = outs_meet setup call s entries past are;
-    sent = sent_session_changed setup (onto s.moment entries past) s near old new (sent_unseen setup call s entries past are sent) there like.alike.joined like.alike.own like.alike.role like.sealed;
+    sent = sent_session_changed setup (onto s.moment entries past) s near old new (sent_unseen setup call s entries past are sent) there like.alike.joined like.alike.own like.alike.role like.alike.generation like.sealed;
   }
 
 -- ---- something that is done with the flows of a row

@@ -1,5 +1,5 @@
 -- The context in which a datagram opens: by what is kept it is the same as by what the end has stated.
-use Rattle.std.proofs.Common.{◌≡◌, ◌≢◌, ℕ, ◌≤◌, ◌==◌, List, [], length, drop, length-drop, nat_lt, Bool, true, false, ◌||◌, if◌then◌else◌, Option, Some, None, is_some, inl, inr, refl, sym, ap, subst, ◌∙◌, arith}
+use Rattle.std.proofs.Common.{◌≡◌, ◌≢◌, ℕ, ◌≤◌, ◌==◌, List, [], ◌∷◌, length, drop, length-drop, nat_lt, Bool, true, false, ◌||◌, if◌then◌else◌, Option, Some, None, is_some, inl, inr, refl, sym, ap, subst, ◌∙◌, arith}
 use Rattle.std.proofs.lemmas.Bool.Decides.{nat_tests}
 use Rattle.std.specs.FinMap.{get, contains_key}
 use Rattle.crypto_profile.specs.declared.keys.Context.{Context}
@@ -14,6 +14,8 @@ use Rattle.glare_core.specs.declared.facts.Fact.{Fact}
 use Rattle.glare_core.specs.declared.facts.Held.{Held}
 use Rattle.glare_core.specs.declared.facts.Held.TheVariants.{Opening as OpeningHeld}
 use Rattle.glare_core.proofs.Accounts.{reads_held}
+use Rattle.startup.specs.declared.aim.Aim.{Aim}
+use Rattle.startup.specs.declared.aim.Aim.TheVariants.{AtPeer}
 use Rattle.startup.specs.State.{AttemptState}
 use Rattle.session_core.specs.Session.{context_between, context_of}
 use Rattle.session_core.specs.Hearing.{opens_in as opens_in_session}
@@ -23,7 +25,8 @@ use Rattle.endpoint_model.specs.declared.place.Place.{Place}
 use Rattle.endpoint_model.specs.declared.place.Place.TheVariants.{Startup, Attempt, Session}
 use Rattle.endpoint_model.specs.Event.{Setup, Event, own_of}
 use Rattle.endpoint_laws.specs.Past.{Past, facts_of, IsClosing, past_of}
-use Rattle.endpoint_laws.specs.Contexts.{ContextOf, HeldUnder, StandsUnder, OpensUnder, inward}
+use Rattle.endpoint_laws.specs.Contexts.{ContextsOf, HeldUnder, OpensFirst, StandsUnder, inward}
+use Rattle.endpoint_laws.proofs.OneContext.{ContextOf, one_context, opens_first, the_context}
 use Rattle.endpoint_laws.specs.OfTheLog.{WasThing}
 use Rattle.session_core.specs.Closing.{is_held as is_held_stage}
 use Rattle.endpoint_model.specs.State.{State, is_used}
@@ -37,13 +40,13 @@ use Rattle.endpoint_laws.proofs.Tied.{Tied, IsClosedThing, thing_of}
 use Rattle.endpoint_laws.proofs.InSessions.{was_itself}
 use Rattle.endpoint_laws.proofs.SessionChunks.{was_inward}
 use Rattle.endpoint_laws.proofs.Chunked.{either_way}
-use Rattle.endpoint_laws.proofs.Agrees.{agrees_of, combined, thing_at, in_row, no_attempt, found_of_attempt, found_of_session}
+use Rattle.endpoint_laws.proofs.Agrees.{agrees_of, combined, thing_at, in_row, no_attempt, found_as, found_of_peer, found_of_session}
 use Rattle.endpoint_laws.proofs.Logged.{tied_to_log}
 
 -- ---- contexts
 
-unrefused : (o : Option SealFault) (c : Context) → startup_unless o ≡ Some c → (o ≡ None) × (StartupContext ≡ c)
-unrefused None c e = (refl, let same : StartupContext ≡ c = cc in same)
+unrefused : (o : Option SealFault) (c : Context) → startup_unless 0 o ≡ Some c → (o ≡ None) × ((StartupContext 0) ≡ c)
+unrefused None c e = (refl, let same : (StartupContext 0) ≡ c = cc in same)
 unrefused (Some fault) c e = absurd (cc)
 
 chosen : (b : Bool) (own c : Context) → ◌≡◌ {A = Option Context} (if b then Some own else None) (Some c) → (b ≡ true) × (own ≡ c)
@@ -61,9 +64,9 @@ or_true : (a : Bool) → (a || true) ≡ true
 or_true true = refl
 or_true false = refl
 
-place_zero : (s : State) (sid : ℕ) → (sid == 0) ≡ true → place_of s sid ≡ Some Startup
+place_zero : (s : State) (sid : ℕ) → (sid == 0) ≡ true → place_of s sid ≡ Some (Startup 0)
 place_zero s sid zero =
-    ap (λ (b : Bool). if b then Some Startup else if contains_key s.startup.attempts sid then Some (Attempt sid) else if contains_key s.sessions sid then Some (Session sid) else None) zero
+    ap (λ (b : Bool). if b then Some (Startup 0) else if contains_key s.startup.attempts sid then Some (Attempt sid 0) else if contains_key s.sessions sid then Some (Session sid) else None) zero
 
 module _ (setup : Setup) (past : Past) (s : State) (tied : Tied setup past s) (part : List ℕ) where
   abbrev facts : List Fact
@@ -85,17 +88,18 @@ module _ (setup : Setup) (past : Past) (s : State) (tied : Tied setup past s) (p
 
   -- ---- what opens in the context of its session ID is found
 
-  startup_found : (sid : ℕ) (plain : List ℕ) → Opens setup.secret StartupContext sid part plain → context_in_startup s sid part ≡ Some StartupContext
+  startup_found : (sid : ℕ) (plain : List ℕ) → Opens setup.secret (StartupContext 0) sid part plain → context_in_startup s 0 sid part ≡ Some (StartupContext 0)
   startup_found sid plain opens =
-      let none : open_refusal (keys_of setup.secret StartupContext) sid part ≡ None = ((opens_by_its_tag setup.secret StartupContext sid part plain).0 opens).0 in
-      ap (λ (secret : List ℕ). startup_unless (open_refusal (keys_of secret StartupContext) sid part)) tied.secret ∙ ap startup_unless none
+      let none : open_refusal (keys_of setup.secret (StartupContext 0)) sid part ≡ None = ((opens_by_its_tag setup.secret (StartupContext 0) sid part plain).0 opens).0 in
+      ap (λ (secret : List ℕ). startup_unless 0 (open_refusal (keys_of secret (StartupContext 0)) sid part)) tied.secret ∙ ap (startup_unless 0) none
 
   session_found : (sid : ℕ) (row : Row) (thing : Held) (plain : List ℕ) → get s.sessions sid ≡ Some row → WasThing row.session.role row.session.joined thing →
       Opens setup.secret (inward own thing) sid part plain → context_in_session (get s.sessions sid) part ≡ Some (inward own thing)
   session_found sid row thing plain at was opens =
       let ours = tied.sessions sid row at in
       let context : context_of row.session false ≡ inward own thing =
-      ap (λ (o : List ℕ). context_between row.session.joined o row.session.role false) ours.own ∙ was_inward own row.session.role row.session.joined thing was in
+      ap (λ (g : ℕ). context_between g row.session.joined row.session.own row.session.role false) ours.generation
+      ∙ ap (λ (o : List ℕ). context_between 0 row.session.joined o row.session.role false) ours.own ∙ was_inward own row.session.role row.session.joined thing was in
       let of_session : Opens row.session.secret (context_of row.session false) row.session.joined.near part plain =
       subst (λ (secret : List ℕ). Opens secret (context_of row.session false) row.session.joined.near part plain) (sym ours.secret)
       (subst (λ (c : Context). Opens setup.secret c row.session.joined.near part plain) (sym context)
@@ -105,13 +109,15 @@ module _ (setup : Setup) (past : Past) (s : State) (tied : Tied setup past s) (p
       ∙ ap (λ (b : Bool). if b then Some (context_of row.session false) else None) is
       ∙ ap (λ (c : Context). Some c) context
 
+  startup_context : (sid : ℕ) (ni : List ℕ) (aim : Aim) (peer : List ℕ) (thing : Held) → found_as sid ni aim ≡ Some (peer, thing) → (StartupContext 0) ≡ inward own thing
+  startup_context sid ni (AtPeer q n) peer thing is = let same : (q, OpeningHeld n sid ni) ≡ (peer, thing) = cc in ap (λ (x : List ℕ × Held). inward own x.1) same
+
   thing_found : (sid : ℕ) (oa : Option AttemptState) (os : Option Row) (peer : List ℕ) (thing : Held) (plain : List ℕ) → sid ≢ 0 →
       get s.startup.attempts sid ≡ oa → get s.sessions sid ≡ os → combined sid oa os ≡ Some (peer, thing) → Opens setup.secret (inward own thing) sid part plain →
       context_found s (place_of s sid) part ≡ Some (inward own thing)
   thing_found sid (Some a) os peer thing plain other ea es is opens =
-      let same : (a.peer, OpeningHeld a.n sid a.ni) ≡ (peer, thing) = cc in
-      let context : StartupContext ≡ inward own thing = ap (λ (x : List ℕ × Held). inward own x.1) same in
-      let place : place_of s sid ≡ Some (Attempt sid) = place_by s sid true (contains_key s.sessions sid) other (ap is_some ea) refl in
+      let context : (StartupContext 0) ≡ inward own thing = startup_context sid a.ni a.aim peer thing is in
+      let place : place_of s sid ≡ Some (Attempt sid 0) = place_by s sid true (contains_key s.sessions sid) other (ap is_some ea) refl in
       ap (λ (p : Option Place). context_found s p part) place
       ∙ startup_found sid plain (subst (λ (c : Context). Opens setup.secret c sid part plain) (sym context) opens)
       ∙ ap (λ (c : Context). Some c) context
@@ -156,7 +162,7 @@ module _ (setup : Setup) (past : Past) (s : State) (tied : Tied setup past s) (p
       context_found s (place_of s sid) part ≡ Some c
   found_at_zero sid c plain zero is (inl named) opens =
       ap (λ (p : Option Place). context_found s p part) (place_zero s sid is)
-      ∙ startup_found 0 plain (subst (λ (id : ℕ). Opens setup.secret StartupContext id part plain) zero (subst (λ (x : Context). Opens setup.secret x sid part plain) named.1 opens))
+      ∙ startup_found 0 plain (subst (λ (id : ℕ). Opens setup.secret (StartupContext 0) id part plain) zero (subst (λ (x : Context). Opens setup.secret x sid part plain) named.1 opens))
       ∙ ap (λ (x : Context). Some x) (sym named.1)
   found_at_zero sid c plain zero is (inr named) opens = absurd (stands named.1)
     where
@@ -188,14 +194,14 @@ module _ (setup : Setup) (past : Past) (s : State) (tied : Tied setup past s) (p
     pub plain : List ℕ
     pub opens : Opens setup.secret c sid part plain
 
-  opens_in_startup : (sid : ℕ) (c : Context) → context_in_startup s sid part ≡ Some c → (StartupContext ≡ c) × ((plain : List ℕ) × Opens setup.secret c sid part plain)
+  opens_in_startup : (sid : ℕ) (c : Context) → context_in_startup s 0 sid part ≡ Some c → ((StartupContext 0) ≡ c) × ((plain : List ℕ) × Opens setup.secret c sid part plain)
   opens_in_startup sid c e =
-      let both = unrefused (open_refusal (startup_keys s) sid part) c e in
-      let plain : List ℕ = plain_of (startup_keys s) part in
-      let opens : Opens s.startup.secret StartupContext sid part plain = (opens_by_its_tag s.startup.secret StartupContext sid part plain).1 (both.0, tt, refl) in
-      (both.1, (plain, subst (λ (x : Context). Opens setup.secret x sid part plain) both.1 (subst (λ (secret : List ℕ). Opens secret StartupContext sid part plain) tied.secret opens)))
+      let both = unrefused (open_refusal (startup_keys s 0) sid part) c e in
+      let plain : List ℕ = plain_of (startup_keys s 0) part in
+      let opens : Opens s.startup.secret (StartupContext 0) sid part plain = (opens_by_its_tag s.startup.secret (StartupContext 0) sid part plain).1 (both.0, tt, refl) in
+      (both.1, (plain, subst (λ (x : Context). Opens setup.secret x sid part plain) both.1 (subst (λ (secret : List ℕ). Opens secret (StartupContext 0) sid part plain) tied.secret opens)))
 
-  told_at_zero : (sid : ℕ) (c : Context) → sid ≡ 0 → context_in_startup s 0 part ≡ Some c → Named sid c
+  told_at_zero : (sid : ℕ) (c : Context) → sid ≡ 0 → context_in_startup s 0 0 part ≡ Some c → Named sid c
   told_at_zero sid c zero e =
       let found = opens_in_startup 0 c e in
       record {
@@ -210,7 +216,8 @@ module _ (setup : Setup) (past : Past) (s : State) (tied : Tied setup past s) (p
       let both = chosen (opens_in_session row.session part) (context_of row.session false) c e in
       let found = (opens_some_plain row.session part).0 both.0 in
       let own_context : (thing : Held) → WasThing row.session.role row.session.joined thing → c ≡ inward own thing =
-      λ thing was. sym both.1 ∙ ap (λ (o : List ℕ). context_between row.session.joined o row.session.role false) ours.own ∙ was_inward own row.session.role row.session.joined thing was in
+      λ thing was. sym both.1 ∙ ap (λ (g : ℕ). context_between g row.session.joined row.session.own row.session.role false) ours.generation
+      ∙ ap (λ (o : List ℕ). context_between 0 row.session.joined o row.session.role false) ours.own ∙ was_inward own row.session.role row.session.joined thing was in
       record {
         context = elim (either_way (is_held_stage row.session.stage)) [
           | inl e ↦
@@ -227,16 +234,19 @@ module _ (setup : Setup) (past : Past) (s : State) (tied : Tied setup past s) (p
             (subst (λ (secret : List ℕ). Opens secret (context_of row.session false) row.session.joined.near part found.0) ours.secret found.1));
       }
 
+  named_by : (sid : ℕ) (c : Context) (a : AttemptState) (aim : Aim) → a.aim ≡ aim → get s.startup.attempts sid ≡ Some a → (StartupContext 0) ≡ c → (plain : List ℕ) × Opens setup.secret c sid part plain → Named sid c
+  named_by sid c a (AtPeer peer n) aims ea is opens = record {
+    context = inr (OpeningHeld n sid a.ni, inl (is_held sid peer (OpeningHeld n sid a.ni) (found_of_peer s sid a peer n ea aims)), sym is);
+    plain = opens.0;
+    opens = opens.1;
+  }
+
   told_elsewhere : (sid : ℕ) (oa : Option AttemptState) (os : Option Row) (c : Context) → sid ≢ 0 → get s.startup.attempts sid ≡ oa → get s.sessions sid ≡ os →
       context_found s (place_of s sid) part ≡ Some c → Named sid c
   told_elsewhere sid (Some a) os c other ea es e =
-      let place : place_of s sid ≡ Some (Attempt sid) = place_by s sid true (contains_key s.sessions sid) other (ap is_some ea) refl in
+      let place : place_of s sid ≡ Some (Attempt sid 0) = place_by s sid true (contains_key s.sessions sid) other (ap is_some ea) refl in
       let found = opens_in_startup sid c (sym (ap (λ (p : Option Place). context_found s p part) place) ∙ e) in
-      record {
-        context = inr (OpeningHeld a.n sid a.ni, inl (is_held sid a.peer (OpeningHeld a.n sid a.ni) (found_of_attempt s sid a ea)), sym found.0);
-        plain = found.1.0;
-        opens = found.1.1;
-      }
+      named_by sid c a a.aim refl ea found.0 found.1
   told_elsewhere sid None (Some row) c other ea es e =
       let place : place_of s sid ≡ Some (Session sid) = place_by s sid false true other (ap is_some ea) (ap is_some es) in
       told_in_session sid row c ea es (sym (ap (λ (p : Option Place). context_found s p part) place ∙ ap (λ (o : Option Row). context_in_session o part) es) ∙ e)
@@ -263,22 +273,28 @@ whole secret datagram plain c sid opens =
     grind (arith, nat_tests, long)
 
 module _ (setup : Setup) (log : List Event) (s : State) (datagram : List ℕ) (is : IsSetup setup) (calls : AreCalls log) (stands : StandsFor setup log s) where
-  -- The context of the datagram's session ID in which it opens is what the end finds.
-  pub opens_in_found : (c : Context) (plain : List ℕ) → ContextOf (own_of setup) (past_of 0 [] log) (sid_of datagram) c →
-      OpensUnder setup.secret c (sid_of datagram) datagram plain → opens_in s datagram ≡ Some c
-  opens_in_found c plain named under =
-      ap (λ (b : Bool). if b then None else context_found s (place_of s (sid_of datagram)) (drop 4 datagram)) (whole setup.secret datagram plain c (sid_of datagram) under.opens)
-      ∙ context_is_found setup (past_of 0 [] log) s (tied_to_log setup log s is calls stands) (drop 4 datagram) (sid_of datagram) c plain named under.opens
+  -- The first of the contexts of the datagram's session ID in which it opens is what the end finds.
+  pub opens_in_found : (contexts : List Context) (c : Context) (plain : List ℕ) → ContextsOf (own_of setup) (past_of 0 [] log) (sid_of datagram) contexts →
+      OpensFirst setup.secret contexts (sid_of datagram) datagram c plain → opens_in s datagram ≡ Some c
+  opens_in_found contexts c plain named first =
+      let one = the_context setup.secret (own_of setup) (past_of 0 [] log) (sid_of datagram) contexts datagram c plain named first in
+      ap (λ (b : Bool). if b then None else context_found s (place_of s (sid_of datagram)) (drop 4 datagram)) (whole setup.secret datagram plain c (sid_of datagram) one.1.opens)
+      ∙ context_is_found setup (past_of 0 [] log) s (tied_to_log setup log s is calls stands) (drop 4 datagram) (sid_of datagram) c plain one.0 one.1.opens
 
   -- And what it finds is such a context.
   pub opens_in_told : (c : Context) → opens_in s datagram ≡ Some c → OpensAt setup (past_of 0 [] log) datagram c
   opens_in_told c e =
       let told = context_is_told setup (past_of 0 [] log) s (tied_to_log setup log s is calls stands) (drop 4 datagram) (sid_of datagram) c
       (long_if (nat_lt (length datagram) 36) (context_found s (place_of s (sid_of datagram)) (drop 4 datagram)) c e) in
-      record { named = told.context; plain = told.plain; opens = record { id = refl; opens = told.opens } }
+      record {
+        contexts = c ∷ [];
+        named = one_context (own_of setup) (past_of 0 [] log) (sid_of datagram) c told.context;
+        plain = told.plain;
+        opens = opens_first setup.secret (sid_of datagram) datagram c told.plain (record { id = refl; opens = told.opens });
+      }
 
   pub is_context_at : IsContextAt setup log datagram (opens_in s datagram)
-  is_context_at = record { opens = opens_in_told; all = λ c at. opens_in_found c at.plain at.named at.opens }
+  is_context_at = record { opens = opens_in_told; all = λ c at. opens_in_found at.contexts c at.plain at.named at.opens }
 
 -- whatever log the end stands for
 pub opens_by_the_log : (s : State) (datagram : List ℕ) (answer : Option Context) → answer ≡ opens_in s datagram → OpensByTheLog s datagram answer

@@ -10,7 +10,7 @@ use Rattle.endpoint_model.specs.declared.config.Draws.{Draws}
 use Rattle.endpoint_model.specs.declared.place.Place.{Place}
 use Rattle.endpoint_model.specs.declared.place.Place.TheVariants.{Startup, Attempt, Session}
 use Rattle.endpoint_model.specs.declared.row.Row.{Row}
-use Rattle.startup.specs.declared.cause.Cause.{Cause}
+use Rattle.rtmfp_base.specs.declared.cause.Cause.{Cause}
 use Rattle.endpoint_model.specs.declared.answers.Stopped.{Stopped as Stop}
 use Rattle.endpoint_model.specs.Event.{Setup, Call, Receive}
 use Rattle.endpoint_model.specs.Keying.{IsAmong, IsFirst, chunks_of}
@@ -100,13 +100,13 @@ tick_orderly : (setup : Setup) (call : Call) → IsSetup setup → IsTick call �
 tick_orderly setup call is is_tick s past tied sent well = record {
   goes = tick_walked (λ d. Goes setup call past s d) s (record {
     none = goes_nothing setup call s past tied;
-    ends = λ e there over. tick_end setup call is_tick s e there over past tied;
+    ends = λ near a peer n aims there over. tick_end setup call is_tick s near a peer n aims there over past tied;
     repeats = λ e there. tick_repeat setup call is_tick s e there past tied;
     row = λ near row due there due_is. goes_row_due setup call is_tick past s tied near row there (well near row there) due due_is;
   });
   meets = tick_walked (λ d. Meets setup s.moment call past d) s (record {
     none = meets_nothing setup s.moment call past s sent;
-    ends = λ e there over. meets_end setup past s sent tied s.moment call is.cert.short_named e;
+    ends = λ near a peer n aims there over. meets_end setup past s sent tied s.moment call is.cert.short_named near peer;
     repeats = λ e there. meets_repeat setup past s sent tied s.moment call is.cert.short_named e there;
     row = λ near row due there due_is. meets_row_due setup call is_tick past s tied near row there (well near row there) sent due;
   });
@@ -169,15 +169,15 @@ one_next packet walk before c rest next = record {
 -- a session's datagram still passes after a chunk
 passed_on : (place : Place) (from : AddressParts) (datagram : List ℕ) (draws : Draws) (packet : Whole) (walk : Walk) (past : Past) (s : State) (c : Placed) → AreSmall walk.cursor → PassedAt past place datagram packet s →
     PassedAt (onto s.moment (chunk_did place from draws walk s c).entries past) place datagram packet (chunk_did place from draws walk s c).state
-passed_on Startup from datagram draws packet walk past s c small passed = tt
-passed_on (Attempt near) from datagram draws packet walk past s c small passed = tt
+passed_on (Startup generation) from datagram draws packet walk past s c small passed = tt
+passed_on (Attempt near generation) from datagram draws packet walk past s c small passed = tt
 passed_on (Session near) from datagram draws packet walk past s c small passed = passed_chunk past near datagram packet from draws walk s c small passed
 
 -- and after it is confirmed
 passed_in : (place : Place) (datagram : List ℕ) (packet : Whole) (past : Past) (s : State) → PassedAt past place datagram packet s →
     PassedAt (onto s.moment (confirming s place).entries past) place datagram packet (confirming s place).state
-passed_in Startup datagram packet past s passed = tt
-passed_in (Attempt near) datagram packet past s passed = tt
+passed_in (Startup generation) datagram packet past s passed = tt
+passed_in (Attempt near generation) datagram packet past s passed = tt
 passed_in (Session near) datagram packet past s passed = passed_confirming past near datagram packet s passed
 
 module _ (setup : Setup) (is : IsSetup setup) (from : AddressParts) (datagram : List ℕ) (draws : Draws) (fits : IsCall (Receive from datagram draws)) (packet : Whole) where

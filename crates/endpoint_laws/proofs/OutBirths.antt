@@ -26,16 +26,19 @@ use Rattle.glare_core.specs.declared.answers.Heard.TheVariants.{Again as AgainHe
 use Rattle.glare_core.specs.Standing.{held, opened as opened_thing}
 use Rattle.glare_core.specs.Account.{AreLawful}
 use Rattle.glare_core.specs.Ledger.{Ledger, held_with}
-use Rattle.glare_core.specs.Calls.{where_true, first_that_stands, is_born_of, heard, heard_noted, way_made}
+use Rattle.rtmfp_base.specs.Reasons.{where_true, first_that_stands}
+use Rattle.glare_core.specs.Calls.{is_born_of, heard, heard_noted, way_made}
 use Rattle.glare_core.proofs.Accounts.{reads_held}
 use Rattle.glare_core.proofs.Tails.{same_end}
 use Rattle.startup.specs.declared.answer.Keyed.TheVariants.{Change, Birth}
-use Rattle.startup.specs.declared.cause.Cause.{Cause}
-use Rattle.startup.specs.declared.cause.Cause.TheVariants.{SecondKeying, BadSignature, Wide}
+use Rattle.rtmfp_base.specs.declared.cause.Cause.{Cause}
+use Rattle.rtmfp_base.specs.declared.cause.Cause.TheVariants.{SecondKeying, BadSignature, Wide}
 use Rattle.startup.specs.Packets.{initiator_part_in, is_signed}
+use Rattle.startup.specs.declared.aim.Aim.{Aim}
+use Rattle.startup.specs.declared.aim.Aim.TheVariants.{AtPeer}
 use Rattle.startup.specs.State.{AttemptState, Attempts, StartupState}
 use Rattle.startup.specs.Attempts.{wide}
-use Rattle.startup.specs.Keyings.{InitiatorKeying, ResponderKeying, initiator_keying_in, initiator_fields, with_initiator_part, cause_by, cookie_cause, named_cause, initiator_cause, keying_of, session_answer, change_answer, repeated_session, born_session, again_or_birth, keyed_with, keyed_reading, opening_id, without, after_again_or_birth, after_keyed_with, after_keyed_reading, opened_reading, after_opening, responder_keying_in}
+use Rattle.startup.specs.Keyings.{InitiatorKeying, ResponderKeying, initiator_keying_in, initiator_fields, with_initiator_part, cause_by, cookie_cause, named_cause, initiator_cause, keying_of, session_answer, change_answer, repeated_session, born_session, again_or_birth, keyed_with, keyed_reading, opening_id, without, after_again_or_birth, after_keyed_with, after_keyed_reading, opened_as, opened_reading, after_opening, responder_keying_in}
 use Rattle.session_core.specs.declared.stage.Role.TheVariants.{Initiator, Responder}
 use Rattle.session_core.specs.Session.{new_session}
 use Rattle.rtmfp_chunks.specs.Writing.{chunk_bytes}
@@ -280,13 +283,16 @@ module _ (setup : Setup) (now : ℕ) (call : Call) (past : Past) (s : State) (se
       } in
       let there : get state.sessions j.near ≡ Some new = get_inserted s.sessions j.near new in
       let ping : Meets setup now call after (sent_by state j.near from (chunk_bytes (Ping [])) (Some new)) =
-      meets_session setup now call after state kept j.near new there (may_send_held setup after new.session tied.secret tied.own (held_opened j (facts_of past) was)) from (chunk_bytes (Ping [])) (one_is_modest (Ping []) (omega arith) (omega arith) (omega arith)) in
+      meets_session setup now call after state kept j.near new there (may_send_held setup after new.session tied.secret refl tied.own (held_opened j (facts_of past) was)) from (chunk_bytes (Ping [])) (one_is_modest (Ping []) (omega arith) (omega arith) (omega arith)) in
       meets_after setup now call past (FactEntry (Opened j) ∷ []) (sent_in_session state j.near from (chunk_bytes (Ping []))) (tt, tt)
       (subst (λ (o : Option Row). Meets setup now call after (sent_by state j.near from (chunk_bytes (Ping [])) o)) (sym there) ping)
 
+  by_aim : (a : AttemptState) (keying : ResponderKeying) (aim : Aim) → a.aim ≡ aim → get s.startup.attempts near ≡ Some a → Meets setup now call past (opening_done s near from (opened_as near keying a.ni aim))
+  by_aim a keying (AtPeer peer n) aims is = meets_opened _ (attempt_held setup past s sent tied near a peer n aims is)
+
   by_attempt : (o : Option AttemptState) → get s.startup.attempts near ≡ o → (read : Result ResponderKeying Cause) → Meets setup now call past (opening_done s near from (opened_reading near o read))
   by_attempt None is read = meets_nothing setup now call past s sent
-  by_attempt (Some a) is (Ok keying) = meets_opened _ (attempt_held setup past s sent tied near a is)
+  by_attempt (Some a) is (Ok keying) = by_aim a keying a.aim refl is
   by_attempt (Some a) is (Err cause) = meets_nothing setup now call past s sent
 
   -- a keying of a responder

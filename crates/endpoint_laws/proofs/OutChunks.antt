@@ -36,8 +36,8 @@ module _ (setup : Setup) (from : AddressParts) (datagram : List ℕ) (draws : Dr
 
   module _ (place : Place) (passed : PassedAt past place datagram packet s) (small : draws.word < 2 ^ 32) (nonce : length draws.nonce ≡ 16) (walk : Walk) (c : Placed) (among : IsAmong c (chunks_of packet)) where
     told_at : (p : Place) → PassedAt past p datagram packet s → is_told_in_session c.kind ≡ true → takes p c.kind ≡ true → Meets setup s.moment call past (told_in_session s (sid_at p) from c)
-    told_at Startup passed told taken = absurd (not_at_startup c.kind (told_kinds c.kind told) taken)
-    told_at (Attempt near) passed told taken = absurd (not_at_attempt near c.kind (told_kinds c.kind told) taken)
+    told_at (Startup generation) passed told taken = absurd (not_at_startup c.kind (told_kinds c.kind told) taken)
+    told_at (Attempt near generation) passed told taken = absurd (not_at_attempt near c.kind (told_kinds c.kind told) taken)
     told_at (Session near) passed told taken = meets_told setup from datagram draws packet past s tied sent near passed c among
 
     pub meets_chunk : Meets setup s.moment call past (chunk_did place from draws walk s c)

@@ -66,17 +66,17 @@ has_nonce p (fact ∷ earlier) = elim (same_end (peer_of fact) p) [
   | inr d ↦ rw d.1 (nonce_kept fact earlier (held p earlier) (has_nonce p earlier))
 ]
 
-known_thing : (facts : List Fact) (own : List ℕ) (role : Role) (stage : Stage) (j : Joined) → HasNonce facts (Some (thing_of role stage j)) → Known (context_between j own role true) facts
-known_thing facts own Initiator stage j h = h
-known_thing facts own Responder StageOpening j h = h
-known_thing facts own Responder Open j h = h
-known_thing facts own Responder NearClose j h = h
-known_thing facts own Responder FarLinger j h = h
-known_thing facts own Responder Closed j h = h
+known_thing : (g : ℕ) (facts : List Fact) (own : List ℕ) (role : Role) (stage : Stage) (j : Joined) → HasNonce facts (Some (thing_of role stage j)) → Known (context_between g j own role true) facts
+known_thing g facts own Initiator stage j h = h
+known_thing g facts own Responder StageOpening j h = h
+known_thing g facts own Responder Open j h = h
+known_thing g facts own Responder NearClose j h = h
+known_thing g facts own Responder FarLinger j h = h
+known_thing g facts own Responder Closed j h = h
 
 -- the context of a session that is held is known
-held_known : (facts : List Fact) (own : List ℕ) (role : Role) (stage : Stage) (j : Joined) → held j.peer facts ≡ Some (thing_of role stage j) → Known (context_between j own role true) facts
-held_known facts own role stage j is = known_thing facts own role stage j (subst (λ (o : Option Held). HasNonce facts o) is (has_nonce j.peer facts))
+held_known : (g : ℕ) (facts : List Fact) (own : List ℕ) (role : Role) (stage : Stage) (j : Joined) → held j.peer facts ≡ Some (thing_of role stage j) → Known (context_between g j own role true) facts
+held_known g facts own role stage j is = known_thing g facts own role stage j (subst (λ (o : Option Held). HasNonce facts o) is (has_nonce j.peer facts))
 
 -- ---- sizes
 
@@ -126,7 +126,7 @@ held_sized p facts thing sized is = subst (λ (o : Option Held). HasSizes p o) i
 -- ---- the session in whose context a datagram goes
 
 in_session : (setup : Setup) (past : Past) (role : Role) (stage : Stage) (j : Joined) → held j.peer (facts_of past) ≡ Some (thing_of role stage j) →
-    InSession setup past j.far (context_between j (own_of setup) role true)
+    InSession setup past j.far (context_between 0 j (own_of setup) role true)
 in_session setup past Initiator stage j is = (KeptAsInitiator j, j.near, inl (record { peer = j.peer; is_held = is; id = refl }), refl, refl)
 in_session setup past Responder StageOpening j is = (HalfOpen j, j.near, inl (record { peer = j.peer; is_held = is; id = refl }), refl, refl)
 in_session setup past Responder Open j is = (KeptAsResponder j, j.near, inl (record { peer = j.peer; is_held = is; id = refl }), refl, refl)
@@ -153,13 +153,13 @@ closing_nonce near thing at [] c = absurd c
 closing_nonce near thing at (s ∷ earlier) (inl b) = nonce_and (fact_done s.what) (facts_of earlier) (Some thing) (closed_nonce near thing (facts_of earlier) (fact_done s.what) b.0)
 closing_nonce near thing at (s ∷ earlier) (inr p) = nonce_and (fact_done s.what) (facts_of earlier) (Some thing) (closing_nonce near thing at earlier p.1)
 
-was_known : (facts : List Fact) (own : List ℕ) (role : Role) (j : Joined) (thing : Held) → WasThing role j thing → HasNonce facts (Some thing) → Known (context_between j own role true) facts
-was_known facts own Initiator j thing w h = subst (λ (t : Held). HasNonce facts (Some t)) w h
-was_known facts own Responder j thing (inl w) h = subst (λ (t : Held). HasNonce facts (Some t)) w h
-was_known facts own Responder j thing (inr w) h = subst (λ (t : Held). HasNonce facts (Some t)) w h
+was_known : (g : ℕ) (facts : List Fact) (own : List ℕ) (role : Role) (j : Joined) (thing : Held) → WasThing role j thing → HasNonce facts (Some thing) → Known (context_between g j own role true) facts
+was_known g facts own Initiator j thing w h = subst (λ (t : Held). HasNonce facts (Some t)) w h
+was_known g facts own Responder j thing (inl w) h = subst (λ (t : Held). HasNonce facts (Some t)) w h
+was_known g facts own Responder j thing (inr w) h = subst (λ (t : Held). HasNonce facts (Some t)) w h
 
 was_in_session : (setup : Setup) (past : Past) (near : ℕ) (role : Role) (j : Joined) (thing : Held) (at : ℕ) → WasThing role j thing → IsClosing near thing at past →
-    InSession setup past j.far (context_between j (own_of setup) role true)
+    InSession setup past j.far (context_between 0 j (own_of setup) role true)
 was_in_session setup past near Initiator j thing at w c = (thing, near, inr (at, c), ap (outward (own_of setup)) (sym w), subst (λ (t : Held). IsFarOf t j.far) (sym w) refl)
 was_in_session setup past near Responder j thing at (inl w) c = (thing, near, inr (at, c), ap (outward (own_of setup)) (sym w), subst (λ (t : Held). IsFarOf t j.far) (sym w) refl)
 was_in_session setup past near Responder j thing at (inr w) c = (thing, near, inr (at, c), ap (outward (own_of setup)) (sym w), subst (λ (t : Held). IsFarOf t j.far) (sym w) refl)
@@ -175,12 +175,13 @@ either_way true = inl refl
 either_way false = inr refl
 
 -- one that is held
-pub may_send_held : (setup : Setup) (past : Past) (session : SessionState) → session.secret ≡ setup.secret → session.own ≡ own_of setup →
+pub may_send_held : (setup : Setup) (past : Past) (session : SessionState) → session.secret ≡ setup.secret → session.generation ≡ 0 → session.own ≡ own_of setup →
     held session.joined.peer (facts_of past) ≡ Some (thing_of session.role session.stage session.joined) → MaySend setup past session
-may_send_held setup past session secret own thing = record {
+may_send_held setup past session secret generation own thing = record {
   secret = secret;
-  known = held_known (facts_of past) session.own session.role session.stage session.joined thing;
-  stands = subst (λ (o : List ℕ). InSession setup past session.joined.far (context_between session.joined o session.role true)) (sym own) (in_session setup past session.role session.stage session.joined thing);
+  known = held_known session.generation (facts_of past) session.own session.role session.stage session.joined thing;
+  stands = subst (λ (g : ℕ). InSession setup past session.joined.far (context_between g session.joined session.own session.role true)) (sym generation)
+      (subst (λ (o : List ℕ). InSession setup past session.joined.far (context_between 0 session.joined o session.role true)) (sym own) (in_session setup past session.role session.stage session.joined thing));
 }
 
 pub may_send : (setup : Setup) (past : Past) (s : State) (near : ℕ) (row : Row) → Tied setup past s → get s.sessions near ≡ Some row → MaySend setup past row.session
@@ -188,15 +189,16 @@ may_send setup past s near row tied there =
     let session : SessionState = row.session in
     let j : Joined = session.joined in
     let is = tied.sessions near row there in
-    let in_own : InSession setup past j.far (context_between j (own_of setup) session.role true) → InSession setup past j.far (context_of session true) =
-    λ i. subst (λ (o : List ℕ). InSession setup past j.far (context_between j o session.role true)) (sym is.own) i in
+    let in_own : InSession setup past j.far (context_between 0 j (own_of setup) session.role true) → InSession setup past j.far (context_of session true) =
+    λ i. subst (λ (g : ℕ). InSession setup past j.far (context_between g j session.own session.role true)) (sym is.generation)
+    (subst (λ (o : List ℕ). InSession setup past j.far (context_between 0 j o session.role true)) (sym is.own) i) in
     elim (either_way (is_held session.stage)) [
-      | inl e ↦ may_send_held setup past session is.secret is.own (sym (reads_held 0 s.startup.ledger (facts_of past) tied.account j.peer) ∙ is.thing e)
+      | inl e ↦ may_send_held setup past session is.secret is.generation is.own (sym (reads_held 0 s.startup.ledger (facts_of past) tied.account j.peer) ∙ is.thing e)
       | inr e ↦
           let c = is.closed e in
           record {
             secret = is.secret;
-            known = was_known (facts_of past) session.own session.role j c.thing c.was (closing_nonce near c.thing c.at past c.closing);
+            known = was_known session.generation (facts_of past) session.own session.role j c.thing c.was (closing_nonce near c.thing c.at past c.closing);
             stands = in_own (was_in_session setup past near session.role j c.thing c.at c.was c.closing);
           }
     ]

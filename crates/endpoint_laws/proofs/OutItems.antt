@@ -13,12 +13,16 @@ use Rattle.glare_core.specs.Calls.{confirmed_fact, started_fact}
 use Rattle.glare_core.proofs.Accounts.{reads_held}
 use Rattle.startup.specs.declared.answer.Answer.{Answer}
 use Rattle.startup.specs.declared.answer.Due.TheVariants.{Ended as EndDue}
-use Rattle.startup.specs.declared.cause.Cause.{Cause}
+use Rattle.rtmfp_base.specs.declared.cause.Cause.{Cause}
 use Rattle.startup.specs.declared.attempt.Stage.{Stage}
 use Rattle.startup.specs.declared.attempt.Stage.TheVariants.{Hello, Keying}
 use Rattle.startup.specs.Packets.{ihello_packet}
+use Rattle.glare_core.specs.declared.facts.Fact.TheVariants.{Ended}
+use Rattle.startup.specs.declared.aim.Aim.{Aim}
+use Rattle.startup.specs.declared.aim.Aim.TheVariants.{AtPeer}
+use Rattle.startup.specs.Aims.{IsHeldAs, discriminator_of_aim, keying_of_aim, end_of_aim}
 use Rattle.startup.specs.State.{AttemptState, Attempts, StartupState}
-use Rattle.startup.specs.Attempts.{lowest, has_number, with_attempt, without_attempt, ended_attempt, end_of, after_end_of, keying_answer, begun_attempt, distinct_candidates, confirm_fact, after_confirm}
+use Rattle.startup.specs.Attempts.{lowest, has_number, with_attempt, without_attempt, end_of, after_end_of, keying_answer, begun_attempt, distinct_candidates, confirm_fact, after_confirm}
 use Rattle.crypto_profile.specs.Keys.{sign_key_of}
 use Rattle.startup.specs.Due.{repeat_signed, repeated, repeat_of}
 use Rattle.session_core.specs.Session.{is_opening, confirmed}
@@ -77,9 +81,9 @@ lines_facts setup now call past None = tt
 lines_facts setup now call past (Some fact) = (tt, tt)
 
 pub sent_session_changed : (setup : Setup) (past : Past) (s : State) (near : ℕ) (old new : Row) → Sent setup past s → get s.sessions near ≡ Some old →
-    new.session.joined ≡ old.session.joined → new.session.own ≡ old.session.own → new.session.role ≡ old.session.role → new.session.sealed ≡ old.session.sealed → Sent setup past (with_row s near new)
-sent_session_changed setup past s near old new sent there joined mine role count = record {
-  numbered = numbered_changed (own_of setup) past s.sealed s.sessions sent.numbered near old new there joined mine role count;
+    new.session.joined ≡ old.session.joined → new.session.own ≡ old.session.own → new.session.role ≡ old.session.role → new.session.generation ≡ old.session.generation → new.session.sealed ≡ old.session.sealed → Sent setup past (with_row s near new)
+sent_session_changed setup past s near old new sent there joined mine role generation count = record {
+  numbered = numbered_changed (own_of setup) past s.sealed s.sessions sent.numbered near old new there joined mine role generation count;
   sized = sent.sized;
   short = sent.short;
   rows = sent.rows;
@@ -137,9 +141,12 @@ ended_short : (s : StartupState) (o : Option (ℕ × AttemptState)) → AreShort
 ended_short s None all = all
 ended_short s (Some e) all = short_left s.attempts e.0 all
 
+light_end : (near : ℕ) (aim : Aim) → IsLight (end_of_aim near Cancelled aim)
+light_end near (AtPeer peer n) = tt
+
 ended_light : (o : Option (ℕ × AttemptState)) → IsLight (end_of o Cancelled)
 ended_light None = tt
-ended_light (Some e) = tt
+ended_light (Some e) = light_end e.0 e.1.aim
 
 pub meets_cancelling : (setup : Setup) (now : ℕ) (call : Call) (past : Past) (s : State) (n : ℕ) → Sent setup past s → Meets setup now call past (cancelling s n)
 meets_cancelling setup now call past s n sent =
@@ -153,20 +160,29 @@ meets_cancelling setup now call past s n sent =
 -- ---- keyings of attempts
 
 module _ (setup : Setup) (past : Past) (s : State) (sent : Sent setup past s) (tied : Tied setup past s) where
-  pub attempt_held : (near : ℕ) (a : AttemptState) → get s.startup.attempts near ≡ Some a → held a.peer (facts_of past) ≡ Some (OpeningHeld a.n near a.ni)
-  attempt_held near a there = sym (reads_held 0 s.startup.ledger (facts_of past) tied.account a.peer) ∙ tied.sound.held near a there
+  pub attempt_held : (near : ℕ) (a : AttemptState) (peer : List ℕ) (n : ℕ) → a.aim ≡ AtPeer peer n → get s.startup.attempts near ≡ Some a → held peer (facts_of past) ≡ Some (OpeningHeld n near a.ni)
+  attempt_held near a peer n aims there =
+      sym (reads_held 0 s.startup.ledger (facts_of past) tied.account peer) ∙ subst (λ (aim : Aim). IsHeldAs s.startup.ledger near a.ni aim) aims (tied.sound.held near a there)
 
-  attempt_sized : (near : ℕ) (a : AttemptState) → get s.startup.attempts near ≡ Some a → HasSizes a.peer (Some (OpeningHeld a.n near a.ni))
-  attempt_sized near a there = held_sized a.peer (facts_of past) (OpeningHeld a.n near a.ni) sent.sized (attempt_held near a there)
+  attempt_sized : (near : ℕ) (a : AttemptState) (peer : List ℕ) (n : ℕ) → a.aim ≡ AtPeer peer n → get s.startup.attempts near ≡ Some a → HasSizes peer (Some (OpeningHeld n near a.ni))
+  attempt_sized near a peer n aims there = held_sized peer (facts_of past) (OpeningHeld n near a.ni) sent.sized (attempt_held near a peer n aims there)
+
+  keying_may : (near : ℕ) (a : AttemptState) (cookie : List ℕ) (aim : Aim) → a.aim ≡ aim → get s.startup.attempts near ≡ Some a → length cookie ≤ 128 → length s.startup.cert ≤ 80 →
+      MayGo setup past 0 (keying_of_aim (sign_key_of s.startup.secret) near cookie s.startup.cert a.ni aim)
+  keying_may near a cookie (AtPeer peer n) aims there narrow cert =
+      iikeying_may setup past 0 s.startup.secret near cookie s.startup.cert a.ni n peer narrow cert tied.cert (attempt_held near a peer n aims there) (attempt_sized near a peer n aims there)
 
   pub attempt_may : (near : ℕ) (a : AttemptState) (to : AddressParts) (cookie : List ℕ) → get s.startup.attempts near ≡ Some a → length cookie ≤ 128 → length setup.cert ≤ 80 →
       MayGo setup past 0 (keying_answer s.startup near a to cookie).plain
   attempt_may near a to cookie there narrow short =
       let cert : length s.startup.cert ≤ 80 = subst (λ (c : List ℕ). length c ≤ 80) (sym tied.cert) short in
-      iikeying_may setup past 0 s.startup.secret near cookie s.startup.cert a.ni a.n a.peer narrow cert tied.cert (attempt_held near a there) (attempt_sized near a there)
+      keying_may near a cookie a.aim refl there narrow cert
 
-  pub hello_may : (near : ℕ) (a : AttemptState) → get s.startup.attempts near ≡ Some a → (p : Past) → MayGo setup p 0 (ihello_packet (0x01 ∷ a.peer) a.tag)
-  hello_may near a there p = ihello_may setup p 0 (0x01 ∷ a.peer) a.tag (omega (arith, (attempt_sized near a there).0)) (sent.short near a there).tag
+  aimed_may : (near : ℕ) (a : AttemptState) (aim : Aim) → a.aim ≡ aim → get s.startup.attempts near ≡ Some a → (p : Past) → MayGo setup p 0 (ihello_packet (discriminator_of_aim aim) a.tag)
+  aimed_may near a (AtPeer peer n) aims there p = ihello_may setup p 0 (0x01 ∷ peer) a.tag (omega (arith, (attempt_sized near a peer n aims there).0)) (sent.short near a there).tag
+
+  pub hello_may : (near : ℕ) (a : AttemptState) → get s.startup.attempts near ≡ Some a → (p : Past) → MayGo setup p 0 (ihello_packet (discriminator_of_aim a.aim) a.tag)
+  hello_may near a there p = aimed_may near a a.aim refl there p
 
   -- ---- what is due
 
@@ -174,17 +190,17 @@ module _ (setup : Setup) (past : Past) (s : State) (sent : Sent setup past s) (t
     by_stage : (e : ℕ × AttemptState) (stage : Stage) → get s.startup.attempts e.0 ≡ Some e.1 → e.1.stage ≡ stage → (t : StartupState) → AreShort t.attempts → t.secret ≡ s.startup.secret → t.ledger.own ≡ s.startup.ledger.own →
         Meets setup now call past (due_done (with_startup s t) (repeat_signed (sign_key_of s.startup.secret) s.startup.cert e.0 e.1 stage))
     by_stage e Hello there is t after secret own =
-        meets_each setup now call (ihello_packet (0x01 ∷ e.1.peer) e.1.tag) (hello_may e.0 e.1 there) e.1.candidates past (with_startup s t) (sent_startup_changed setup past s t sent after) (secret ∙ tied.secret) (own ∙ tied.own)
+        meets_each setup now call (ihello_packet (discriminator_of_aim e.1.aim) e.1.tag) (hello_may e.0 e.1 there) e.1.candidates past (with_startup s t) (sent_startup_changed setup past s t sent after) (secret ∙ tied.secret) (own ∙ tied.own)
     by_stage e (Keying at cookie) there is t after secret own =
         let narrow : length cookie ≤ 128 = subst IsNarrow is (sent.short e.0 e.1 there).cookie in
         meets_answer setup now call past (with_startup s t) (sent_startup_changed setup past s t sent after) (secret ∙ tied.secret) (own ∙ tied.own) (keying_answer s.startup e.0 e.1 at cookie)
         (attempt_may e.0 e.1 at cookie there narrow short)
 
     -- an attempt ends, or sends again
-    pub meets_end : (e : ℕ × AttemptState) → Meets setup now call past (due_done (with_startup s (without_attempt s.startup e.0 (ended_attempt e Expired))) (EndDue (ended_attempt e Expired)))
-    meets_end e =
-        let after = sent_fact setup past s now (ended_attempt e Expired) sent tt in
-        record { lines = (tt, tt); sent = record { numbered = after.numbered; sized = after.sized; short = short_left s.startup.attempts e.0 sent.short; rows = sent.rows } }
+    pub meets_end : (near : ℕ) (peer : List ℕ) → Meets setup now call past (due_done (with_startup s (without_attempt s.startup near (Ended peer near Expired))) (EndDue (Ended peer near Expired)))
+    meets_end near peer =
+        let after = sent_fact setup past s now (Ended peer near Expired) sent tt in
+        record { lines = (tt, tt); sent = record { numbered = after.numbered; sized = after.sized; short = short_left s.startup.attempts near sent.short; rows = sent.rows } }
 
     pub meets_repeat : (e : ℕ × AttemptState) → get s.startup.attempts e.0 ≡ Some e.1 → Meets setup now call past (due_done (with_startup s (with_attempt s.startup e.0 (repeated e.1 s.moment))) (repeat_of s.startup e.0 e.1))
     meets_repeat e there =
@@ -211,7 +227,7 @@ confirming_test setup now call past s near row sent there true =
     let o : Option Fact = confirm_fact s.startup row.session.joined.peer in
     let after : Sent setup (onto now (fact_entries o) past) s = sent_facts setup past s now o sent (confirmed_light (held_with s.startup.ledger row.session.joined.peer) row.session.joined.peer) in
     let changed : Sent setup (onto now (fact_entries o) past) (with_session s near row (confirmed row.session)) =
-    sent_session_changed setup (onto now (fact_entries o) past) s near row (record row { session = confirmed row.session }) after there refl refl refl refl in
+    sent_session_changed setup (onto now (fact_entries o) past) s near row (record row { session = confirmed row.session }) after there refl refl refl refl refl in
     record {
       lines = lines_facts setup now call past o;
       sent = record { numbered = changed.numbered; sized = changed.sized; short = sent.short; rows = sent.rows };
@@ -222,6 +238,6 @@ confirming_found setup now call past s near None sent is = meets_nothing setup n
 confirming_found setup now call past s near (Some row) sent is = confirming_test setup now call past s near row sent is (is_opening row.session.stage)
 
 pub meets_confirming : (setup : Setup) (now : ℕ) (call : Call) (past : Past) (s : State) (place : Place) → Sent setup past s → Meets setup now call past (confirming s place)
-meets_confirming setup now call past s StartupPlace sent = meets_nothing setup now call past s sent
-meets_confirming setup now call past s (Attempt near) sent = meets_nothing setup now call past s sent
+meets_confirming setup now call past s (StartupPlace generation) sent = meets_nothing setup now call past s sent
+meets_confirming setup now call past s (Attempt near generation) sent = meets_nothing setup now call past s sent
 meets_confirming setup now call past s (Session near) sent = confirming_found setup now call past s near (get s.sessions near) sent refl

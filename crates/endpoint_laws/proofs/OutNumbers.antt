@@ -47,19 +47,19 @@ counted_last spell most number is = record { count = most + 1; first = omega ari
 
 -- The nonce of this end in the context is one of the facts: that of an attempt that was opened, or that of a birth.
 abbrev pub Known : Context → List Fact → Type 0
-Known Startup facts = Unit {0}
-Known (Session ni nr fp_i fp_r sid_i sid_r true) facts = Among ni (opened_nonces facts)
-Known (Session ni nr fp_i fp_r sid_i sid_r false) facts = Among nr (nonces_of facts)
+Known (Startup generation) facts = Unit {0}
+Known (Session generation ni nr fp_i fp_r sid_i sid_r true) facts = Among ni (opened_nonces facts)
+Known (Session generation ni nr fp_i fp_r sid_i sid_r false) facts = Among nr (nonces_of facts)
 
 known_stays : (context : Context) (fact : Fact) (earlier : List Fact) → Known context earlier → Known context (fact ∷ earlier)
-known_stays Startup fact earlier k = tt
-known_stays (Session ni nr fp_i fp_r sid_i sid_r true) fact earlier k = opened_stays ni fact earlier k
-known_stays (Session ni nr fp_i fp_r sid_i sid_r false) fact earlier k = nonce_stays nr fact earlier k
+known_stays (Startup generation) fact earlier k = tt
+known_stays (Session generation ni nr fp_i fp_r sid_i sid_r true) fact earlier k = opened_stays ni fact earlier k
+known_stays (Session generation ni nr fp_i fp_r sid_i sid_r false) fact earlier k = nonce_stays nr fact earlier k
 
 -- The numbers that were used are those of the counts, and contexts tell the sessions apart.
 pub record Numbered (own : List ℕ) (past : Past) (sealed : ℕ) (sessions : Sessions) : Type 0 where
   pub few : sealed ≤ last_count
-  pub startup : (number : List ℕ) → WasNumbered Startup number past → Counted (startup_number own) sealed number
+  pub startup : (number : List ℕ) → WasNumbered (Startup 0) number past → Counted (startup_number own) sealed number
   pub known : (context : Context) (number : List ℕ) → WasNumbered context number past → Known context (facts_of past)
   pub under : (near : ℕ) (row : Row) → get sessions near ≡ Some row → row.session.joined.near ≡ near
   pub few_in : (near : ℕ) (row : Row) → get sessions near ≡ Some row → row.session.sealed ≤ last_count
@@ -68,20 +68,20 @@ pub record Numbered (own : List ℕ) (past : Past) (sealed : ℕ) (sessions : Se
 
 -- ---- contexts
 
-not_startup : (j : Joined) (own : List ℕ) (role : Role) → context_between j own role true ≡ Startup → ⊥
-not_startup j own Initiator e = cc
-not_startup j own Responder e = cc
+not_startup : (g : ℕ) (j : Joined) (own : List ℕ) (role : Role) → context_between g j own role true ≡ Startup 0 → ⊥
+not_startup g j own Initiator e = cc
+not_startup g j own Responder e = cc
 
-same_near : (j : Joined) (own : List ℕ) (role : Role) (j' : Joined) (own' : List ℕ) (role' : Role) →
-    context_between j own role true ≡ context_between j' own' role' true → j.near ≡ j'.near
-same_near j own Initiator j' own' Initiator e = cc
-same_near j own Initiator j' own' Responder e = absurd (cc)
-same_near j own Responder j' own' Initiator e = absurd (cc)
-same_near j own Responder j' own' Responder e = cc
+same_near : (g : ℕ) (j : Joined) (own : List ℕ) (role : Role) (g' : ℕ) (j' : Joined) (own' : List ℕ) (role' : Role) →
+    context_between g j own role true ≡ context_between g' j' own' role' true → j.near ≡ j'.near
+same_near g j own Initiator g' j' own' Initiator e = cc
+same_near g j own Initiator g' j' own' Responder e = absurd (cc)
+same_near g j own Responder g' j' own' Initiator e = absurd (cc)
+same_near g j own Responder g' j' own' Responder e = cc
 
-as_far : (j : Joined) (own : List ℕ) (role : Role) (facts : List Fact) → AsFarAs (context_between j own role true) facts → AllDifferent (nonces_of facts)
-as_far j own Initiator facts a = a
-as_far j own Responder facts a = a
+as_far : (g : ℕ) (j : Joined) (own : List ℕ) (role : Role) (facts : List Fact) → AsFarAs (context_between g j own role true) facts → AllDifferent (nonces_of facts)
+as_far g j own Initiator facts a = a
+as_far g j own Responder facts a = a
 
 -- ---- one entry more
 
@@ -119,7 +119,7 @@ module _ (own : List ℕ) (past : Past) (sealed : ℕ) (sessions : Sessions) (n 
     pub numbered_quiet : Numbered own (x ∷ past) sealed sessions
     numbered_quiet = record {
       few = n.few;
-      startup = λ number was. n.startup number (before Startup number was);
+      startup = λ number was. n.startup number (before (Startup 0) number was);
       known = λ context number was. subst (Known context) (sym facts_are) (n.known context number (before context number was));
       under = n.under;
       few_in = n.few_in;
@@ -131,7 +131,7 @@ module _ (own : List ℕ) (past : Past) (sealed : ℕ) (sessions : Sessions) (n 
 
   -- a datagram in the startup context
   pub numbered_startup : (now : ℕ) (to : AddressParts) (datagram : List ℕ) → sealed ≢ last_count → number_of (drop 4 datagram) ≡ startup_number own (sealed + 1) →
-      Numbered own (stamped now (Out to datagram Startup) ∷ past) (sealed + 1) sessions
+      Numbered own (stamped now (Out to datagram (Startup 0)) ∷ past) (sealed + 1) sessions
   numbered_startup now to datagram some is = record {
     few = omega (arith, n.few, some);
     startup = λ number was. elim was [
@@ -145,12 +145,12 @@ module _ (own : List ℕ) (past : Past) (sealed : ℕ) (sessions : Sessions) (n 
     under = n.under;
     few_in = n.few_in;
     sent = λ near row e d number was. elim was [
-      | inl p ↦ absurd (not_startup row.session.joined row.session.own row.session.role (sym p.0))
+      | inl p ↦ absurd (not_startup row.session.generation row.session.joined row.session.own row.session.role (sym p.0))
       | inr w ↦ n.sent near row e d number w
     ];
   }
 
-  pub once_startup : sealed ≢ last_count → WasNumbered Startup (startup_number own (sealed + 1)) past → ⊥
+  pub once_startup : sealed ≢ last_count → WasNumbered (Startup 0) (startup_number own (sealed + 1)) past → ⊥
   once_startup some was =
       let c = n.startup (startup_number own (sealed + 1)) was in
       let words : to_be_bytes w64 (sealed + 1) ≡ to_be_bytes w64 c.count =
@@ -175,12 +175,14 @@ module _ (own : List ℕ) (past : Past) (sealed : ℕ) (sessions : Sessions) (n 
   }
 
   -- a session that changes, but not in its context nor in its count
-  pub numbered_changed : (near : ℕ) (old new : Row) → get sessions near ≡ Some old → new.session.joined ≡ old.session.joined → new.session.own ≡ old.session.own → new.session.role ≡ old.session.role → new.session.sealed ≡ old.session.sealed →
+  pub numbered_changed : (near : ℕ) (old new : Row) → get sessions near ≡ Some old → new.session.joined ≡ old.session.joined → new.session.own ≡ old.session.own → new.session.role ≡ old.session.role → new.session.generation ≡ old.session.generation → new.session.sealed ≡ old.session.sealed →
       Numbered own past sealed (insert sessions near new)
-  numbered_changed near old new there joined mine role count =
+  numbered_changed near old new there joined mine role generation count =
       let context : context_of new.session true ≡ context_of old.session true =
-      ap (λ (j : Joined). context_between j new.session.own new.session.role true) joined ∙ ap (λ (o : List ℕ). context_between old.session.joined o new.session.role true) mine
-      ∙ ap (λ (r : Role). context_between old.session.joined old.session.own r true) role in
+      ap (λ (g : ℕ). context_between g new.session.joined new.session.own new.session.role true) generation
+      ∙ ap (λ (j : Joined). context_between old.session.generation j new.session.own new.session.role true) joined
+      ∙ ap (λ (o : List ℕ). context_between old.session.generation old.session.joined o new.session.role true) mine
+      ∙ ap (λ (r : Role). context_between old.session.generation old.session.joined old.session.own r true) role in
       record {
         few = n.few;
         startup = n.startup;
@@ -225,7 +227,7 @@ module _ (own : List ℕ) (past : Past) (sealed : ℕ) (sessions : Sessions) (n 
   module _ (near : ℕ) (row : Row) (there : get sessions near ≡ Some row) (some : row.session.sealed ≢ last_count) where
     pub once_session : AsFarAs (context_of row.session true) (facts_of past) → WasNumbered (context_of row.session true) (number_bytes (row.session.sealed + 1)) past → ⊥
     once_session far was =
-        let c = n.sent near row there (as_far row.session.joined row.session.own row.session.role (facts_of past) far) (number_bytes (row.session.sealed + 1)) was in
+        let c = n.sent near row there (as_far row.session.generation row.session.joined row.session.own row.session.role (facts_of past) far) (number_bytes (row.session.sealed + 1)) was in
         let words : to_be_bytes w64 (row.session.sealed + 1) ≡ to_be_bytes w64 c.count =
         sym (past_front 8 (replicate 8 0) (to_be_bytes w64 (row.session.sealed + 1)) refl)
         ∙ ap (drop 8) c.is
@@ -241,7 +243,7 @@ module _ (own : List ℕ) (past : Past) (sealed : ℕ) (sessions : Sessions) (n 
     numbered_session now to datagram new is number_is known = record {
       few = n.few;
       startup = λ number was. elim was [
-        | inl p ↦ absurd (not_startup row.session.joined row.session.own row.session.role p.0)
+        | inl p ↦ absurd (not_startup row.session.generation row.session.joined row.session.own row.session.role p.0)
         | inr w ↦ n.startup number w
       ];
       known = λ context number was. elim was [
@@ -260,7 +262,7 @@ module _ (own : List ℕ) (past : Past) (sealed : ℕ) (sessions : Sessions) (n 
         | inl d ↦ subst (λ (s : SessionState). Counted number_bytes s.sealed number) (sym is ∙ ap (λ (r : Row). r.session) d.1)
             (counted_here number d' (subst (λ (s : SessionState). WasNumbered (context_of s true) number (stamped now (Out to datagram (context_of row.session true)) ∷ past)) (ap (λ (r : Row). r.session) (sym d.1) ∙ is) was))
         | inr d ↦ elim was [
-          | inl p ↦ absurd (d.0 (sym (n.under q other d.1) ∙ sym (same_near row.session.joined row.session.own row.session.role other.session.joined other.session.own other.session.role p.0) ∙ n.under near row there))
+          | inl p ↦ absurd (d.0 (sym (n.under q other d.1) ∙ sym (same_near row.session.generation row.session.joined row.session.own row.session.role other.session.generation other.session.joined other.session.own other.session.role p.0) ∙ n.under near row there))
           | inr w ↦ n.sent q other d.1 d' number w
         ]
       ];
@@ -274,11 +276,13 @@ module _ (own : List ℕ) (past : Past) (sealed : ℕ) (sessions : Sessions) (n 
 -- ---- a session begins, of which nothing was sent
 
 module _ (own : List ℕ) (past : Past) (sealed : ℕ) (sessions : Sessions) (n : Numbered own past sealed sessions) (now : ℕ) (j : Joined) (new : Row) (none : new.session.sealed ≡ 0) (joined : new.session.joined ≡ j) where
-  in_role : (role : Role) → new.session.role ≡ role → context_of new.session true ≡ context_between j new.session.own role true
-  in_role role is = ap (λ (k : Joined). context_between k new.session.own new.session.role true) joined ∙ ap (λ (r : Role). context_between j new.session.own r true) is
+  in_role : (role : Role) → new.session.role ≡ role → context_of new.session true ≡ context_between new.session.generation j new.session.own role true
+  in_role role is =
+      ap (λ (k : Joined). context_between new.session.generation k new.session.own new.session.role true) joined
+      ∙ ap (λ (r : Role). context_between new.session.generation j new.session.own r true) is
 
-  known_as : (role : Role) (number : List ℕ) → new.session.role ≡ role → WasNumbered (context_of new.session true) number past → Known (context_between j new.session.own role true) (facts_of past)
-  known_as role number is w = n.known (context_between j new.session.own role true) number (subst (λ (c : Context). WasNumbered c number past) (in_role role is) w)
+  known_as : (role : Role) (number : List ℕ) → new.session.role ≡ role → WasNumbered (context_of new.session true) number past → Known (context_between new.session.generation j new.session.own role true) (facts_of past)
+  known_as role number is w = n.known (context_between new.session.generation j new.session.own role true) number (subst (λ (c : Context). WasNumbered c number past) (in_role role is) w)
 
   -- it is born, with a new nonce
   pub numbered_born : new.session.role ≡ Responder → Numbered own (stamped now (FactEntry (Born j)) ∷ past) sealed (insert sessions j.near new)

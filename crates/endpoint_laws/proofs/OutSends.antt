@@ -93,7 +93,7 @@ unequal a b h e = grind (arith, nat_tests)
 abbrev pub MayGo : Setup → Past → ℕ → List ℕ → Type 0
 MayGo setup past sid plain =
     (packet : Whole) → PacketReading plain (Ok packet) →
-    KeyingsAre (λ near cookie cert part sign. KeyingOfAttempt setup Startup (facts_of past) near cert part) (λ near part sign. KeyingOfBorn setup Startup (facts_of past) sid near part) packet
+    KeyingsAre (λ near cookie cert part sign. KeyingOfAttempt setup (Startup 0) (facts_of past) near cert part) (λ near part sign. KeyingOfBorn setup (Startup 0) (facts_of past) sid near part) packet
 
 startup_sized : (setup : Setup) (count : ℕ) → length (startup_number (own_of setup) count) ≡ 16
 startup_sized setup count =
@@ -103,15 +103,15 @@ module _ (setup : Setup) (now : ℕ) (call : Call) (past : Past) (s : State) (se
   pub meets_startup : (to : AddressParts) (sid : ℕ) (plain : List ℕ) → MayGo setup past sid plain → Meets setup now call past (sent_startup s to sid plain)
   meets_startup to sid plain may = by_test (s.sealed == last_count) refl
     where
-      is : startup_datagram s sid plain ≡ datagram sid (sealed_in setup.secret Startup sid (startup_number (own_of setup) (s.sealed + 1)) plain)
-      is = ap (λ (o : List ℕ). datagram sid (sealed_in s.startup.secret Startup sid (startup_number o (s.sealed + 1)) plain)) own
-          ∙ ap (λ (k : List ℕ). datagram sid (sealed_in k Startup sid (startup_number (own_of setup) (s.sealed + 1)) plain)) secret
+      is : startup_datagram s sid plain ≡ datagram sid (sealed_in setup.secret (Startup 0) sid (startup_number (own_of setup) (s.sealed + 1)) plain)
+      is = ap (λ (o : List ℕ). datagram sid (sealed_in s.startup.secret (Startup 0) sid (startup_number o (s.sealed + 1)) plain)) own
+          ∙ ap (λ (k : List ℕ). datagram sid (sealed_in k (Startup 0) sid (startup_number (own_of setup) (s.sealed + 1)) plain)) secret
 
       carries : number_of (drop 4 (startup_datagram s sid plain)) ≡ startup_number (own_of setup) (s.sealed + 1)
       carries = ap (λ (d : List ℕ). number_of (drop 4 d)) is
-          ∙ (sealed_carries (keys_of setup.secret Startup) sid (startup_number (own_of setup) (s.sealed + 1)) plain (startup_sized setup (s.sealed + 1))).0
+          ∙ (sealed_carries (keys_of setup.secret (Startup 0)) sid (startup_number (own_of setup) (s.sealed + 1)) plain (startup_sized setup (s.sealed + 1))).0
 
-      line : s.sealed ≢ last_count → OutLine setup past (startup_datagram s sid plain) Startup
+      line : s.sealed ≢ last_count → OutLine setup past (startup_datagram s sid plain) (Startup 0)
       line some = record {
         sid = sid;
         number = startup_number (own_of setup) (s.sealed + 1);
@@ -124,7 +124,7 @@ module _ (setup : Setup) (now : ℕ) (call : Call) (past : Past) (s : State) (se
       }
 
       by_test : (b : Bool) → (s.sealed == last_count) ≡ b →
-          Meets setup now call past (if b then nothing s else record { state = with_sealed s (s.sealed + 1); entries = Out to (startup_datagram s sid plain) Startup ∷ [] })
+          Meets setup now call past (if b then nothing s else record { state = with_sealed s (s.sealed + 1); entries = Out to (startup_datagram s sid plain) (Startup 0) ∷ [] })
       by_test true e = meets_nothing setup now call past s sent
       by_test false e = record {
         lines = (line (unequal s.sealed last_count e), tt);

@@ -61,12 +61,12 @@ ping_is_modest bytes short = one_is_modest (Ping bytes) (omega arith) (omega ari
 -- ---- what is kept when a session changes, ends, or is over
 
 module _ (setup : Setup) (call : Call) (past : Past) (s : State) (sent : Sent setup past s) (near : ℕ) (row : Row) (there : get s.sessions near ≡ Some row) where
-  meets_ended : (why : Why) (left : SessionState) → left.joined ≡ row.session.joined → left.own ≡ row.session.own → left.role ≡ row.session.role → left.sealed ≡ row.session.sealed → Meets setup s.moment call past (ended_as s near row why left)
-  meets_ended why left joined own role count =
+  meets_ended : (why : Why) (left : SessionState) → left.joined ≡ row.session.joined → left.own ≡ row.session.own → left.role ≡ row.session.role → left.generation ≡ row.session.generation → left.sealed ≡ row.session.sealed → Meets setup s.moment call past (ended_as s near row why left)
+  meets_ended why left joined own role generation count =
       let o : Option Fact = end_fact s.startup row.session.joined.peer why in
       let after : Sent setup (onto s.moment (fact_entries o) past) s = sent_facts setup past s s.moment o sent (ended_light (session_in (held_with s.startup.ledger row.session.joined.peer)) row.session.joined.peer why) in
       let changed : Sent setup (onto s.moment (fact_entries o) past) (with_session s near row left) =
-      sent_session_changed setup (onto s.moment (fact_entries o) past) s near row (record row { session = left }) after there joined own role count in
+      sent_session_changed setup (onto s.moment (fact_entries o) past) s near row (record row { session = left }) after there joined own role generation count in
       record {
         lines = lines_facts setup s.moment call past o;
         sent = record { numbered = changed.numbered; sized = changed.sized; short = sent.short; rows = sent.rows };
@@ -81,14 +81,14 @@ module _ (setup : Setup) (call : Call) (past : Past) (s : State) (sent : Sent se
         sent = record { numbered = numbered_removed _ _ s.sealed s.sessions after.numbered near; sized = after.sized; short = sent.short; rows = sent.rows };
       }
 
-  meets_changed : (new : Row) → new.session.joined ≡ row.session.joined → new.session.own ≡ row.session.own → new.session.role ≡ row.session.role → new.session.sealed ≡ row.session.sealed → Meets setup s.moment call past (nothing (with_row s near new))
-  meets_changed new joined own role count = meets_nothing setup s.moment call past (with_row s near new) (sent_session_changed setup past s near row new sent there joined own role count)
+  meets_changed : (new : Row) → new.session.joined ≡ row.session.joined → new.session.own ≡ row.session.own → new.session.role ≡ row.session.role → new.session.generation ≡ row.session.generation → new.session.sealed ≡ row.session.sealed → Meets setup s.moment call past (nothing (with_row s near new))
+  meets_changed new joined own role generation count = meets_nothing setup s.moment call past (with_row s near new) (sent_session_changed setup past s near row new sent there joined own role generation count)
 
-  meets_moved : (new : Row) (to : AddressParts) → new.session.joined ≡ row.session.joined → new.session.own ≡ row.session.own → new.session.role ≡ row.session.role → new.session.sealed ≡ row.session.sealed →
+  meets_moved : (new : Row) (to : AddressParts) → new.session.joined ≡ row.session.joined → new.session.own ≡ row.session.own → new.session.role ≡ row.session.role → new.session.generation ≡ row.session.generation → new.session.sealed ≡ row.session.sealed →
       Meets setup s.moment call past (record { state = with_row s near new; entries = Moved near to ∷ [] })
-  meets_moved new to joined own role count =
+  meets_moved new to joined own role generation count =
       let after : Sent setup (stamped s.moment (Moved near to) ∷ past) s = record { numbered = numbered_quiet _ past s.sealed s.sessions sent.numbered (stamped s.moment (Moved near to)) refl refl; sized = sent.sized; short = sent.short; rows = sent.rows } in
-      record { lines = (tt, tt); sent = sent_session_changed setup (stamped s.moment (Moved near to) ∷ past) s near row new after there joined own role count }
+      record { lines = (tt, tt); sent = sent_session_changed setup (stamped s.moment (Moved near to) ∷ past) s near row new after there joined own role generation count }
 
 meets_closed : (setup : Setup) (call : Call) (past : Past) (s : State) → Sent setup past s → (near : ℕ) → Meets setup s.moment call past (closed s near)
 meets_closed setup call past s sent near = record {
@@ -127,20 +127,24 @@ same_role : (b : Bool) (x y : SessionState) → x.role ≡ y.role → (if b then
 same_role true x y e = e
 same_role false x y e = refl
 
+same_generation : (b : Bool) (x y : SessionState) → x.generation ≡ y.generation → (if b then x else y).generation ≡ y.generation
+same_generation true x y e = e
+same_generation false x y e = refl
+
 same_sealed : (b : Bool) (x y : SessionState) → x.sealed ≡ y.sealed → (if b then x else y).sealed ≡ y.sealed
 same_sealed true x y e = e
 same_sealed false x y e = refl
 
 module _ (setup : Setup) (call : Call) (past : Past) (s : State) (sent : Sent setup past s) (near : ℕ) (row : Row) (there : get s.sessions near ≡ Some row) where
-  ended_if : (why : Why) (b : Bool) (left : SessionState) → left.joined ≡ row.session.joined → left.own ≡ row.session.own → left.role ≡ row.session.role → left.sealed ≡ row.session.sealed →
+  ended_if : (why : Why) (b : Bool) (left : SessionState) → left.joined ≡ row.session.joined → left.own ≡ row.session.own → left.role ≡ row.session.role → left.generation ≡ row.session.generation → left.sealed ≡ row.session.sealed →
       Meets setup s.moment call past (ended_as s near row why (if b then left else row.session))
-  ended_if why b left joined own role count =
-      meets_ended setup call past s sent near row there why (if b then left else row.session) (same_joined b left row.session joined) (same_own b left row.session own) (same_role b left row.session role) (same_sealed b left row.session count)
+  ended_if why b left joined own role generation count =
+      meets_ended setup call past s sent near row there why (if b then left else row.session) (same_joined b left row.session joined) (same_own b left row.session own) (same_role b left row.session role) (same_generation b left row.session generation) (same_sealed b left row.session count)
 
-  changed_if : (b : Bool) (left : SessionState) → left.joined ≡ row.session.joined → left.own ≡ row.session.own → left.role ≡ row.session.role → left.sealed ≡ row.session.sealed →
+  changed_if : (b : Bool) (left : SessionState) → left.joined ≡ row.session.joined → left.own ≡ row.session.own → left.role ≡ row.session.role → left.generation ≡ row.session.generation → left.sealed ≡ row.session.sealed →
       Meets setup s.moment call past (nothing (with_session s near row (if b then left else row.session)))
-  changed_if b left joined own role count =
-      meets_changed setup call past s sent near row there (record row { session = if b then left else row.session }) (same_joined b left row.session joined) (same_own b left row.session own) (same_role b left row.session role) (same_sealed b left row.session count)
+  changed_if b left joined own role generation count =
+      meets_changed setup call past s sent near row there (record row { session = if b then left else row.session }) (same_joined b left row.session joined) (same_own b left row.session own) (same_role b left row.session role) (same_generation b left row.session generation) (same_sealed b left row.session count)
 
   either_meets : (b : Bool) (d e : Did) → Meets setup s.moment call past d → Meets setup s.moment call past e → Meets setup s.moment call past (if b then d else e)
   either_meets true d e p q = p
@@ -150,7 +154,7 @@ module _ (setup : Setup) (call : Call) (past : Past) (s : State) (sent : Sent se
   meets_lingering =
       let asked : Bool = is_held row.session.stage || is_near_close row.session.stage in
       either_meets (is_held row.session.stage) (ended_as s near row Far (asked_to_close s.moment row.session)) (nothing (with_session s near row (asked_to_close s.moment row.session)))
-      (ended_if Far asked (record row.session { stage = FarLinger; since = s.moment }) refl refl refl refl) (changed_if asked (record row.session { stage = FarLinger; since = s.moment }) refl refl refl refl)
+      (ended_if Far asked (record row.session { stage = FarLinger; since = s.moment }) refl refl refl refl refl) (changed_if asked (record row.session { stage = FarLinger; since = s.moment }) refl refl refl refl refl)
 
 -- ---- a call that closes a session
 
@@ -160,7 +164,7 @@ module _ (setup : Setup) (past : Past) (s : State) (sent : Sent setup past s) (t
   closing_found (Some row) is =
       let found = held_is_there (get s.sessions near) row is in
       and_home setup (Close near) past s near (ended_as s near row Near (closed_near s.moment row.session)) (goes_near setup s near row is past tied)
-      (ended_if setup (Close near) past s sent near row found.0 Near (is_held row.session.stage) (record row.session { stage = NearClose; since = s.moment; close_sent = Some s.moment }) refl refl refl refl)
+      (ended_if setup (Close near) past s sent near row found.0 Near (is_held row.session.stage) (record row.session { stage = NearClose; since = s.moment; close_sent = Some s.moment }) refl refl refl refl refl)
       (chunk_bytes CloseChunk) close_is_modest
 
   pub meets_closing : Meets setup s.moment (Close near) past (closing s near)
@@ -181,7 +185,7 @@ module _ (setup : Setup) (from : AddressParts) (datagram : List ℕ) (draws : Dr
 
   moved_to_where : (row : Row) → get s.sessions near ≡ Some row → (moves : Option Test) (o : Option AddressParts) → Meets setup s.moment call past (moved_where s near row moves o)
   moved_to_where row is moves None = meets_nothing setup s.moment call past s sent
-  moved_to_where row is moves (Some to) = meets_moved setup call past s sent near row is _ to refl refl refl refl
+  moved_to_where row is moves (Some to) = meets_moved setup call past s sent near row is _ to refl refl refl refl refl
 
   moved : (o : Option Row) → get s.sessions near ≡ o → Meets setup s.moment call past (moved_by s near from c.payload o)
   moved None is = meets_nothing setup s.moment call past s sent
@@ -204,7 +208,7 @@ module _ (setup : Setup) (call : Call) (past : Past) (s : State) (sent : Sent se
   begun : (near : ℕ) (row : Row) → get s.sessions near ≡ Some row → Meets setup s.moment call past (test_begun s near row from draws.token)
   begun near row is =
       let new : Row = record row { moves = after_seen row.moves row.session.address from draws.token s.moment } in
-      and_said setup call past s near (nothing (with_row s near new)) (goes_pending setup call s from draws near row is past tied) (meets_changed setup call past s sent near row is new refl refl refl refl) from
+      and_said setup call past s near (nothing (with_row s near new)) (goes_pending setup call s from draws near row is past tied) (meets_changed setup call past s sent near row is new refl refl refl refl refl) from
       (chunk_bytes (Ping draws.token)) (ping_is_modest draws.token (omega (arith, token)))
 
   tested_found : (near : ℕ) (o : Option Row) → held_row s near ≡ o → Meets setup s.moment call past (tested_by s near from draws.token o)
@@ -218,8 +222,8 @@ module _ (setup : Setup) (call : Call) (past : Past) (s : State) (sent : Sent se
       by false m = meets_nothing setup s.moment call past s sent
 
   pub meets_tested : (place : Place) → Meets setup s.moment call past (tested s place from draws)
-  meets_tested Startup = meets_nothing setup s.moment call past s sent
-  meets_tested (Attempt near) = meets_nothing setup s.moment call past s sent
+  meets_tested (Startup generation) = meets_nothing setup s.moment call past s sent
+  meets_tested (Attempt near generation) = meets_nothing setup s.moment call past s sent
   meets_tested (Session near) = tested_found near (held_row s near) refl
 
 -- ---- time
@@ -229,7 +233,7 @@ module _ (setup : Setup) (call : Call) (is_tick : IsTick call) (past : Past) (s 
   pub meets_kept_alive : Meets setup s.moment call past (kept_alive_by s near row)
   meets_kept_alive =
       and_home setup call past s near (nothing (with_session s near row (kept_alive s.moment row.session))) (goes_alive setup call is_tick past s tied near row there known)
-      (changed_if setup call past s sent near row there (needs_keepalive row.session s.moment) (record row.session { keepalive = Some s.moment }) refl refl refl refl) (chunk_bytes (Ping [])) (ping_is_modest [] (omega arith))
+      (changed_if setup call past s sent near row there (needs_keepalive row.session s.moment) (record row.session { keepalive = Some s.moment }) refl refl refl refl refl) (chunk_bytes (Ping [])) (ping_is_modest [] (omega arith))
 
   pub meets_session_due : (due : SessionDue) → Meets setup s.moment call past (session_due_done s near row due)
   meets_session_due Unconfirmed = meets_dropped setup call past s sent near row there NotConfirmed
@@ -238,4 +242,4 @@ module _ (setup : Setup) (call : Call) (is_tick : IsTick call) (past : Past) (s 
   meets_session_due RepeatClose =
       let again : SessionState = record row.session { close_sent = Some s.moment } in
       and_home setup call past s near (nothing (with_session s near row again)) (goes_again setup call is_tick past s tied near row there known)
-      (meets_changed setup call past s sent near row there (record row { session = again }) refl refl refl refl) (chunk_bytes CloseChunk) close_is_modest
+      (meets_changed setup call past s sent near row there (record row { session = again }) refl refl refl refl refl) (chunk_bytes CloseChunk) close_is_modest

@@ -24,8 +24,8 @@ PassedIn past near datagram packet s = (row : Row) → get s.sessions near ≡ S
 
 -- at a place
 abbrev pub PassedAt : Past → Place → List ℕ → Whole → State → Type 0
-PassedAt past Startup datagram packet s = Unit {0}
-PassedAt past (Attempt near) datagram packet s = Unit {0}
+PassedAt past (Startup generation) datagram packet s = Unit {0}
+PassedAt past (Attempt near generation) datagram packet s = Unit {0}
 PassedAt past (Session near) datagram packet s = PassedIn past near datagram packet s
 
 pub passed_follows : (past : Past) (near : ℕ) (datagram : List ℕ) (packet : Whole) (s : State) (d : Did) → Follows s d → PassedIn past near datagram packet s →

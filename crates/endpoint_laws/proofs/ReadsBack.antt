@@ -34,10 +34,11 @@ use Rattle.glare_core.specs.declared.answers.HearRefusal.TheVariants.{Stale, Gla
 use Rattle.glare_core.specs.Standing.{held, seen, seen_in, after, peer_of, peers_in}
 use Rattle.glare_core.specs.Things.{IsAttempt}
 use Rattle.glare_core.specs.Ledger.{Ledger, held_with, floor_of, knows, row_count}
-use Rattle.glare_core.specs.Calls.{where_true, first_that_stands, is_born_of, again_of, glare_of, peers_full, birth_refusal, hear_refusal}
+use Rattle.rtmfp_base.specs.Reasons.{where_true, first_that_stands}
+use Rattle.glare_core.specs.Calls.{is_born_of, again_of, glare_of, peers_full, birth_refusal, hear_refusal}
 use Rattle.glare_core.specs.Account.{StandsFor}
 use Rattle.glare_core.proofs.Accounts.{reads_held, reads_floor, reads_knows, reads_rows}
-use Rattle.startup.specs.declared.cause.Cause.TheVariants.{BadSignature, Wide, WrongResponder, OwnCertificate, Malformed}
+use Rattle.rtmfp_base.specs.declared.cause.Cause.TheVariants.{BadSignature, Wide, WrongResponder, OwnCertificate, Malformed}
 use Rattle.startup.specs.Packets.{initiator_part_in, is_signed, is_signed_by, before_signature}
 use Rattle.startup.specs.Keyings.{InitiatorKeying, part_offset, cert_offset, with_initiator_part, initiator_fields, initiator_keying_in, keying_of, is_own, heard_cause, named_cause, cookie_cause, initiator_cause, cause_by, iikeying_cause, repeated_session}
 use Rattle.endpoint_model.specs.Event.{Setup, own_of}

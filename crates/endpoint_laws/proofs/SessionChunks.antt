@@ -16,7 +16,7 @@ use Rattle.glare_core.specs.declared.facts.Held.{Held}
 use Rattle.glare_core.specs.declared.facts.Held.TheVariants.{HalfOpen}
 use Rattle.glare_core.specs.Standing.{held}
 use Rattle.glare_core.specs.Things.{IsHalfOpen, IsSession, IsKept}
-use Rattle.glare_core.specs.Calls.{where_true, first_that_stands}
+use Rattle.rtmfp_base.specs.Reasons.{where_true, first_that_stands}
 use Rattle.session_core.specs.declared.stage.Role.{Role}
 use Rattle.session_core.specs.declared.stage.Role.TheVariants.{Initiator, Responder}
 use Rattle.session_core.specs.declared.stage.Stage.{Stage}
@@ -55,7 +55,7 @@ use Rattle.endpoint_laws.proofs.InSessions.{IsLeft, was_itself, held_facts, id, 
 
 -- ---- a session as the thing that it is or was
 
-pub was_inward : (own : List ℕ) (role : Role) (j : Joined) (thing : Held) → WasThing role j thing → context_between j own role false ≡ inward own thing
+pub was_inward : (own : List ℕ) (role : Role) (j : Joined) (thing : Held) → WasThing role j thing → context_between 0 j own role false ≡ inward own thing
 was_inward own Initiator j thing w = ap (inward own) (sym w)
 was_inward own Responder j thing (inl w) = ap (inward own) (sym w)
 was_inward own Responder j thing (inr w) = ap (inward own) (sym w)
@@ -65,43 +65,43 @@ was_mode Initiator j thing w = ap inward_mode (sym w)
 was_mode Responder j thing (inl w) = ap inward_mode (sym w)
 was_mode Responder j thing (inr w) = ap inward_mode (sym w)
 
-module _ (setup : Setup) (session : SessionState) (thing : Held) (own : session.own ≡ own_of setup) (secret : session.secret ≡ setup.secret) (was : WasThing session.role session.joined thing) where
-  context : context_between session.joined session.own session.role false ≡ inward (own_of setup) thing
-  context = ap (λ (o : List ℕ). context_between session.joined o session.role false) own ∙ was_inward (own_of setup) session.role session.joined thing was
+module _ (setup : Setup) (session : SessionState) (thing : Held) (own : session.own ≡ own_of setup) (secret : session.secret ≡ setup.secret) (generation : session.generation ≡ 0) (was : WasThing session.role session.joined thing) where
+  context : context_between session.generation session.joined session.own session.role false ≡ inward (own_of setup) thing
+  context = ap (λ (g : ℕ). context_between g session.joined session.own session.role false) generation ∙ ap (λ (o : List ℕ). context_between 0 session.joined o session.role false) own ∙ was_inward (own_of setup) session.role session.joined thing was
 
   mode : peers_mode session.role ≡ inward_mode thing
   mode = was_mode session.role session.joined thing was
 
   -- what passes in the session, passes in it as this thing
   as_thing : (near : ℕ) (before : List Taken) (datagram : List ℕ) →
-      PassesIn session.secret (context_between session.joined session.own session.role false) (peers_mode session.role) near before datagram → Passes setup thing near before datagram
+      PassesIn session.secret (context_between session.generation session.joined session.own session.role false) (peers_mode session.role) near before datagram → Passes setup thing near before datagram
   as_thing near before datagram p = record {
     packet = p.packet;
     reads = subst (λ (c : Context). ReadsUnder setup.secret c near datagram p.packet) context
-        (subst (λ (k : List ℕ). ReadsUnder k (context_between session.joined session.own session.role false) near datagram p.packet) secret p.reads);
+        (subst (λ (k : List ℕ). ReadsUnder k (context_between session.generation session.joined session.own session.role false) near datagram p.packet) secret p.reads);
     number = subst (λ (c : Context). IsNewAfter setup.secret c near (count_in datagram) before) context
-        (subst (λ (k : List ℕ). IsNewAfter k (context_between session.joined session.own session.role false) near (count_in datagram) before) secret p.number);
+        (subst (λ (k : List ℕ). IsNewAfter k (context_between session.generation session.joined session.own session.role false) near (count_in datagram) before) secret p.number);
     mode_is = p.mode_is ∙ mode;
   }
 
   -- and what it took as this thing it took
   took_as : (near moment : ℕ) (taken : List Taken) →
-      TookIn session.secret (context_between session.joined session.own session.role false) (peers_mode session.role) near moment taken ≡ TookAt setup thing near moment taken
+      TookIn session.secret (context_between session.generation session.joined session.own session.role false) (peers_mode session.role) near moment taken ≡ TookAt setup thing near moment taken
   took_as near moment taken =
-      ap (λ (k : List ℕ). TookIn k (context_between session.joined session.own session.role false) (peers_mode session.role) near moment taken) secret
+      ap (λ (k : List ℕ). TookIn k (context_between session.generation session.joined session.own session.role false) (peers_mode session.role) near moment taken) secret
       ∙ ap (λ (c : Context). TookIn setup.secret c (peers_mode session.role) near moment taken) context
       ∙ ap (λ (m : Mode). TookIn setup.secret (inward (own_of setup) thing) m near moment taken) mode
 
 -- the session of a row takes a chunk of the call's datagram
 takes_chunk : (setup : Setup) (past : Past) (from : AddressParts) (datagram : List ℕ) (draws : Draws) (packet : Whole) (session : SessionState) (near : ℕ) (thing : Held) → session.own ≡ own_of setup → session.secret ≡ setup.secret →
-    WasThing session.role session.joined thing → Passed past near datagram packet (lasting session) → (c : Placed) → IsAmong c (chunks_of packet) → (chunk : Chunk) → Spells chunk c.kind c.payload →
+    session.generation ≡ 0 → WasThing session.role session.joined thing → Passed past near datagram packet (lasting session) → (c : Placed) → IsAmong c (chunks_of packet) → (chunk : Chunk) → Spells chunk c.kind c.payload →
     TakesChunkOf setup past thing near (record { from = from; datagram = datagram; draws = draws }) chunk
 unfolding as_thing
-takes_chunk setup past from datagram draws packet session near thing own secret was p c among chunk spells = record {
+takes_chunk setup past from datagram draws packet session near thing own secret generation was p c among chunk spells = record {
   moment = p.moment;
   before = p.before;
   last = p.last;
-  passes = as_thing setup session thing own secret was near p.before datagram p.passes;
+  passes = as_thing setup session thing own secret generation was near p.before datagram p.passes;
   placed = c;
   among = subst (λ (w : Whole). IsAmong c (chunks_of w)) (sym p.is) among;
   spells = spells;
@@ -126,7 +126,7 @@ far_fits Responder stage f = tt
 pub near_left : (moment : ℕ) (session : SessionState) → StageFits session.role session.stage → is_held session.stage ≡ true → IsLeft moment session (closed_near moment session)
 near_left moment session fits held =
     subst (IsLeft moment session) (sym (if_true (is_held session.stage) (record session { stage = NearClose; since = moment; close_sent = Some moment }) session held))
-    (record { joined = refl; own = refl; secret = refl; role = refl; closing = refl; stage = near_fits session.role session.stage fits; since = refl })
+    (record { joined = refl; own = refl; secret = refl; generation = refl; role = refl; closing = refl; stage = near_fits session.role session.stage fits; since = refl })
 
 or_true : (a b : Bool) → a ≡ true → (a || b) ≡ true
 or_true true b e = refl
@@ -136,7 +136,7 @@ pub far_left : (moment : ℕ) (session : SessionState) → StageFits session.rol
 far_left moment session fits held =
     subst (IsLeft moment session)
     (sym (if_true (is_held session.stage || is_near_close session.stage) (record session { stage = FarLinger; since = moment }) session (or_true (is_held session.stage) (is_near_close session.stage) held)))
-    (record { joined = refl; own = refl; secret = refl; role = refl; closing = refl; stage = far_fits session.role session.stage fits; since = refl })
+    (record { joined = refl; own = refl; secret = refl; generation = refl; role = refl; closing = refl; stage = far_fits session.role session.stage fits; since = refl })
 
 not_true : (b : Bool) → b ≡ false → b ≡ true → ⊥
 not_true b p q = let e : true ≡ false = sym q ∙ p in cc
@@ -146,6 +146,7 @@ lingers_if true moment session fits closing = record {
   joined = refl;
   own = refl;
   secret = refl;
+  generation = refl;
   role = refl;
   held = sym closing;
   thing = λ e. absurd (not_true (is_held session.stage) closing e);
@@ -205,7 +206,7 @@ module _ (setup : Setup) (from : AddressParts) (datagram : List ℕ) (draws : Dr
       let line : FarLine setup call past row.session.joined.peer near = record {
         thing = thing;
         is_held = held_facts setup call past s tied near row there held Far;
-        by = takes_chunk setup past from datagram draws packet row.session near thing is.own is.secret (was_itself row.session.role row.session.stage row.session.joined) (passed row there) c among CloseChunk (kind, tt);
+        by = takes_chunk setup past from datagram draws packet row.session near thing is.own is.secret is.generation (was_itself row.session.role row.session.stage row.session.joined) (passed row there) c among CloseChunk (kind, tt);
       } in
       subst (λ d. Goes setup call past s d) (sym (if_true (is_held row.session.stage) _ (nothing (with_session s near row (asked_to_close s.moment row.session))) held))
       (goes_ended setup call past s tied near row there held Far (asked_to_close s.moment row.session) refl (may_close row.session.role row.session.stage row.session.joined) (far_left s.moment row.session is.stage held)
@@ -235,13 +236,13 @@ module _ (setup : Setup) (from : AddressParts) (datagram : List ℕ) (draws : Dr
         thing = closed.thing;
         at = closed.at;
         closing = closed.closing;
-        by = inl (takes_chunk setup past from datagram draws packet row.session near closed.thing t.own t.secret closed.was (passed row is) c among CloseAck (kind, tt));
+        by = inl (takes_chunk setup past from datagram draws packet row.session near closed.thing t.own t.secret t.generation closed.was (passed row is) c among CloseAck (kind, tt));
       })
 
   moved_to_where : (row : Row) → get s.sessions near ≡ Some row → (moves : Option Test) (o : Option AddressParts) → Goes setup call past s (moved_where s near row moves o)
   moved_to_where row is moves None = goes_nothing setup call s past tied
   moved_to_where row is moves (Some to) =
-      goes_moved setup call s near row _ to is (record { joined = refl; own = refl; secret = refl; role = refl; held = refl; thing = λ e. refl; stage = λ f. f; since = λ e. inl refl }) past tied
+      goes_moved setup call s near row _ to is (record { joined = refl; own = refl; secret = refl; generation = refl; role = refl; held = refl; thing = λ e. refl; stage = λ f. f; since = λ e. inl refl }) past tied
 
   moved : (o : Option Row) → get s.sessions near ≡ o → Goes setup call past s (moved_by s near from c.payload o)
   moved None is = goes_nothing setup call s past tied
@@ -280,8 +281,8 @@ module _ (setup : Setup) (call : Call) (s : State) (from : AddressParts) (draws 
       keeps_if setup call s (asks row.moves row.session.address from s.moment) (test_begun s near row from draws.token) (nothing s) (λ e. begun near row found.0) (λ e. goes_nothing setup call s)
 
   pub goes_tested : (place : Place) → Keeps setup call s (tested s place from draws)
-  goes_tested Startup = goes_nothing setup call s
-  goes_tested (Attempt near) = goes_nothing setup call s
+  goes_tested (Startup generation) = goes_nothing setup call s
+  goes_tested (Attempt near generation) = goes_nothing setup call s
   goes_tested (Session near) = tested_found near (held_row s near) refl
 
 -- ---- time
@@ -399,7 +400,7 @@ module _ (setup : Setup) (call : Call) (is_tick : IsTick call) (past : Past) (s 
         began = known.began.done;
         old = omega (arith, late, known.began.early);
         quiet = λ moment took.
-            let by_then : moment ≤ session.taken = known.counts.times moment (subst (λ (t : Type 0). t) (sym (took_as setup session thing is.own is.secret was near moment (taken_since near past))) took) in
+            let by_then : moment ≤ session.taken = known.counts.times moment (subst (λ (t : Type 0). t) (sym (took_as setup session thing is.own is.secret is.generation was near moment (taken_since near past))) took) in
             omega (arith, late, by_then);
       } in
       goes_dropped setup call past s tied near row there held_now WasIdle refl (is_kept session.role session.stage session.joined both.0)
@@ -414,7 +415,7 @@ module _ (setup : Setup) (call : Call) (is_tick : IsTick call) (past : Past) (s 
   -- the row whose close is sent again
   pub goes_again : Goes setup call past s (nothing (with_session s near row (record session { close_sent = Some s.moment })))
   goes_again = goes_changed setup call s near row (record row { session = record session { close_sent = Some s.moment } }) there
-      (record { joined = refl; own = refl; secret = refl; role = refl; held = refl; thing = λ e. refl; stage = λ f. f; since = λ e. inl refl }) past tied
+      (record { joined = refl; own = refl; secret = refl; generation = refl; role = refl; held = refl; thing = λ e. refl; stage = λ f. f; since = λ e. inl refl }) past tied
 
   again : Goes setup call past s (session_due_done s near row RepeatClose)
   again = goes_and_home setup call s near (chunk_bytes CloseChunk) past _ goes_again
@@ -426,7 +427,7 @@ module _ (setup : Setup) (call : Call) (is_tick : IsTick call) (past : Past) (s 
   by_due RepeatClose is = again
 
   alive_alike : (b : Bool) → IsAlike s.moment session (if b then record session { keepalive = Some s.moment } else session)
-  alive_alike true = record { joined = refl; own = refl; secret = refl; role = refl; held = refl; thing = λ e. refl; stage = λ f. f; since = λ e. inl refl }
+  alive_alike true = record { joined = refl; own = refl; secret = refl; generation = refl; role = refl; held = refl; thing = λ e. refl; stage = λ f. f; since = λ e. inl refl }
   alive_alike false = alike_itself s.moment session
 
   -- the row that is kept alive

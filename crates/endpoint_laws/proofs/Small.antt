@@ -13,7 +13,7 @@ use Rattle.glare_core.specs.declared.facts.Held.{Held}
 use Rattle.glare_core.specs.declared.facts.Joined.{Joined}
 use Rattle.glare_core.specs.declared.facts.Why.{Why}
 use Rattle.glare_core.specs.Calls.{way_made}
-use Rattle.startup.specs.declared.cause.Cause.{Cause}
+use Rattle.rtmfp_base.specs.declared.cause.Cause.{Cause}
 use Rattle.startup.specs.State.{StartupState}
 use Rattle.session_core.specs.Session.{SessionState, context_of}
 use Rattle.session_core.specs.Sealed.{after_seal}
@@ -102,7 +102,7 @@ stated s startup fact = record { state = with_startup s startup; entries = FactE
 pub record Sends (Body : List ℕ → Type 0) (P : State → Did → Type 0) : Type 0 where
   pub steps : Steps P
   pub out : (s : State) (to : AddressParts) (sid : ℕ) (plain : List ℕ) →
-      P s (record { state = with_sealed s (s.sealed + 1); entries = Out to (startup_datagram s sid plain) StartupContext ∷ [] })
+      P s (record { state = with_sealed s (s.sealed + 1); entries = Out to (startup_datagram s sid plain) (StartupContext 0) ∷ [] })
   pub out_in : (s : State) (near : ℕ) (row : Row) (to : AddressParts) (body : List ℕ) → get s.sessions near ≡ Some row → Body body →
       P s (record { state = with_session s near row (after_seal row.session); entries = Out to (session_datagram row.session s.moment body) (context_of row.session true) ∷ [] })
 

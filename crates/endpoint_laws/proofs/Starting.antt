@@ -14,7 +14,8 @@ use Rattle.glare_core.specs.declared.answers.StartRefusal.TheVariants.{OwnPrint,
 use Rattle.glare_core.specs.Standing.{peer_of}
 use Rattle.glare_core.specs.Things.{near_of}
 use Rattle.glare_core.specs.Ledger.{Ledger, held_with, knows, row_count, noted}
-use Rattle.glare_core.specs.Calls.{where_true, start_held, start_refusal, started_fact, peers_full}
+use Rattle.rtmfp_base.specs.Reasons.{where_true}
+use Rattle.glare_core.specs.Calls.{start_held, start_refusal, started_fact, peers_full}
 use Rattle.glare_core.proofs.Giving.{gave_started}
 use Rattle.startup.specs.State.{AttemptState}
 use Rattle.startup.specs.Attempts.{begin_spread, begun_attempt, after_begin}

@@ -24,7 +24,7 @@ use Rattle.endpoint_model.specs.declared.row.Row.{Row}
 use Rattle.endpoint_model.specs.declared.entry.Entry.TheVariants.{Fact as FactEntry}
 use Rattle.endpoint_model.specs.Event.{Setup, own_of}
 use Rattle.endpoint_laws.specs.Past.{Past, stamped, facts_of, ids_in_use, is_in_use, IsClosing, WasDone}
-use Rattle.endpoint_laws.specs.OfTheLog.{WasThing}
+use Rattle.endpoint_laws.specs.OfTheLog.{WasThing, WasStartedAs}
 use Rattle.endpoint_model.specs.State.{State, fresh, uses, is_used}
 use Rattle.endpoint_model.proofs.Members.{IsOnce}
 use Rattle.endpoint_laws.proofs.Matching.{Found, of_peer}
@@ -87,6 +87,7 @@ pub record SessionTied (setup : Setup) (past : Past) (ledger : Ledger) (near : �
   pub id : session.joined.near ≡ near
   pub own : session.own ≡ own_of setup
   pub secret : session.secret ≡ setup.secret
+  pub generation : session.generation ≡ 0
   pub stage : StageFits session.role session.stage
   pub thing : is_held session.stage ≡ true → held_with ledger session.joined.peer ≡ Some (thing_of session.role session.stage session.joined)
   pub closed : is_held session.stage ≡ false → IsClosed past near session
@@ -119,7 +120,7 @@ pub record Tied (setup : Setup) (past : Past) (s : State) : Type 0 where
   -- no attempt and session have one near id
   pub apart : (near : ℕ) (a : AttemptState) → get s.startup.attempts near ≡ Some a → get s.sessions near ≡ None
   -- each attempt was started at its moment
-  pub started : (near : ℕ) (a : AttemptState) → get s.startup.attempts near ≡ Some a → WasDone (stamped a.start (FactEntry (Started a.peer a.n near a.ni))) past
+  pub started : (near : ℕ) (a : AttemptState) → get s.startup.attempts near ≡ Some a → WasStartedAs past a.start near a.ni a.aim
   -- the session IDs in use are those of the attempts and the sessions
   pub used : (near : ℕ) → is_used s near ≡ is_in_use near past
   pub count : uses s ≡ length (ids_in_use past)

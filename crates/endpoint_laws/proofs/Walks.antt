@@ -3,11 +3,15 @@ use Rattle.std.proofs.Common.{◌≡◌, ℕ, zero, suc, List, [], ◌∷◌, Bo
 use Rattle.std.specs.FinMap.{get, keys}
 use Rattle.rtmfp_base.proofs.Lowest.{first_is_there}
 use Rattle.glare_core.specs.declared.facts.Why.TheVariants.{Expired}
-use Rattle.glare_core.specs.Calls.{first_that_stands}
+use Rattle.rtmfp_base.specs.Reasons.{first_that_stands}
 use Rattle.startup.specs.declared.answer.Due.TheVariants.{Ended as EndDue}
+use Rattle.glare_core.specs.declared.facts.Fact.TheVariants.{Ended}
+use Rattle.startup.specs.declared.aim.Aim.{Aim}
+use Rattle.startup.specs.declared.aim.Aim.TheVariants.{AtPeer}
+use Rattle.startup.specs.Aims.{end_of_aim}
 use Rattle.startup.specs.State.{AttemptState, StartupState}
-use Rattle.startup.specs.Attempts.{lowest, ended_attempt, with_attempt, without_attempt}
-use Rattle.startup.specs.Due.{due_of, after_due, after_due_of, is_due, is_over, repeated, repeat_of}
+use Rattle.startup.specs.Attempts.{lowest, with_attempt, without_attempt, without_attempt_by}
+use Rattle.startup.specs.Due.{due_end, due_of, after_due, after_due_of, is_due, is_over, repeated, repeat_of}
 use Rattle.endpoint_model.specs.declared.row.Row.{Row}
 use Rattle.endpoint_model.specs.declared.row_due.RowDue.{RowDue}
 use Rattle.endpoint_model.specs.declared.place.Place.{Place}
@@ -27,8 +31,8 @@ pub record Steps (P : State → Did → Type 0) : Type 0 where
 -- The end of an attempt, its hellos or its keying again, or the first thing of a session.
 pub record IsDueThing (R : Did → Type 0) (s : State) : Type 0 where
   pub none : R (nothing s)
-  pub ends : (e : ℕ × AttemptState) → get s.startup.attempts e.0 ≡ Some e.1 → is_over s.moment e.1 ≡ true →
-      R (due_done (with_startup s (without_attempt s.startup e.0 (ended_attempt e Expired))) (EndDue (ended_attempt e Expired)))
+  pub ends : (near : ℕ) (a : AttemptState) (peer : List ℕ) (n : ℕ) → a.aim ≡ AtPeer peer n → get s.startup.attempts near ≡ Some a → is_over s.moment a ≡ true →
+      R (due_done (with_startup s (without_attempt s.startup near (Ended peer near Expired))) (EndDue (Ended peer near Expired)))
   pub repeats : (e : ℕ × AttemptState) → get s.startup.attempts e.0 ≡ Some e.1 → R (due_done (with_startup s (with_attempt s.startup e.0 (repeated e.1 s.moment))) (repeat_of s.startup e.0 e.1))
   pub row : (near : ℕ) (row : Row) (due : RowDue) → get s.sessions near ≡ Some row → row_due s.moment row ≡ Some due → R (row_due_done s near row due)
 
@@ -51,9 +55,13 @@ module _ (R : Did → Type 0) (s : State) (k : IsDueThing R s) where
   session_walked left None is = k.none
   session_walked left (Some e) is = row_walked left e.0 e.1 (row_due s.moment e.1) (first_is_there (is_row_due s.moment) s.sessions e is).0 refl
 
+  end_walked : (near : ℕ) (a : AttemptState) (aim : Aim) → a.aim ≡ aim → get s.startup.attempts near ≡ Some a → is_over s.moment a ≡ true →
+      R (due_done (with_startup s (without_attempt_by s.startup near (end_of_aim near Expired aim))) (due_end near aim))
+  end_walked near a (AtPeer peer n) aims there over = k.ends near a peer n aims there over
+
   attempt_walked : (e : ℕ × AttemptState) → get s.startup.attempts e.0 ≡ Some e.1 → (b : Bool) → is_over s.moment e.1 ≡ b →
-      R (due_done (with_startup s (if b then without_attempt s.startup e.0 (ended_attempt e Expired) else with_attempt s.startup e.0 (repeated e.1 s.moment))) (if b then EndDue (ended_attempt e Expired) else repeat_of s.startup e.0 e.1))
-  attempt_walked e there true over = k.ends e there over
+      R (due_done (with_startup s (if b then without_attempt_by s.startup e.0 (end_of_aim e.0 Expired e.1.aim) else with_attempt s.startup e.0 (repeated e.1 s.moment))) (if b then due_end e.0 e.1.aim else repeat_of s.startup e.0 e.1))
+  attempt_walked e there true over = end_walked e.0 e.1 e.1.aim refl there over
   attempt_walked e there false over = k.repeats e there
 
   item_walked : (o : Option (ℕ × AttemptState)) → lowest (is_due s.moment) s.startup.attempts ≡ o →
@@ -83,8 +91,8 @@ module _ {P : State → Did → Type 0} (steps : Steps P) where
     acked_in_walked (suc count) s near = acked_if_walked s near (λ t. acked_in count t near) (λ t. acked_in_walked count t near) (owes_by (get s.sessions near)) refl
 
     pub acked_walked : (count : ℕ) (s : State) (place : Place) → P s (acked count s place)
-    acked_walked count s Startup = steps.does_nothing s
-    acked_walked count s (Attempt near) = steps.does_nothing s
+    acked_walked count s (Startup generation) = steps.does_nothing s
+    acked_walked count s (Attempt near generation) = steps.does_nothing s
     acked_walked count s (Session near) = acked_in_walked count s near
 
   module _ (gives_up : (s : State) (near : ℕ) (row : Row) → get s.sessions near ≡ Some row → P s (nothing (unowed_by s near (Some row)))) where
@@ -93,8 +101,8 @@ module _ {P : State → Did → Type 0} (steps : Steps P) where
     unowed_by_walked s near (Some row) is = gives_up s near row is
 
     pub unowed_walked : (s : State) (place : Place) → P s (nothing (unowed s place))
-    unowed_walked s Startup = steps.does_nothing s
-    unowed_walked s (Attempt near) = steps.does_nothing s
+    unowed_walked s (Startup generation) = steps.does_nothing s
+    unowed_walked s (Attempt near generation) = steps.does_nothing s
     unowed_walked s (Session near) = unowed_by_walked s near (get s.sessions near) refl
 
   module _ (loses : (s : State) (near : ℕ) (row : Row) → get s.sessions near ≡ Some row → P s (nothing (late_at s near (Some row)))) (tick : (s : State) → P s (tick_once s)) where

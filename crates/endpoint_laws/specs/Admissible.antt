@@ -16,6 +16,7 @@ use Rattle.identity.specs.Order.{Prevails}
 use Rattle.glare_core.specs.declared.facts.Held.{Held}
 use Rattle.glare_core.specs.Standing.{held, seen, peers_in}
 use Rattle.glare_core.specs.Things.{IsAttempt}
+use Rattle.endpoint_model.specs.State.{current_generation}
 use Rattle.endpoint_model.specs.Event.{Setup, own_of}
 use Rattle.endpoint_laws.specs.Past.{Past, facts_of, ids_in_use}
 use Rattle.endpoint_laws.specs.Contexts.{ReadsUnder}
@@ -35,7 +36,7 @@ pub record Admissible (setup : Setup) (past : Past) (now : ℕ) (from : AddressP
     (datagram : List ℕ) (offer : Offer) : Type 0 where
   -- the chunk
   pub packet : Whole
-  pub reads : ReadsUnder setup.secret Startup 0 datagram packet
+  pub reads : ReadsUnder setup.secret (Startup current_generation) 0 datagram packet
   pub mode : packet.head.mode ≡ StartupMode
   pub chunk : Placed
   pub first : IsFirst chunk (chunks_of packet)

@@ -16,6 +16,7 @@ use Rattle.glare_core.specs.declared.facts.Fact.TheVariants.{Born, Opened}
 use Rattle.glare_core.specs.declared.facts.Joined.{Joined}
 use Rattle.glare_core.specs.Standing.{count}
 use Rattle.glare_core.specs.Tells.{as_initiator}
+use Rattle.startup.specs.declared.aim.Aim.TheVariants.{AtPeer}
 use Rattle.startup.specs.State.{AttemptState}
 use Rattle.endpoint_model.specs.declared.walk.Walk.{Walk}
 use Rattle.endpoint_model.specs.declared.config.Draws.{Draws}
@@ -29,7 +30,7 @@ use Rattle.endpoint_laws.specs.Contexts.{session_context}
 use Rattle.endpoint_model.specs.Keying.{IsFirst, chunks_of}
 use Rattle.endpoint_laws.specs.Admissible.{Admissible, Offer}
 use Rattle.endpoint_laws.specs.Lawful.{AnswersAttempt}
-use Rattle.endpoint_model.specs.State.{State, at_moment}
+use Rattle.endpoint_model.specs.State.{State, at_moment, current_generation}
 use Rattle.endpoint_model.specs.Admission.{Admitted, admission}
 use Rattle.endpoint_model.specs.Causes.{chunk_cause}
 use Rattle.endpoint_model.specs.Effects.{chunks_did, outset}
@@ -67,7 +68,8 @@ pub record IsBornAndTold (setup : Setup) (to : AddressParts) (j : Joined) (entri
   pub before : List Entry
   pub sent : List ℕ
   pub later : List Entry
-  pub are : entries ≡ before ++ FactEntry (Born j) ∷ Out to sent Startup ∷ later
+  pub are : entries ≡ before ++ FactEntry (Born j) ∷ Out to sent (Startup current_generation) ∷
+      later
   pub answers : AnswersAttempt setup.secret (at_initiator (own_of setup) j) sent
 
 -- a datagram that an end was given
@@ -135,8 +137,7 @@ pub record OpensItsSession (s : State) (near : ℕ) (to : AddressParts) (entries
   pub attempt : AttemptState
   pub there : get s.startup.attempts near ≡ Some attempt
   pub j : Joined
-  pub peer : j.peer ≡ attempt.peer
-  pub n : j.n ≡ attempt.n
+  pub aim : attempt.aim ≡ AtPeer j.peer j.n
   pub ni : j.ni ≡ attempt.ni
   pub id : j.near ≡ near
   pub before : List Entry
@@ -155,9 +156,11 @@ KeyingsWithoutCauseOpen = (s t u : State) (moment near : ℕ) (from : AddressPar
     (datagram : List ℕ) (draws : Draws) (answer : Answer) (entries : List Entry) (packet : Whole)
     (front back : List Placed) (c : Placed) (walk : Walk)
     → Step s (taken_event moment from datagram draws answer entries) t
-    → admission (at_moment s moment) datagram ≡ Admitted u (Attempt near) packet
+    → admission (at_moment s moment) datagram ≡ Admitted u (Attempt near current_generation) packet
     → WentThrough answer (chunks_of packet) (front ++ c ∷ back)
     → c.kind ≡ RIKEYING →
-    chunk_cause (chunks_did (Attempt near) from draws outset u front).state (Attempt near)
+    chunk_cause (chunks_did (Attempt near current_generation) from draws outset u front).state
+    (Attempt near current_generation)
     walk from c ≡ None
-    → OpensItsSession (chunks_did (Attempt near) from draws outset u front).state near from entries
+    → OpensItsSession (chunks_did (Attempt near current_generation) from draws outset u front).state
+    near from entries

@@ -8,7 +8,7 @@ use Rattle.endpoint_model.specs.declared.entry.Entry.{Entry}
 use Rattle.endpoint_model.specs.Views.{Sending, out_in}
 use Rattle.endpoint_model.specs.Event.{Setup, own_of, Call, ReceiveCall, receive_in, Event}
 use Rattle.endpoint_laws.specs.Past.{Past, facts_of, past_of_log}
-use Rattle.endpoint_laws.specs.Contexts.{ContextOf, OpensUnder}
+use Rattle.endpoint_laws.specs.Contexts.{ContextsOf, OpensFirst}
 use Rattle.endpoint_laws.specs.Lawful.{IsLawful, nonces_of}
 
 -- an event, and the number of its end
@@ -53,14 +53,14 @@ WasSent sent context [] = ⊥
 WasSent sent context (h ∷ earlier) = HasOut sent context h.event.entries ⊎
     WasSent sent context earlier
 
--- A datagram that opens in the context of its session ID, at the end that takes it, was sent in
--- that context.
+-- A datagram was sent in the first of the contexts of its session ID, at the end that takes it, in
+-- which it opens.
 abbrev pub IsHonestReceive : Setup → Past → History → Option ReceiveCall → Type 0
 IsHonestReceive setup past earlier None = Unit {0}
 IsHonestReceive setup past earlier (Some r) =
-    (context : Context) (plain : List ℕ) →
-    ContextOf (own_of setup) past (sid_of r.datagram) context →
-    OpensUnder setup.secret context (sid_of r.datagram) r.datagram plain →
+    (contexts : List Context) (context : Context) (plain : List ℕ) →
+    ContextsOf (own_of setup) past (sid_of r.datagram) contexts →
+    OpensFirst setup.secret contexts (sid_of r.datagram) r.datagram context plain →
     WasSent r.datagram context earlier
 
 abbrev pub IsHonestCall : Setup → Past → History → Call → Type 0

@@ -23,6 +23,7 @@ use Rattle.endpoint_model.specs.declared.entry.Entry.{Entry}
 use Rattle.endpoint_model.specs.Views.{Sending, fact_in, out_in, closed_in}
 use Rattle.endpoint_model.specs.declared.config.Draws.{Draws}
 use Rattle.endpoint_model.specs.Event.{Setup, own_of, Call, OpenCall, ReceiveCall, open_in, cancel_in, close_in, receive_in, tick_in, Event, moment_at}
+use Rattle.endpoint_model.specs.State.{current_generation}
 use Rattle.endpoint_laws.specs.Past.{Past, with_event, facts_of, is_in_use, IsClosing, taken_since, nothing_done, with_begun, with_entry, with_fact, WasStated, WentOut}
 use Rattle.endpoint_laws.specs.Contexts.{ReadsUnder, StandsUnder, inward, outward, OpensUnder}
 use Rattle.endpoint_laws.specs.Taken.{TookAt, TakesChunkIn}
@@ -79,7 +80,7 @@ Bears setup past now call offer nr = BearsIn setup past now (receive_in call) of
 -- keying in it answers the attempt.
 pub record AnswersAttempt (secret : List ℕ) (j : Joined) (datagram : List ℕ) : Type 0 where
   pub packet : Whole
-  pub reads : ReadsUnder secret Startup j.near datagram packet
+  pub reads : ReadsUnder secret (Startup current_generation) j.near datagram packet
   pub chunk : Placed
   pub among : IsAmong chunk (chunks_of packet)
   pub sign : List ℕ
@@ -249,14 +250,15 @@ nonces_of (Ended peer near why ∷ earlier) = nonces_of earlier
 
 -- In a session's context this is asked only where the nonces are all different.
 abbrev pub AsFarAs : Context → List Fact → Type 0
-AsFarAs Startup facts = Unit {0}
-AsFarAs (Session ni nr fp_i fp_r sid_i sid_r to_responder) facts = AllDifferent (nonces_of facts)
+AsFarAs (Startup generation) facts = Unit {0}
+AsFarAs (Session generation ni nr fp_i fp_r sid_i sid_r to_responder) facts =
+    AllDifferent (nonces_of facts)
 
 -- An initiator's keying goes out in the startup context alone, with the certificate of this end,
 -- and the session ID and the component of an attempt that is held.
 pub record KeyingOfAttempt (setup : Setup) (context : Context) (facts : List Fact) (near : ℕ)
     (cert part : List ℕ) : Type 0 where
-  pub startup : context ≡ Startup
+  pub startup : context ≡ Startup current_generation
   pub own : cert ≡ setup.cert
   pub peer : List ℕ
   pub n : ℕ
@@ -272,7 +274,7 @@ IsBornHere thing j = (thing ≡ Some (HalfOpen j)) ⊎ (thing ≡ Some (KeptAsRe
 -- that was born here and is held, with its values.
 pub record KeyingOfBorn (setup : Setup) (context : Context) (facts : List Fact) (sid near : ℕ)
     (part : List ℕ) : Type 0 where
-  pub startup : context ≡ Startup
+  pub startup : context ≡ Startup current_generation
   pub j : Joined
   pub is_held : IsBornHere (held j.peer facts) j
   pub sid_is : sid ≡ j.far
@@ -289,10 +291,10 @@ IsFarOf (KeptAsInitiator j) sid = sid ≡ j.far
 -- A datagram in a session's context goes under the far ID of a session that is held or closing, in
 -- the direction away from this end.
 abbrev pub InSession : Setup → Past → ℕ → Context → Type 0
-InSession setup past sid Startup = Unit {0}
-InSession setup past sid (Session ni nr fp_i fp_r sid_i sid_r to_responder) =
+InSession setup past sid (Startup generation) = Unit {0}
+InSession setup past sid (Session generation ni nr fp_i fp_r sid_i sid_r to_responder) =
     (thing : Held) × (near : ℕ) × StandsUnder past near thing ×
-    (Session ni nr fp_i fp_r sid_i sid_r to_responder ≡ outward (own_of setup) thing) ×
+    (Session generation ni nr fp_i fp_r sid_i sid_r to_responder ≡ outward (own_of setup) thing) ×
     IsFarOf thing sid
 
 pub record OutLine (setup : Setup) (past : Past) (sent : List ℕ) (context : Context)

@@ -10,6 +10,8 @@ use Rattle.glare_core.specs.declared.facts.Joined.{Joined}
 use Rattle.glare_core.specs.Standing.{held, seen, count, peers_in}
 use Rattle.glare_core.specs.Things.{IsSession, near_of}
 use Rattle.glare_core.specs.Ledger.{held_with, floor_of, knows, row_count}
+use Rattle.startup.specs.declared.aim.Aim.{Aim}
+use Rattle.startup.specs.declared.aim.Aim.TheVariants.{AtPeer}
 use Rattle.startup.specs.State.{AttemptState}
 use Rattle.session_core.specs.declared.stage.Role.{Role}
 use Rattle.session_core.specs.declared.stage.Role.TheVariants.{Initiator, Responder}
@@ -38,17 +40,25 @@ IsThing Responder NearClose j thing = ⊥
 IsThing Responder FarLinger j thing = ⊥
 IsThing Responder Closed j thing = ⊥
 
--- The attempt under this session ID is held with its peer, and was started at its moment.
+-- what is towards a peer is held with it
+abbrev pub IsHeldByLog : Past → ℕ → List ℕ → Aim → Type 0
+IsHeldByLog past near ni (AtPeer peer n) = held peer (facts_of past)
+    ≡ Some (AttemptHeld n near ni)
+
+-- and was started at this moment
+abbrev pub WasStartedAs : Past → ℕ → ℕ → List ℕ → Aim → Type 0
+WasStartedAs past start near ni (AtPeer peer n) = WasStated start (Started peer n near ni) past
+
+-- The attempt under this session ID is held as what it aims at, and was started at its moment.
 pub record AttemptIsHeld (past : Past) (near : ℕ) (a : AttemptState) : Type 0 where
-  pub is_held : held a.peer (facts_of past) ≡ Some (AttemptHeld a.n near a.ni)
-  pub started : WasStated a.start (Started a.peer a.n near a.ni) past
+  pub is_held : IsHeldByLog past near a.ni a.aim
+  pub started : WasStartedAs past a.start near a.ni a.aim
 
 -- An attempt that is held is there under its session ID.
 pub record AttemptIsThere (s : State) (peer : List ℕ) (n near : ℕ) (ni : List ℕ) : Type 0 where
   pub attempt : AttemptState
   pub there : get s.startup.attempts near ≡ Some attempt
-  pub peer_is : attempt.peer ≡ peer
-  pub n_is : attempt.n ≡ n
+  pub aim_is : attempt.aim ≡ AtPeer peer n
   pub ni_is : attempt.ni ≡ ni
 
 -- The session with this role was that thing while it was held.

@@ -13,7 +13,7 @@ use Rattle.endpoint_model.specs.declared.place.Place.{Place}
 use Rattle.endpoint_model.specs.declared.place.Place.TheVariants.{Startup, Attempt, Session}
 use Rattle.endpoint_model.specs.Event.{Setup, Event, own_of}
 use Rattle.endpoint_laws.specs.Past.{Past, past_of_log}
-use Rattle.endpoint_laws.specs.Contexts.{ContextOf, OpensUnder}
+use Rattle.endpoint_laws.specs.Contexts.{ContextsOf, OpensFirst}
 use Rattle.endpoint_model.specs.State.{State}
 use Rattle.endpoint_model.specs.Admission.{place_of, startup_keys}
 use Rattle.endpoint_model.specs.Log.{StandsFor}
@@ -21,13 +21,14 @@ use Rattle.endpoint_laws.specs.Laws.{IsSetup, AreCalls}
 
 -- ---- by what is kept
 
-abbrev pub startup_unless : Option SealFault → Option Context
-startup_unless None = Some StartupContext
-startup_unless (Some fault) = None
+abbrev pub startup_unless : ℕ → Option SealFault → Option Context
+startup_unless generation None = Some (StartupContext generation)
+startup_unless generation (Some fault) = None
 
--- the startup context, where a sealed part opens in it under this session ID
-abbrev pub context_in_startup : State → ℕ → List ℕ → Option Context
-context_in_startup s sid part = startup_unless (open_refusal (startup_keys s) sid part)
+-- the startup context of a generation, where a sealed part opens in it under this session ID
+abbrev pub context_in_startup : State → ℕ → ℕ → List ℕ → Option Context
+context_in_startup s generation sid part =
+    startup_unless generation (open_refusal (startup_keys s generation) sid part)
 
 -- The context of a session towards this end, where a sealed part opens in it. The numbers taken
 -- before don't count.
@@ -37,8 +38,8 @@ context_in_session (Some row) part = if opens_in_session row.session part then
     Some (context_of row.session false) else None
 
 abbrev pub context_at : State → Place → List ℕ → Option Context
-context_at s Startup part = context_in_startup s 0 part
-context_at s (Attempt near) part = context_in_startup s near part
+context_at s (Startup generation) part = context_in_startup s generation 0 part
+context_at s (Attempt near generation) part = context_in_startup s generation near part
 context_at s (Session near) part = context_in_session (get s.sessions near) part
 
 abbrev pub context_found : State → Option Place → List ℕ → Option Context
@@ -53,13 +54,14 @@ opens_in s datagram = if nat_lt (length datagram) 36 then None
 
 -- ---- by what was done
 
--- At an end that did this the context is that of the datagram's session ID, and the
--- datagram opens in it.
+-- At an end that did this the context is the first of those of the datagram's session ID in which
+-- the datagram opens.
 pub record OpensAt (setup : Setup) (past : Past) (datagram : List ℕ) (context : Context)
     : Type 0 where
-  pub named : ContextOf (own_of setup) past (sid_of datagram) context
+  pub contexts : List Context
+  pub named : ContextsOf (own_of setup) past (sid_of datagram) contexts
   pub plain : List ℕ
-  pub opens : OpensUnder setup.secret context (sid_of datagram) datagram plain
+  pub opens : OpensFirst setup.secret contexts (sid_of datagram) datagram context plain
 
 -- The answer is the context in which the datagram opens at an end with this log, and None where it
 -- opens in none.

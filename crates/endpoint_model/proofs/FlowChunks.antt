@@ -16,9 +16,9 @@ use Rattle.rtmfp_forms.specs.OptionReading.{◌>>=◌}
 use Rattle.rtmfp_data_chunks.specs.Chunk.{DataChunk, Data, Next, AckBitmap, AckRanges, Probe, Exception}
 use Rattle.rtmfp_data_chunks.specs.Reader.{data_reading, data_then, next_then, bitmap_then, ack_ranges_then, probe_then, exception_then}
 use Rattle.rtmfp_data_chunks.specs.Spelling.{before_next}
-use Rattle.glare_core.specs.Calls.{where_true, first_that_stands}
-use Rattle.startup.specs.declared.cause.Cause.{Cause}
-use Rattle.startup.specs.declared.cause.Cause.TheVariants.{WrongPlace}
+use Rattle.rtmfp_base.specs.Reasons.{where_true, first_that_stands}
+use Rattle.rtmfp_base.specs.declared.cause.Cause.{Cause}
+use Rattle.rtmfp_base.specs.declared.cause.Cause.TheVariants.{WrongPlace}
 use Rattle.endpoint_model.specs.declared.config.Draws.{Draws}
 use Rattle.endpoint_model.specs.declared.place.Place.{Place}
 use Rattle.endpoint_model.specs.declared.place.Place.TheVariants.{Startup, Attempt, Session}
@@ -73,9 +73,9 @@ pub skip_none : (o : Option Cause) (rest : List (Option Cause)) → first_that_s
 skip_none None rest = refl
 skip_none (Some cause) rest = refl
 
-by_place : (Q : Place → Type 0) → Q Startup → ((near : ℕ) → Q (Attempt near)) → ((near : ℕ) → Q (Session near)) → (place : Place) → Q place
-by_place Q startup attempt session Startup = startup
-by_place Q startup attempt session (Attempt near) = attempt near
+by_place : (Q : Place → Type 0) → ((generation : ℕ) → Q (Startup generation)) → ((near generation : ℕ) → Q (Attempt near generation)) → ((near : ℕ) → Q (Session near)) → (place : Place) → Q place
+by_place Q startup attempt session (Startup generation) = startup generation
+by_place Q startup attempt session (Attempt near generation) = attempt near generation
 by_place Q startup attempt session (Session near) = session near
 
 module _ (s : State) (walk : Walk) (from : AddressParts) (draws : Draws) (c : Placed) where
@@ -97,12 +97,12 @@ module _ (s : State) (walk : Walk) (from : AddressParts) (draws : Draws) (c : Pl
 
   pub flows_cause : (place : Place) → is_of_flows c.kind ≡ true → chunk_cause s place walk from c ≡ causes_at place c.kind
   flows_cause place e = of_flows (λ k. CauseIs k place)
-      (by_place (CauseIs 0x10) (skipped 0x10 Startup) (λ n. skipped 0x10 (Attempt n)) (λ n. skipped 0x10 (Session n)) place)
-      (by_place (CauseIs 0x11) (skipped 0x11 Startup) (λ n. skipped 0x11 (Attempt n)) (λ n. skipped 0x11 (Session n)) place)
-      (by_place (CauseIs 0x50) (skipped 0x50 Startup) (λ n. skipped 0x50 (Attempt n)) (λ n. skipped 0x50 (Session n)) place)
-      (by_place (CauseIs 0x51) (skipped 0x51 Startup) (λ n. skipped 0x51 (Attempt n)) (λ n. skipped 0x51 (Session n)) place)
-      (by_place (CauseIs 0x18) (skipped 0x18 Startup) (λ n. skipped 0x18 (Attempt n)) (λ n. skipped 0x18 (Session n)) place)
-      (by_place (CauseIs 0x5e) (skipped 0x5e Startup) (λ n. skipped 0x5e (Attempt n)) (λ n. skipped 0x5e (Session n)) place)
+      (by_place (CauseIs 0x10) (λ g. skipped 0x10 (Startup g)) (λ n g. skipped 0x10 (Attempt n g)) (λ n. skipped 0x10 (Session n)) place)
+      (by_place (CauseIs 0x11) (λ g. skipped 0x11 (Startup g)) (λ n g. skipped 0x11 (Attempt n g)) (λ n. skipped 0x11 (Session n)) place)
+      (by_place (CauseIs 0x50) (λ g. skipped 0x50 (Startup g)) (λ n g. skipped 0x50 (Attempt n g)) (λ n. skipped 0x50 (Session n)) place)
+      (by_place (CauseIs 0x51) (λ g. skipped 0x51 (Startup g)) (λ n g. skipped 0x51 (Attempt n g)) (λ n. skipped 0x51 (Session n)) place)
+      (by_place (CauseIs 0x18) (λ g. skipped 0x18 (Startup g)) (λ n g. skipped 0x18 (Attempt n g)) (λ n. skipped 0x18 (Session n)) place)
+      (by_place (CauseIs 0x5e) (λ g. skipped 0x5e (Startup g)) (λ n g. skipped 0x5e (Attempt n g)) (λ n. skipped 0x5e (Session n)) place)
       c.kind e
 
   -- what it does

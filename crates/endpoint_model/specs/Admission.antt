@@ -14,8 +14,8 @@ use Rattle.rtmfp_packet.specs.declared.head.Mode.TheVariants.{Initiator as FromI
 use Rattle.rtmfp_packet.specs.Head.{flag, mode_number}
 use Rattle.rtmfp_packet.specs.Walk.{body_of}
 use Rattle.rtmfp_packet.specs.Whole.{Whole}
-use Rattle.startup.specs.declared.cause.Cause.{Cause}
-use Rattle.startup.specs.declared.cause.Cause.TheVariants.{Short, UnknownSession, BadTag, Repeated, BadPacket, WrongPlace}
+use Rattle.rtmfp_base.specs.declared.cause.Cause.{Cause}
+use Rattle.rtmfp_base.specs.declared.cause.Cause.TheVariants.{Short, UnknownSession, BadTag, Repeated, BadPacket, WrongPlace}
 use Rattle.session_core.specs.declared.stage.Role.{Role}
 use Rattle.session_core.specs.declared.stage.Role.TheVariants.{Initiator, Responder}
 use Rattle.session_core.specs.declared.hearing.Unheard.{Unheard}
@@ -26,7 +26,7 @@ use Rattle.startup.specs.Attempts.{confirm_fact, after_confirm}
 use Rattle.endpoint_model.specs.declared.place.Place.{Place}
 use Rattle.endpoint_model.specs.declared.row.Row.{Row}
 use Rattle.endpoint_model.specs.declared.place.Place.TheVariants.{Startup, Attempt, Session}
-use Rattle.endpoint_model.specs.State.{State, Did, nothing, fact_entries, with_session, with_startup}
+use Rattle.endpoint_model.specs.State.{State, Did, current_generation, nothing, fact_entries, with_session, with_startup}
 
 -- ---- how a plain packet reads, as one function
 
@@ -82,32 +82,33 @@ packet_in (flags ∷ rest) = with_mode (flags ∷ rest) flags rest (mode_in flag
 
 -- ---- where a datagram belongs
 
+-- session ID 0 and that of an attempt, in the current generation, or that of a session
 abbrev pub place_of : State → ℕ → Option Place
 place_of s sid =
-    if sid == 0 then Some Startup
-    else if contains_key s.startup.attempts sid then Some (Attempt sid)
+    if sid == 0 then Some (Startup current_generation)
+    else if contains_key s.startup.attempts sid then Some (Attempt sid current_generation)
     else if contains_key s.sessions sid then Some (Session sid)
     else None
 
 -- the session ID of a place
 abbrev pub sid_at : Place → ℕ
-sid_at Startup = 0
-sid_at (Attempt near) = near
+sid_at (Startup generation) = 0
+sid_at (Attempt near generation) = near
 sid_at (Session near) = near
 
 -- ---- how it opens
 
--- the keys of startup packets
-abbrev pub startup_keys : State → Keys
-startup_keys s = keys_of s.startup.secret StartupContext
+-- the keys of startup packets of a generation
+abbrev pub startup_keys : State → ℕ → Keys
+startup_keys s generation = keys_of s.startup.secret (StartupContext generation)
 
 abbrev pub opened_by : Keys → List ℕ → Option SealFault → Result (List ℕ) Cause
 opened_by keys part None = Ok (plain_of keys part)
 opened_by keys part (Some fault) = Err BadTag
 
-abbrev pub opened_in_startup : State → ℕ → List ℕ → Result (List ℕ) Cause
-opened_in_startup s sid part = opened_by (startup_keys s) part
-    (open_refusal (startup_keys s) sid part)
+abbrev pub opened_in_startup : State → ℕ → ℕ → List ℕ → Result (List ℕ) Cause
+opened_in_startup s generation sid part = opened_by (startup_keys s generation) part
+    (open_refusal (startup_keys s generation) sid part)
 
 abbrev pub heard_by : SessionState → List ℕ → Option Unheard → Result (List ℕ) Cause
 heard_by session part None = Ok (plain_of (inward_keys session) part)
@@ -121,8 +122,8 @@ heard_in (Some row) part = heard_by row.session part (unheard row.session part)
 
 -- the plain packet of a sealed part at a place, or why it has none
 abbrev pub opened_at : State → Place → List ℕ → Result (List ℕ) Cause
-opened_at s Startup part = opened_in_startup s 0 part
-opened_at s (Attempt near) part = opened_in_startup s near part
+opened_at s (Startup generation) part = opened_in_startup s generation 0 part
+opened_at s (Attempt near generation) part = opened_in_startup s generation near part
 opened_at s (Session near) part = heard_in (get s.sessions near) part
 
 abbrev pub placed : Place → Result (List ℕ) Cause → Result (Place × List ℕ) Cause
@@ -146,8 +147,8 @@ counted_by s near part None = s
 counted_by s near part (Some row) = with_session s near row (counted row.session part)
 
 abbrev pub counted_at : State → Place → List ℕ → State
-counted_at s Startup part = s
-counted_at s (Attempt near) part = s
+counted_at s (Startup generation) part = s
+counted_at s (Attempt near generation) part = s
 counted_at s (Session near) part = counted_by s near part (get s.sessions near)
 
 abbrev pub timed_by : State → ℕ → PacketHead → Option Row → State
@@ -156,8 +157,8 @@ timed_by s near head (Some row) =
     with_session s near row (with_stamps head s.moment row.session)
 
 abbrev pub timed_at : State → Place → PacketHead → State
-timed_at s Startup head = s
-timed_at s (Attempt near) head = s
+timed_at s (Startup generation) head = s
+timed_at s (Attempt near generation) head = s
 timed_at s (Session near) head = timed_by s near head (get s.sessions near)
 
 -- a half-open session is confirmed
@@ -173,8 +174,8 @@ confirming_by s near (Some row) =
     else nothing s
 
 abbrev pub confirming : State → Place → Did
-confirming s Startup = nothing s
-confirming s (Attempt near) = nothing s
+confirming s (Startup generation) = nothing s
+confirming s (Attempt near generation) = nothing s
 confirming s (Session near) = confirming_by s near (get s.sessions near)
 
 -- whether that session is half-open
@@ -183,8 +184,8 @@ confirms_by None = false
 confirms_by (Some row) = is_opening row.session.stage
 
 abbrev pub confirms : State → Place → Bool
-confirms s Startup = false
-confirms s (Attempt near) = false
+confirms s (Startup generation) = false
+confirms s (Attempt near generation) = false
 confirms s (Session near) = confirms_by (get s.sessions near)
 
 -- ---- all of it
@@ -199,8 +200,8 @@ mode_by None = FromStartup
 mode_by (Some row) = peers_mode row.session.role
 
 abbrev pub mode_at : State → Place → Mode
-mode_at s Startup = FromStartup
-mode_at s (Attempt near) = FromStartup
+mode_at s (Startup generation) = FromStartup
+mode_at s (Attempt near generation) = FromStartup
 mode_at s (Session near) = mode_by (get s.sessions near)
 
 abbrev pub has_mode : PacketHead → Mode → Bool

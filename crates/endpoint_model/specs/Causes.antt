@@ -11,9 +11,9 @@ use Rattle.rtmfp_data_chunks.specs.declared.user_data.Numbers.{Numbers}
 use Rattle.rtmfp_data_chunks.specs.Reader.{data_reading}
 use Rattle.rtmfp_packet.specs.Walk.{Placed}
 use Rattle.identity.specs.Certificates.{certificate_fault}
-use Rattle.glare_core.specs.Calls.{where_true, first_that_stands}
-use Rattle.startup.specs.declared.cause.Cause.{Cause}
-use Rattle.startup.specs.declared.cause.Cause.TheVariants.{UnknownChunk, Malformed, WrongPlace, WrongState, NoAttempt, SecondKeying, Fragment as FragmentCause, Wide}
+use Rattle.rtmfp_base.specs.Reasons.{where_true, first_that_stands}
+use Rattle.rtmfp_base.specs.declared.cause.Cause.{Cause}
+use Rattle.rtmfp_base.specs.declared.cause.Cause.TheVariants.{UnknownChunk, Malformed, WrongPlace, WrongState, NoAttempt, SecondKeying, Fragment as FragmentCause, Wide}
 use Rattle.startup.specs.Attempts.{rhello_cause, cookie_change_cause}
 use Rattle.startup.specs.Redirects.{redirect_cause}
 use Rattle.startup.specs.Keyings.{keying_fault, initiator_hello_cause, iikeying_cause, rikeying_cause}
@@ -58,10 +58,10 @@ form_cause before kind payload =
 
 -- which chunks a place takes
 abbrev pub takes : Place → ℕ → Bool
-takes Startup kind =
+takes (Startup generation) kind =
     (kind == IHELLO) || (kind == RHELLO) || (kind == REDIRECT) || (kind == COOKIE_CHANGE)
     || (kind == IIKEYING)
-takes (Attempt near) kind = (kind == COOKIE_CHANGE) || (kind == RIKEYING)
+takes (Attempt near generation) kind = (kind == COOKIE_CHANGE) || (kind == RIKEYING)
 takes (Session near) kind =
     (kind == FIHELLO) || (kind == PING) || (kind == PING_REPLY) || (kind == CLOSE)
     || (kind == CLOSE_ACK) || is_of_flows kind
@@ -76,8 +76,8 @@ row_takes (Some row) kind =
     else is_held row.session.stage
 
 abbrev pub has_state_for : State → Place → ℕ → Bool
-has_state_for s Startup kind = true
-has_state_for s (Attempt near) kind = true
+has_state_for s (Startup generation) kind = true
+has_state_for s (Attempt near generation) kind = true
 has_state_for s (Session near) kind = row_takes (get s.sessions near) kind
 
 -- The causes of hellos, of redirects, of changes of cookies and of pings. A hello that was

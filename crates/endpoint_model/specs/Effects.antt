@@ -17,8 +17,9 @@ use Rattle.identity.specs.Discriminators.{discriminator_of}
 use Rattle.glare_core.specs.declared.facts.Fact.{Fact}
 use Rattle.glare_core.specs.declared.facts.Fact.TheVariants.{Started, Born, Opened, Confirmed, Ended}
 use Rattle.glare_core.specs.declared.answers.StartRefusal.{StartRefusal}
-use Rattle.glare_core.specs.Calls.{where_true, first_that_stands, start_refusal, started_fact}
-use Rattle.startup.specs.declared.cause.Cause.{Cause}
+use Rattle.rtmfp_base.specs.Reasons.{where_true, first_that_stands}
+use Rattle.glare_core.specs.Calls.{start_refusal, started_fact}
+use Rattle.rtmfp_base.specs.declared.cause.Cause.{Cause}
 use Rattle.startup.specs.declared.answer.Answer.{Answer}
 use Rattle.startup.specs.declared.answer.Keyed.{Keyed}
 use Rattle.startup.specs.declared.answer.Keyed.TheVariants.{Change, Again, Birth}
@@ -30,7 +31,7 @@ use Rattle.startup.specs.Redirects.{after_redirect, redirect_spread, sent_by_spr
 use Rattle.startup.specs.Due.{due, after_due}
 use Rattle.startup.specs.Keyings.{selects, initiator_hello_answer, keyed, after_keying, opened, after_opening}
 use Rattle.session_core.specs.declared.stage.Role.TheVariants.{Initiator, Responder}
-use Rattle.session_core.specs.Session.{new_session}
+use Rattle.session_core.specs.Session.{new_session_under}
 use Rattle.endpoint_model.specs.declared.config.Draws.{Draws}
 use Rattle.endpoint_model.specs.declared.place.Place.{Place}
 use Rattle.endpoint_model.specs.declared.walk.Walk.{Walk}
@@ -39,7 +40,7 @@ use Rattle.endpoint_model.specs.declared.row_due.RowDue.{RowDue}
 use Rattle.endpoint_model.specs.declared.entry.Entry.TheVariants.{Fact as FactEntry, Discard}
 use Rattle.endpoint_model.specs.declared.answers.OpenRefusal.{OpenRefusal}
 use Rattle.endpoint_model.specs.declared.answers.OpenRefusal.TheVariants.{Candidates, Start, SessionsFull}
-use Rattle.endpoint_model.specs.State.{State, Sessions, Did, nothing, after_entries, then_do, fact_entries, with_startup, with_sessions, new_row, free_from, full}
+use Rattle.endpoint_model.specs.State.{State, Sessions, Did, current_generation, nothing, after_entries, then_do, fact_entries, with_startup, with_sessions, new_row, free_from, full}
 use Rattle.endpoint_model.specs.Sending.{sent_answer, sent_if, sent_spread, sent_in_session}
 use Rattle.endpoint_model.specs.Introducing.{forwarded_to, redirected_to, redirect_of}
 use Rattle.endpoint_model.specs.InSessions.{sent_home, told_in_session, tested, asks_at, answers_by}
@@ -150,7 +151,7 @@ abbrev pub sessions_born : Sessions → Option Fact → Fact → List ℕ → Ad
 sessions_born sessions ended (Started peer n near ni) own from secret moment = sessions
 sessions_born sessions ended (Born j) own from secret moment =
     insert (without_ended sessions ended) j.near
-    (new_row (new_session j own Responder from secret moment))
+    (new_row (new_session_under current_generation j own Responder from secret moment))
 sessions_born sessions ended (Opened j) own from secret moment = sessions
 sessions_born sessions ended (Confirmed peer near) own from secret moment = sessions
 sessions_born sessions ended (Ended peer near why) own from secret moment = sessions
@@ -182,7 +183,8 @@ abbrev pub sessions_opened : Sessions → Fact → List ℕ → AddressParts →
 sessions_opened sessions (Started peer n near ni) own from secret moment = sessions
 sessions_opened sessions (Born j) own from secret moment = sessions
 sessions_opened sessions (Opened j) own from secret moment =
-    insert sessions j.near (new_row (new_session j own Initiator from secret moment))
+    insert sessions j.near
+    (new_row (new_session_under current_generation j own Initiator from secret moment))
 sessions_opened sessions (Confirmed peer near) own from secret moment = sessions
 sessions_opened sessions (Ended peer near why) own from secret moment = sessions
 

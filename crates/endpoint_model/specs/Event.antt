@@ -7,7 +7,7 @@ use Rattle.introducer.specs.declared.refusal.RowRefusal.{RowRefusal}
 use Rattle.endpoint_model.specs.declared.config.Config.{Config}
 use Rattle.endpoint_model.specs.declared.config.Draws.{Draws}
 use Rattle.endpoint_model.specs.declared.answers.OpenRefusal.{OpenRefusal}
-use Rattle.endpoint_model.specs.declared.answers.CallRefusal.{CallRefusal}
+use Rattle.session_flows.specs.declared.refusal.CallRefusal.{CallRefusal}
 use Rattle.endpoint_model.specs.declared.answers.Stopped.{Stopped as Stop}
 use Rattle.endpoint_model.specs.declared.entry.Entry.{Entry}
 use Rattle.endpoint_model.specs.FlowCall.{FlowCall}

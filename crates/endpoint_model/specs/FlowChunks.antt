@@ -8,10 +8,8 @@ use Rattle.rtmfp_data_chunks.specs.declared.kinds.TheConstants.{DATA, NEXT, ACK_
 use Rattle.rtmfp_data_chunks.specs.declared.view.DataFault.{DataFault}
 use Rattle.rtmfp_data_chunks.specs.declared.view.DataFault.TheVariants.{Unknown, Malformed as BadField, BadOffset}
 use Rattle.rtmfp_data_chunks.specs.Chunk.{DataChunk, Data, Next, AckBitmap, AckRanges, Probe, Exception}
-use Rattle.startup.specs.declared.cause.Cause.{Cause}
-use Rattle.startup.specs.declared.cause.Cause.TheVariants as cause
-use Rattle.session_flows.specs.declared.cause.FlowCause.{FlowCause}
-use Rattle.session_flows.specs.declared.cause.FlowCause.TheVariants as flow
+use Rattle.rtmfp_base.specs.declared.cause.Cause.{Cause}
+use Rattle.rtmfp_base.specs.declared.cause.Cause.TheVariants as cause
 use Rattle.session_flows.specs.Causes.{chunk_cause}
 use Rattle.session_flows.specs.Chunks.{chunk_done, session_after, rejecting}
 use Rattle.session_flows.specs.Owing.{owes, acks_put, after_acks, owing_none}
@@ -30,8 +28,8 @@ is_of_flows kind = (kind == DATA) || (kind == NEXT) || (kind == ACK_BITMAP) || (
 
 -- which come in sessions alone
 abbrev pub is_session : Place → Bool
-is_session Startup = false
-is_session (Attempt near) = false
+is_session (Startup generation) = false
+is_session (Attempt near generation) = false
 is_session (Session near) = true
 
 -- ---- causes
@@ -43,19 +41,10 @@ data_fault (Err (Unknown kind)) = Some (cause.UnknownChunk kind)
 data_fault (Err (BadField at)) = Some (cause.Malformed at)
 data_fault (Err (BadOffset at)) = Some (cause.Malformed at)
 
--- the causes of a session's flows, as the end tells them
-abbrev pub told_cause : FlowCause → Cause
-told_cause flow.WrongState = cause.WrongState
-told_cause flow.UnknownFlow = cause.UnknownFlow
-told_cause (flow.FlowsFull count) = cause.FlowsFull count
-told_cause (flow.AfterFinal n) = cause.AfterFinal n
-told_cause (flow.BeyondBuffer held) = cause.BeyondBuffer held
-told_cause (flow.AckBeyond n) = cause.AckBeyond n
-
 -- a session that isn't there takes none
 abbrev pub taking_cause : Option Row → DataChunk → Option Cause
 taking_cause None chunk = Some cause.WrongState
-taking_cause (Some row) chunk = option_map told_cause (chunk_cause row.session row.flows chunk)
+taking_cause (Some row) chunk = chunk_cause row.session row.flows chunk
 
 -- of one whose fields could be read
 abbrev pub flow_cause : Option Row → Result DataChunk DataFault → Option Cause
@@ -124,14 +113,14 @@ acked_in (suc count) s near = acked_if s near (owes_by (get s.sessions near))
 
 -- after the chunks of a datagram that came at a place
 abbrev pub acked : ℕ → State → Place → Did
-acked count s Startup = nothing s
-acked count s (Attempt near) = nothing s
+acked count s (Startup generation) = nothing s
+acked count s (Attempt near generation) = nothing s
 acked count s (Session near) = acked_in count s near
 
 -- Acks are still owed there.
 abbrev pub owes_at : State → Place → Bool
-owes_at s Startup = false
-owes_at s (Attempt near) = false
+owes_at s (Startup generation) = false
+owes_at s (Attempt near generation) = false
 owes_at s (Session near) = owes_by (get s.sessions near)
 
 -- Those that find no memory aren't sent: none is owed any more.
@@ -140,6 +129,6 @@ unowed_by s near None = s
 unowed_by s near (Some row) = with_flows s near row (owing_none row.flows)
 
 abbrev pub unowed : State → Place → State
-unowed s Startup = s
-unowed s (Attempt near) = s
+unowed s (Startup generation) = s
+unowed s (Attempt near generation) = s
 unowed s (Session near) = unowed_by s near (get s.sessions near)

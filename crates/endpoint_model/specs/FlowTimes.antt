@@ -2,7 +2,7 @@
 use Rattle.std.specs.Prelude.{ℕ, Bool, is_some, List, [], ◌∷◌, length, drop, Option, Some, None}
 use Rattle.std.specs.List.{find}
 use Rattle.std.specs.FinMap.{get, entries, keys}
-use Rattle.glare_core.specs.Calls.{where_true, first_that_stands}
+use Rattle.rtmfp_base.specs.Reasons.{where_true, first_that_stands}
 use Rattle.session_core.specs.declared.stage.SessionDue.{SessionDue}
 use Rattle.session_core.specs.Closing.{first_due, needs_keepalive}
 use Rattle.session_flows.specs.Keeping.{with_sending}

@@ -119,8 +119,8 @@ asks_by s from None = false
 asks_by s from (Some row) = asks row.moves row.session.address from s.moment
 
 abbrev pub asks_at : State → Place → AddressParts → Bool
-asks_at s Startup from = false
-asks_at s (Attempt near) from = false
+asks_at s (Startup generation) from = false
+asks_at s (Attempt near generation) from = false
 asks_at s (Session near) from = asks_by s from (held_row s near)
 
 -- The test is pending, and a ping with this token goes to the address.
@@ -138,8 +138,8 @@ tested_by s near from token (Some row) = if asks row.moves row.session.address f
 
 -- after the chunks of a datagram that came at a place from an address
 abbrev pub tested : State → Place → AddressParts → Draws → Did
-tested s Startup from draws = nothing s
-tested s (Attempt near) from draws = nothing s
+tested s (Startup generation) from draws = nothing s
+tested s (Attempt near generation) from draws = nothing s
 tested s (Session near) from draws = tested_by s near from draws.token (held_row s near)
 
 -- ---- time

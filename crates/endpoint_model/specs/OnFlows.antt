@@ -1,15 +1,13 @@
 -- What an end does with the flows of its sessions.
 use Rattle.std.specs.Prelude.{ℕ, map, Option, Some, None}
 use Rattle.std.specs.Option.{option_map}
-use Rattle.session_flows.specs.declared.refusal.CallRefusal.{CallRefusal as FlowRefusal}
-use Rattle.session_flows.specs.declared.refusal.CallRefusal.TheVariants as flow
 use Rattle.session_flows.specs.Keeping.{FlowsState, Stated, Did as FlowsDid}
 use Rattle.session_flows.specs.Keeping.{Opened, Queued, Abandoned, Finished, Handed}
 use Rattle.endpoint_model.specs.declared.row.Row.{Row}
 use Rattle.endpoint_model.specs.declared.entry.Entry.{Entry}
 use Rattle.endpoint_model.specs.declared.entry.Entry.TheVariants as entry
-use Rattle.endpoint_model.specs.declared.answers.CallRefusal.{CallRefusal}
-use Rattle.endpoint_model.specs.declared.answers.CallRefusal.TheVariants as call
+use Rattle.session_flows.specs.declared.refusal.CallRefusal.{CallRefusal}
+use Rattle.session_flows.specs.declared.refusal.CallRefusal.TheVariants as call
 use Rattle.endpoint_model.specs.FlowCall.{FlowCall, flow_refusal, flow_did}
 use Rattle.endpoint_model.specs.State.{State, Did, nothing, with_row}
 use Rattle.endpoint_model.specs.InSessions.{held_row}
@@ -40,19 +38,10 @@ flows_done s near row d = record {
 
 -- ---- a call
 
-abbrev pub flow_refused : FlowRefusal → CallRefusal
-flow_refused flow.NoFlow = call.NoFlow
-flow_refused (flow.FlowsFull count) = call.FlowsFull count
-flow_refused (flow.WideMetadata size) = call.WideMetadata size
-flow_refused (flow.Queue refusal) = call.Queue refusal
-flow_refused flow.NotQueued = call.NotQueued
-flow_refused flow.Finished = call.Finished
-flow_refused flow.Memory = call.Memory
-
 -- no held session has the session ID, or the call is refused in it
 abbrev pub call_refusal_by : FlowCall → Option Row → Option CallRefusal
 call_refusal_by c None = Some call.NoSession
-call_refusal_by c (Some row) = option_map flow_refused (flow_refusal row.flows c)
+call_refusal_by c (Some row) = flow_refusal row.flows c
 
 abbrev pub call_refusal : State → ℕ → FlowCall → Option CallRefusal
 call_refusal s near c = call_refusal_by c (held_row s near)

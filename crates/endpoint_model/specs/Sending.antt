@@ -13,13 +13,13 @@ use Rattle.session_core.specs.Sealed.{sealed_part, after_seal}
 use Rattle.endpoint_model.specs.declared.entry.Entry.TheVariants.{Out}
 use Rattle.endpoint_model.specs.declared.row.Row.{Row}
 use Rattle.std.specs.FinMap.{get}
-use Rattle.endpoint_model.specs.State.{State, Did, nothing, then_do, with_sealed, with_session}
+use Rattle.endpoint_model.specs.State.{State, Did, current_generation, nothing, then_do, with_sealed, with_session}
 
 -- a counter that stands at its end counts nothing more, and nothing more is sealed then
 abbrev pub last_count : ℕ
 last_count = 2 ^ 64 - 1
 
--- ---- in the startup context
+-- ---- in the startup context of the current generation
 
 -- the number of a startup packet: the first 8 bytes of the own fingerprint, and its count
 abbrev pub startup_number : List ℕ → ℕ → List ℕ
@@ -28,15 +28,15 @@ startup_number own count = take 8 own ++ to_be_bytes w64 count
 -- the datagram of a startup packet that goes out next
 abbrev pub startup_datagram : State → ℕ → List ℕ → List ℕ
 startup_datagram s sid plain = datagram sid
-    (sealed_in s.startup.secret Startup sid (startup_number s.startup.ledger.own (s.sealed + 1))
-    plain)
+    (sealed_in s.startup.secret (Startup current_generation) sid
+    (startup_number s.startup.ledger.own (s.sealed + 1)) plain)
 
 abbrev pub sent_startup : State → AddressParts → ℕ → List ℕ → Did
 sent_startup s to sid plain =
     if s.sealed == last_count then nothing s
     else record {
       state = with_sealed s (s.sealed + 1);
-      entries = Out to (startup_datagram s sid plain) Startup ∷ [];
+      entries = Out to (startup_datagram s sid plain) (Startup current_generation) ∷ [];
     }
 
 abbrev pub sent_answer : State → Answer → Did

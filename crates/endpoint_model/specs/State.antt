@@ -38,6 +38,11 @@ pub record State : Type 0 where
   -- the addresses that hellos for other ends are answered with, by the fingerprints of these
   pub redirects : AddressRows
 
+-- the generation of the group secret in which an end sends and takes startup packets, and in which
+-- sessions begin
+abbrev pub current_generation : ℕ
+current_generation = 0
+
 -- a new end
 abbrev pub fresh : Setup → State
 fresh setup = record {

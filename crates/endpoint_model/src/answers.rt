@@ -1,6 +1,5 @@
 //! What the calls of an end answer.
 
-use flow_send::QueueRefusal;
 use glare_core::StartRefusal;
 use thiserror::Error;
 
@@ -17,38 +16,6 @@ pub enum OpenRefusal {
     /// There are as many attempts and sessions as may be; how many.
     #[error("there are {0} attempts and sessions already")]
     SessionsFull(u64),
-    #[error("out of memory")]
-    Memory,
-}
-
-/// Why another call is refused. Where several causes stand, the answer is the first of them in this
-/// order.
-#[derive(Clone, Copy, Debug, PartialEq, Eq, Error)]
-pub enum CallRefusal {
-    /// No held attempt has this number.
-    #[error("no attempt has this number")]
-    NoAttempt,
-    /// No held session has this session ID.
-    #[error("no session has this session ID")]
-    NoSession,
-    /// The session opened no such flow.
-    #[error("the session opened no such flow")]
-    NoFlow,
-    /// There are this many flows that were opened here, as many as may be.
-    #[error("there are {0} flows")]
-    FlowsFull(u64),
-    /// The metadata, which has so many bytes, has more than 64, or the priority is above 7.
-    #[error("metadata of {0} bytes, or the priority, passes its limit")]
-    WideMetadata(u64),
-    /// It is never `QueueRefusal::Memory`.
-    #[error("not queued: {0}")]
-    Queue(QueueRefusal),
-    /// No message that waits begins at the number.
-    #[error("no such message waits")]
-    NotQueued,
-    /// The flow was finished before.
-    #[error("the flow is finished")]
-    Finished,
     #[error("out of memory")]
     Memory,
 }

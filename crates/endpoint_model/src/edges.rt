@@ -14,7 +14,7 @@ ghost use Rattle.glare_core.specs.Ledger.{held_with};
 ghost use Rattle.startup.specs.declared.answer.Answer.{Answer};
 ghost use Rattle.rtmfp_packet.specs.Walk.{Placed};
 ghost use Rattle.rtmfp_data_chunks.specs.Reader.{data_reading};
-ghost use Rattle.startup.specs.declared.cause.Cause.TheVariants.{NotSelected, Wide, WrongPlace};
+ghost use Rattle.rtmfp_base.specs.declared.cause.Cause.TheVariants.{NotSelected, Wide, WrongPlace};
 ghost use Rattle.startup.specs.Redirects.{redirect_answer};
 ghost use Rattle.session_core.specs.Session.{SessionState};
 ghost use Rattle.endpoint_model.specs.declared.answers.OpenRefusal.TheVariants.{Candidates};
@@ -102,10 +102,12 @@ pub fn a_hello_is_forwarded_and_then_answered()
 
 /// A chunk of flows that can be read is in the wrong place outside a session.
 pub fn flows_are_in_sessions_alone()
-    ensures attempt { (s : State) (walk : Walk) (from : AddressParts) (c : Placed) (near : ℕ) →
-        is_of_flows c.kind ≡ true → data_fault (data_reading walk.cursor c.kind c.payload) ≡ None →
-        chunk_cause s (Attempt near) walk from c ≡ Some WrongPlace }
-    ensures startup { (s : State) (walk : Walk) (from : AddressParts) (c : Placed) →
-        is_of_flows c.kind ≡ true → data_fault (data_reading walk.cursor c.kind c.payload) ≡ None →
-        chunk_cause s Startup walk from c ≡ Some WrongPlace }
+    ensures attempt { (s : State) (walk : Walk) (from : AddressParts) (c : Placed)
+        (near generation : ℕ) → is_of_flows c.kind ≡ true →
+        data_fault (data_reading walk.cursor c.kind c.payload) ≡ None →
+        chunk_cause s (Attempt near generation) walk from c ≡ Some WrongPlace }
+    ensures startup { (s : State) (walk : Walk) (from : AddressParts) (c : Placed)
+        (generation : ℕ) → is_of_flows c.kind ≡ true →
+        data_fault (data_reading walk.cursor c.kind c.payload) ≡ None →
+        chunk_cause s (Startup generation) walk from c ≡ Some WrongPlace }
 {}

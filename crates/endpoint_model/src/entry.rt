@@ -2,9 +2,8 @@
 
 use crypto_profile::Context;
 use glare_core::Fact;
-use rtmfp_base::Message;
+use rtmfp_base::{Cause, Message};
 use rtmfp_forms::Address;
-use startup::Cause;
 
 /// One thing that an end did.
 #[derive(Drop)]

@@ -11,10 +11,11 @@ mod row;
 mod row_due;
 mod walk;
 
-pub use answers::{CallRefusal, OpenRefusal, Stopped};
+pub use answers::{OpenRefusal, Stopped};
 pub use config::{Config, Draws};
 pub use entry::Entry;
 pub use place::Place;
 pub use row::Row;
 pub use row_due::RowDue;
+pub use session_flows::CallRefusal;
 pub use walk::Walk;

@@ -1,9 +1,9 @@
 use Rattle.std.proofs.Common.{◌∷◌, [], Option, Some, ap, ◌∙◌}
 use Rattle.std.specs.FinMap.{get}
 use Rattle.rtmfp_data_chunks.specs.Reader.{data_reading}
-use Rattle.glare_core.specs.Calls.{first_that_stands}
-use Rattle.startup.specs.declared.cause.Cause.{Cause}
-use Rattle.startup.specs.declared.cause.Cause.TheVariants.{WrongPlace}
+use Rattle.rtmfp_base.specs.Reasons.{first_that_stands}
+use Rattle.rtmfp_base.specs.declared.cause.Cause.{Cause}
+use Rattle.rtmfp_base.specs.declared.cause.Cause.TheVariants.{WrongPlace}
 use Rattle.endpoint_model.specs.declared.config.Draws.{Draws}
 use Rattle.endpoint_model.specs.declared.place.Place.TheVariants.{Startup, Attempt}
 use Rattle.endpoint_model.specs.FlowChunks.{flow_cause}
@@ -14,11 +14,11 @@ draws : Draws
 draws = record { nonce = []; tag = []; token = []; word = 0 }
 
 pub returns-clause-attempt : goal.returns-clause-attempt
-returns-clause-attempt c s walk from chunk near is reads =
-    flows_cause s walk from draws chunk (Attempt near) is
+returns-clause-attempt c s walk from chunk near generation is reads =
+    flows_cause s walk from draws chunk (Attempt near generation) is
     ∙ ap (λ (o : Option Cause). first_that_stands (o ∷ Some WrongPlace ∷ flow_cause (get s.sessions near) (data_reading walk.cursor chunk.kind chunk.payload) ∷ [])) reads
 
 pub returns-clause-startup : goal.returns-clause-startup
-returns-clause-startup c s walk from chunk is reads =
-    flows_cause s walk from draws chunk Startup is
+returns-clause-startup c s walk from chunk generation is reads =
+    flows_cause s walk from draws chunk (Startup generation) is
     ∙ ap (λ (o : Option Cause). first_that_stands (o ∷ Some WrongPlace ∷ flow_cause (get s.sessions 0) (data_reading walk.cursor chunk.kind chunk.payload) ∷ [])) reads
