@@ -14,9 +14,12 @@ use Rattle.glare_core.specs.Ledger.{Ledger, noted_if}
 use Rattle.glare_core.specs.Calls.{heard, heard_noted}
 use Rattle.crypto_profile.specs.declared.keys.Context.TheVariants.{Startup}
 use Rattle.crypto_profile.specs.Keys.{Keys, keys_of}
-use Rattle.startup.specs.declared.cause.Cause.{Cause}
+use Rattle.rtmfp_base.specs.declared.cause.Cause.{Cause}
+use Rattle.startup.specs.declared.aim.Aim.{Aim}
+use Rattle.startup.specs.declared.aim.Aim.TheVariants.{AtPeer}
+use Rattle.startup.specs.Aims.{end_of_aim}
 use Rattle.startup.specs.State.{AttemptState, StartupState}
-use Rattle.startup.specs.Attempts.{with_ledger, after_end_of, after_answer, after_change}
+use Rattle.startup.specs.Attempts.{with_ledger, without_attempt_by, after_end_of, after_answer, after_change}
 use Rattle.startup.specs.Judging.{after_extension_of}
 use Rattle.startup.specs.Keyings.{InitiatorKeying, initiator_keying_in, keying_of, after_again_or_birth, after_keyed_with, after_keyed_reading, after_keying, after_opening}
 use Rattle.end_state.specs.declared.settings.Settings.{Settings}
@@ -36,9 +39,12 @@ either false s t u p q = q
 
 -- ---- attempts
 
+ended_as : (s : StartupState) (near : ℕ) (why : Why) (aim : Aim) → IsSameEnd s (without_attempt_by s near (end_of_aim near why aim))
+ended_as s near why (AtPeer peer n) = record { secret_is = refl; own_is = refl }
+
 ended : (s : StartupState) (found : Option (ℕ × AttemptState)) (why : Why) → IsSameEnd s (after_end_of s found why)
 ended s None why = same s
-ended s (Some e) why = record { secret_is = refl; own_is = refl }
+ended s (Some e) why = ended_as s e.0 why e.1.aim
 
 pub answer_keeps : (s : StartupState) (found : Option (ℕ × AttemptState)) (from : AddressParts) (cookie : List ℕ) (moment : ℕ) → IsSameEnd s (after_answer s found from cookie moment)
 answer_keeps s None from cookie moment = same s
@@ -91,6 +97,6 @@ pub end_stays : (settings : Settings) (secret print : List ℕ) (keys : Keys) (s
 end_stays settings secret print keys s t is kept = record {
   secret_is = is.secret_is ∙ sym kept.secret_is;
   print_is = is.print_is ∙ sym kept.own_is;
-  keys_are = is.keys_are ∙ ap (λ x. keys_of x Startup) (sym kept.secret_is);
+  keys_are = is.keys_are ∙ ap (λ x. keys_of x (Startup 0)) (sym kept.secret_is);
   few = is.few;
 }

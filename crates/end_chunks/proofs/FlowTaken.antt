@@ -4,7 +4,7 @@ use Rattle.rtmfp_forms.specs.Address.{AddressParts}
 use Rattle.rtmfp_packet.specs.Walk.{Placed}
 use Rattle.rtmfp_data_chunks.specs.declared.view.DataFault.{DataFault}
 use Rattle.rtmfp_data_chunks.specs.Reader.{data_reading}
-use Rattle.startup.specs.declared.cause.Cause.{Cause}
+use Rattle.rtmfp_base.specs.declared.cause.Cause.{Cause}
 use Rattle.end_chunks.specs.declared.flows.Untaken.{Untaken}
 use Rattle.end_chunks.specs.declared.flows.Untaken.TheVariants.{Cause as Discarded, Memory as NoMemory}
 use Rattle.endpoint_model.specs.declared.config.Draws.{Draws}

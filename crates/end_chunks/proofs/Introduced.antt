@@ -6,8 +6,8 @@ use Rattle.rtmfp_chunks.specs.Chunk.{FIHello}
 use Rattle.rtmfp_chunks.specs.Writing.{chunk_bytes}
 use Rattle.identity.specs.declared.discriminator.Epd.{Epd}
 use Rattle.identity.specs.Discriminators.{discriminator_of}
-use Rattle.glare_core.specs.Calls.{where_true}
-use Rattle.startup.specs.declared.cause.Cause.TheVariants.{Wide}
+use Rattle.rtmfp_base.specs.Reasons.{where_true}
+use Rattle.rtmfp_base.specs.declared.cause.Cause.TheVariants.{Wide}
 use Rattle.startup.specs.State.{AttemptState}
 use Rattle.startup.specs.Attempts.{wide, hello_spread}
 use Rattle.startup.specs.Redirects.{sent_by_spread, redirect_spread_of, after_redirect_of, after_extension, new_candidates}

@@ -1,9 +1,9 @@
 -- Why keyings are discarded: what startup finds of one that was read gives the cause.
 use Rattle.std.proofs.Common.{◌≡◌, ℕ, List, [], ◌∷◌, true, false, not, if◌then◌else◌, Option, Some, None, Ok, Err, refl, ◌∙◌}
 use Rattle.rtmfp_forms.specs.Address.{AddressParts}
-use Rattle.glare_core.specs.Calls.{where_true, first_that_stands}
-use Rattle.startup.specs.declared.cause.Cause.{Cause}
-use Rattle.startup.specs.declared.cause.Cause.TheVariants.{WrongPlace, SecondKeying}
+use Rattle.rtmfp_base.specs.Reasons.{where_true, first_that_stands}
+use Rattle.rtmfp_base.specs.declared.cause.Cause.{Cause}
+use Rattle.rtmfp_base.specs.declared.cause.Cause.TheVariants.{WrongPlace, SecondKeying}
 use Rattle.startup.specs.declared.judging.Hearing.{Hearing}
 use Rattle.startup.specs.Keyings.{InitiatorKeying, initiator_keying_in, initiator_cause, keying_fault, fault_in, cause_by}
 use Rattle.startup.specs.Judging.{unless_cause, hearing, judged_initiator}

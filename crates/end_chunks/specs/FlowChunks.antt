@@ -2,13 +2,12 @@
 use Rattle.std.specs.Prelude.{ℕ, not, [], ◌∷◌}
 use Rattle.std.specs.Prelude.{Option, Some, None, Result}
 use Rattle.std.specs.FinMap.{get}
-use Rattle.glare_core.specs.Calls.{where_true, first_that_stands}
+use Rattle.rtmfp_base.specs.Reasons.{where_true, first_that_stands}
 use Rattle.rtmfp_data_chunks.specs.declared.view.DataFault.{DataFault}
 use Rattle.rtmfp_data_chunks.specs.Chunk.{DataChunk, UserParts}
-use Rattle.startup.specs.declared.cause.Cause.{Cause}
-use Rattle.startup.specs.declared.cause.Cause.TheVariants.{WrongPlace}
-use Rattle.session_flows.specs.declared.cause.FlowCause.{FlowCause}
-use Rattle.session_flows.specs.declared.cause.FlowCause.TheVariants.{WrongState}
+use Rattle.rtmfp_base.specs.declared.cause.Cause.{Cause}
+use Rattle.rtmfp_base.specs.declared.cause.Cause.TheVariants.{WrongPlace}
+use Rattle.rtmfp_base.specs.declared.cause.Cause.TheVariants.{WrongState}
 use Rattle.flow_send.specs.Acks.{Told}
 use Rattle.session_flows.specs.Causes.{ack_cause}
 use Rattle.session_flows.specs.Chunks.{data_taken, heard, session_heard, probed, rejecting}
@@ -44,7 +43,7 @@ handed_by s near flow count (Some row) = flows_done s near row (hands count flow
 
 -- ---- acks, buffer probes and exceptions, by the row of their session
 
-abbrev pub ack_cause_in : Option Row → ℕ → Told → Option FlowCause
+abbrev pub ack_cause_in : Option Row → ℕ → Told → Option Cause
 ack_cause_in None flow a = Some WrongState
 ack_cause_in (Some row) flow a = ack_cause row.session row.flows flow a
 

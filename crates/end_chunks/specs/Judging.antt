@@ -13,10 +13,10 @@ use Rattle.identity.specs.declared.discriminator.Epd.{Epd}
 use Rattle.identity.specs.Discriminators.{discriminator_of}
 use Rattle.cookies.specs.Cookie.{observed}
 use Rattle.rtmfp_chunks.specs.Writing.{IsWritable, chunk_bytes}
-use Rattle.glare_core.specs.Calls.{where_true, first_that_stands}
-use Rattle.startup.specs.declared.cause.Cause.{Cause}
-use Rattle.startup.specs.declared.cause.Cause.TheVariants.{WrongPlace, WrongState}
-use Rattle.startup.specs.declared.cause.Cause.TheVariants.{Fragment as FragmentCause}
+use Rattle.rtmfp_base.specs.Reasons.{where_true, first_that_stands}
+use Rattle.rtmfp_base.specs.declared.cause.Cause.{Cause}
+use Rattle.rtmfp_base.specs.declared.cause.Cause.TheVariants.{WrongPlace, WrongState}
+use Rattle.rtmfp_base.specs.declared.cause.Cause.TheVariants.{Fragment as FragmentCause}
 use Rattle.startup.specs.State.{AttemptState, peer_of_attempt}
 use Rattle.startup.specs.Attempts.{wide, changed, after_answer, answer_keying, after_change}
 use Rattle.startup.specs.Attempts.{change_keying}

@@ -19,7 +19,6 @@ ghost use Rattle.session_flows.specs.Judged.{IsJudged};
 ghost use Rattle.endpoint_model.specs.Added.{IsShort};
 ghost use Rattle.endpoint_model.specs.FlowChunks.{data_fault, flow_taken, flow_taken_by};
 ghost use Rattle.endpoint_model.specs.FlowChunks.{is_of_flows, states_nothing, taking_cause};
-ghost use Rattle.endpoint_model.specs.FlowChunks.{told_cause};
 ghost use Rattle.endpoint_model.specs.State.{Done, nothing};
 ghost use Rattle.endpoint_model.specs.Admission.{sid_at};
 ghost use Rattle.end_chunks.specs.FlowChunks.{ack_cause_in, ack_heard, data_kept};
@@ -28,10 +27,10 @@ ghost use Rattle.end_chunks.specs.FlowChunks.{read_cause_at, rejected};
 
 use end_state::{EndState, Outbox};
 use endpoint_model::{Entry, Place};
+use rtmfp_base::Cause;
 use rtmfp_data_chunks::kinds::*;
 use rtmfp_data_chunks::{AckedSpans, DataFault, DataView, UserData};
-use session_flows::{FlowCause, JudgedData};
-use startup::Cause;
+use session_flows::JudgedData;
 use std::alloc::AllocError;
 
 /// Whether a chunk of this type is one of flows.
@@ -54,20 +53,6 @@ fn data_fault(fault: DataFault) -> Cause
         DataFault::Unknown(kind) => Cause::UnknownChunk(kind),
         DataFault::Malformed(at) => Cause::Malformed(at as u64),
         DataFault::BadOffset(at) => Cause::Malformed(at as u64),
-    }
-}
-
-/// Why a session's flows discard a chunk, as the end tells it.
-fn told_cause(cause: FlowCause) -> Cause
-    ensures { result ≡ told_cause cause }
-{
-    match cause {
-        FlowCause::WrongState => Cause::WrongState,
-        FlowCause::UnknownFlow => Cause::UnknownFlow,
-        FlowCause::FlowsFull(count) => Cause::FlowsFull(count),
-        FlowCause::AfterFinal(number) => Cause::AfterFinal(number),
-        FlowCause::BeyondBuffer(held) => Cause::BeyondBuffer(held),
-        FlowCause::AckBeyond(number) => Cause::AckBeyond(number),
     }
 }
 
@@ -140,7 +125,7 @@ fn take_data(
 {
     let judged = match end.sessions.judge_data(near, user) {
         Ok(judged) => judged,
-        Err(cause) => return Err(Untaken::Cause(told_cause(cause))),
+        Err(cause) => return Err(Untaken::Cause(cause)),
     };
     let most = judged.most;
     match out.make_room(most) {
@@ -210,14 +195,14 @@ fn take_ack(
 ) -> Result<(), Untaken>
     ensures ok { OnOk result (end.new ≡ ack_heard end.old near flow (told blocks upto spans.entry)
         (get end.old.sessions near)) }
-    ensures cause { MatchOption (option_map told_cause (ack_cause_in (get end.old.sessions near)
-        flow (told blocks upto spans.entry))) (result ≡ Ok tt)
+    ensures cause { MatchOption (ack_cause_in (get end.old.sessions near)
+        flow (told blocks upto spans.entry)) (result ≡ Ok tt)
         (λ c. result ≡ Err (Untaken.Cause c)) }
     ensures err { OnErr result (end.new ≡ end.old) }
 {
     match end.sessions.take_ack(near, flow, blocks, upto, spans) {
         Ok(()) => Ok(()),
-        Err(cause) => Err(Untaken::Cause(told_cause(cause))),
+        Err(cause) => Err(Untaken::Cause(cause)),
     }
 }
 
@@ -231,7 +216,7 @@ fn take_probe(end: &mut EndState, near: u32, flow: u64) -> Result<(), Untaken>
 {
     match end.sessions.take_probe(near, flow) {
         Ok(()) => Ok(()),
-        Err(cause) => Err(Untaken::Cause(told_cause(cause))),
+        Err(cause) => Err(Untaken::Cause(cause)),
     }
 }
 
@@ -249,8 +234,8 @@ struct Rejection {
 fn reject(end: &mut EndState, near: u32, flow: u64, out: &mut Outbox) -> Result<(), Untaken>
     ensures ok { OnOk result (Done (rejected end.old near flow (get end.old.sessions near)) end.new
         out.old out.new) }
-    ensures cause { MatchOption (option_map told_cause
-        (cause_in (λ s f. exception_cause s f flow) (get end.old.sessions near)))
+    ensures cause { MatchOption
+        (cause_in (λ s f. exception_cause s f flow) (get end.old.sessions near))
         (IfErr result (λ e. e ≡ Untaken.Memory)) (λ c. result ≡ Err (Untaken.Cause c)) }
     ensures err { OnErr result (Done (nothing end.old) end.new out.old out.new) }
     ensures quiet { rejected_in flow (get end.old.sessions near) ≡ [] →
@@ -292,8 +277,8 @@ fn take_exception(
     ensures entries { out.new.entries ≡ out.old.entries }
     ensures free { out.old.free ≤ out.new.free }
     ensures room { out.new.room ≡ out.old.room }
-    ensures cause { MatchOption (option_map told_cause
-        (cause_in (λ s f. exception_cause s f flow) (get end.old.sessions near)))
+    ensures cause { MatchOption
+        (cause_in (λ s f. exception_cause s f flow) (get end.old.sessions near))
         (IfErr result (λ e. e ≡ Untaken.Memory)) (λ c. result ≡ Err (Untaken.Cause c)) }
     ensures err { OnErr result (end.new ≡ end.old) }
     ensures quiet { rejected_in flow (get end.old.sessions near) ≡ [] →
@@ -302,7 +287,7 @@ fn take_exception(
 {
     let count = match end.sessions.judge_exception(near, flow) {
         Ok(count) => count,
-        Err(cause) => return Err(Untaken::Cause(told_cause(cause))),
+        Err(cause) => return Err(Untaken::Cause(cause)),
     };
     let mut numbers = Vec::new(end.alloc);
     if count == 0 {

@@ -21,9 +21,10 @@ use crate::judging::Verdict;
 use end_state::{EndState, Outbox, RowAddresses, blank, blanks};
 use endpoint_model::{Entry, Place};
 use identity::Epd;
+use rtmfp_base::Cause;
 use rtmfp_chunks::ChunkView;
 use rtmfp_forms::Address;
-use startup::{Cause, Extension, Spread, redirect_answer, wide};
+use startup::{Extension, Spread, redirect_answer, wide};
 use std::alloc::AllocError;
 
 /// The origin of an address that an end observed.

@@ -3,7 +3,7 @@
 
 ghost use Rattle.std.specs.Prelude.{◌≡◌, IfErr, IfOk, None, Ok, Some, false, length, nat_lt, true};
 ghost use Rattle.std.specs.FinMap.{get};
-ghost use Rattle.glare_core.specs.Calls.{where_true};
+ghost use Rattle.rtmfp_base.specs.Reasons.{where_true};
 ghost use Rattle.rtmfp_forms.specs.Address.{AddressParts};
 ghost use Rattle.rtmfp_chunks.specs.declared.kinds.TheConstants.{IIKEYING, RIKEYING};
 ghost use Rattle.rtmfp_chunks.specs.Chunk.{chunk_of, kind_of};
@@ -26,13 +26,14 @@ use crate::moving::is_answered;
 use end_state::{EndState, RowAddresses};
 use endpoint_model::{Place, Walk};
 use identity::Certificate;
+use rtmfp_base::Cause;
 use rtmfp_chunks::kinds::*;
 use rtmfp_chunks::{ChunkFault, ChunkView, read_chunk};
 use rtmfp_forms::Address;
 use rtmfp_packet::RawChunk;
 use session_core::{Session, Stage};
 use startup::{
-    Cause, Extension, Found, Hearing, InitiatorFields, ResponderFields, read_initiator_keying,
+    Extension, Found, Hearing, InitiatorFields, ResponderFields, read_initiator_keying,
     read_responder_keying,
 };
 
@@ -119,14 +120,14 @@ fn takes(place: Place, kind: u8) -> bool
     ensures { result ≡ takes place kind }
 {
     match place {
-        Place::Startup => {
+        Place::Startup { .. } => {
             kind == IHELLO
                 || kind == RHELLO
                 || kind == REDIRECT
                 || kind == COOKIE_CHANGE
                 || kind == IIKEYING
         }
-        Place::Attempt(_) => kind == COOKIE_CHANGE || kind == RIKEYING,
+        Place::Attempt { .. } => kind == COOKIE_CHANGE || kind == RIKEYING,
         Place::Session(_) => {
             kind == FIHELLO
                 || kind == PING
@@ -157,8 +158,8 @@ pub(crate) fn sid_at(place: Place) -> u32
     ensures { result ≡ sid_at place }
 {
     match place {
-        Place::Startup => 0,
-        Place::Attempt(near) => near,
+        Place::Startup { .. } => 0,
+        Place::Attempt { near, .. } => near,
         Place::Session(near) => near,
     }
 }
@@ -221,8 +222,8 @@ fn has_state_for(end: &EndState, place: Place, kind: u8) -> bool
     ensures { result ≡ has_state_for end.now place kind }
 {
     match place {
-        Place::Startup => true,
-        Place::Attempt(_) => true,
+        Place::Startup { .. } => true,
+        Place::Attempt { .. } => true,
         Place::Session(near) => session_takes(end, near, kind),
     }
 }

@@ -11,7 +11,7 @@ ghost use Rattle.endpoint_model.specs.Effects.{sessions_opened, without_ended};
 ghost use Rattle.endpoint_model.specs.State.{Done, full, nothing};
 
 use crypto_profile::HmacKey;
-use end_state::{EndState, Outbox, blank, fact_entry};
+use end_state::{CURRENT_GENERATION, EndState, Outbox, blank, fact_entry};
 use endpoint_model::{Draws, Entry};
 use glare_core::Fact;
 use rtmfp_chunks::ChunkView;
@@ -127,8 +127,16 @@ fn keep_born(
 {
     if let Fact::Born(joined) = born {
         forget_ended(sessions, ended);
-        let session = Session::under(joined, print, Role::Responder, *from, secret, moment);
-        sessions.keep(session);
+        let half_open = Session::under(
+            joined,
+            print,
+            Role::Responder,
+            *from,
+            secret,
+            CURRENT_GENERATION,
+            moment,
+        );
+        sessions.keep(half_open);
     }
 }
 
@@ -146,7 +154,15 @@ fn keep_opened(
         secret.now moment }
 {
     if let Fact::Opened(joined) = opened {
-        let session = Session::under(joined, print, Role::Initiator, *from, secret, moment);
+        let session = Session::under(
+            joined,
+            print,
+            Role::Initiator,
+            *from,
+            secret,
+            CURRENT_GENERATION,
+            moment,
+        );
         sessions.keep(session);
     }
 }

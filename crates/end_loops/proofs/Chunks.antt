@@ -17,8 +17,8 @@ use Rattle.endpoint_model.proofs.Steps.{IsGone, done_nothing, joined, take_whole
 use Rattle.end_loops.specs.Walks.{taken_upto, StopsIn}
 
 no_acks : (t : State) (place : Place) → acked 0 t place ≡ nothing t
-no_acks t Startup = refl
-no_acks t (Attempt near) = refl
+no_acks t (Startup generation) = refl
+no_acks t (Attempt near generation) = refl
 no_acks t (Session near) = refl
 
 module _ (place : Place) (from : AddressParts) (draws : Draws) (s : State) (cs : List Placed) where

@@ -20,11 +20,11 @@ timed_still s near head None e = ap confirms_by e
 timed_still s near head (Some row) e = ap confirms_by (get_inserted s.sessions near (record row { session = with_stamps head s.moment row.session }))
 
 pub confirms_counted : (s : State) (place : Place) (part : List ℕ) → confirms (counted_at s place part) place ≡ confirms s place
-confirms_counted s Startup part = refl
-confirms_counted s (Attempt near) part = refl
+confirms_counted s (Startup generation) part = refl
+confirms_counted s (Attempt near generation) part = refl
 confirms_counted s (Session near) part = counted_still s near part (get s.sessions near) refl
 
 pub confirms_timed : (s : State) (place : Place) (head : PacketHead) → confirms (timed_at s place head) place ≡ confirms s place
-confirms_timed s Startup head = refl
-confirms_timed s (Attempt near) head = refl
+confirms_timed s (Startup generation) head = refl
+confirms_timed s (Attempt near generation) head = refl
 confirms_timed s (Session near) head = timed_still s near head (get s.sessions near) refl

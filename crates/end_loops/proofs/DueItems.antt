@@ -4,15 +4,15 @@ use Rattle.std.specs.Option.{option_map}
 use Rattle.std.specs.FinMap.{get}
 use Rattle.rtmfp_base.proofs.Lowest.{first_is_there}
 use Rattle.crypto_profile.specs.Keys.{sign_key_of}
-use Rattle.glare_core.specs.declared.facts.Why.TheVariants.{Expired}
-use Rattle.glare_core.specs.Calls.{where_true, first_that_stands}
+use Rattle.rtmfp_base.specs.Reasons.{where_true, first_that_stands}
 use Rattle.startup.specs.declared.attempt.Stage.{Stage}
 use Rattle.startup.specs.declared.attempt.Stage.TheVariants.{Hello, Keying}
 use Rattle.startup.specs.declared.answer.Due.{Due}
-use Rattle.startup.specs.declared.answer.Due.TheVariants.{Ended as EndDue}
+use Rattle.startup.specs.declared.aim.Aim.{Aim}
+use Rattle.startup.specs.declared.aim.Aim.TheVariants.{AtPeer}
 use Rattle.startup.specs.State.{AttemptState, StartupState}
-use Rattle.startup.specs.Attempts.{lowest, ended_attempt}
-use Rattle.startup.specs.Due.{due, due_of, due_sends, due_sends_of, is_due, is_over, repeats, repeat_of, repeat_signed}
+use Rattle.startup.specs.Attempts.{lowest}
+use Rattle.startup.specs.Due.{due, due_end, due_of, due_sends, due_sends_of, is_due, is_over, repeats, repeat_of, repeat_signed}
 use Rattle.session_core.specs.declared.stage.SessionDue.{SessionDue}
 use Rattle.session_core.specs.declared.stage.SessionDue.TheVariants.{Over}
 use Rattle.session_core.specs.Closing.{first_due as first_due_in, needs_keepalive}
@@ -29,13 +29,9 @@ use Rattle.endpoint_model.specs.Effects.{Item, OfAttempt, OfSession, first_due, 
 use Rattle.end_loops.specs.declared.ticking.DueItem.{DueItem}
 use Rattle.end_loops.specs.declared.ticking.DueItem.TheVariants.{Attempt, Session}
 use Rattle.session_table.specs.Table.{due_of as due_in_row, under}
-use Rattle.end_loops.specs.DueItems.{row_due_by, end_due_by, sends_of, told_item, due_item}
+use Rattle.end_loops.specs.DueItems.{row_due_by, end_due_by, handed_on, sends_of, told_item, due_item}
 
 -- ---- the first session, as the table tells it
-
-abbrev pub handed_on : Option (ℕ × RowDue) → Option DueItem
-handed_on None = None
-handed_on (Some e) = Some (Session e.0 e.1)
 
 handed_under : (near : ℕ) (r : Row) (d : Option RowDue) → handed_on (under near d) ≡ option_map told_item (row_item near r d)
 handed_under near r None = refl
@@ -57,8 +53,12 @@ sends_signed : (key cert : List ℕ) (near : ℕ) (a : AttemptState) (stage : St
 sends_signed key cert near a Hello = refl
 sends_signed key cert near a (Keying at cookie) = refl
 
-sends_by : (s : StartupState) (e : ℕ × AttemptState) (b : Bool) → (if b then 0 else repeats e.1.candidates e.1.stage) ≡ sends_of (if b then EndDue (ended_attempt e Expired) else repeat_of s e.0 e.1)
-sends_by s e true = refl
+-- an end sends none
+sends_end : (near : ℕ) (aim : Aim) → 0 ≡ sends_of (due_end near aim)
+sends_end near (AtPeer peer n) = refl
+
+sends_by : (s : StartupState) (e : ℕ × AttemptState) (b : Bool) → (if b then 0 else repeats e.1.candidates e.1.stage) ≡ sends_of (if b then due_end e.0 e.1.aim else repeat_of s e.0 e.1)
+sends_by s e true = sends_end e.0 e.1.aim
 sends_by s e false = sends_signed (sign_key_of s.secret) s.cert e.0 e.1 e.1.stage
 
 sends_found : (s : StartupState) (moment : ℕ) (o : Option (ℕ × AttemptState)) → due_sends_of moment o ≡ option_map sends_of (due_of s moment o)

@@ -15,7 +15,7 @@ use Rattle.session_core.specs.declared.stage.SessionDue.TheVariants.{Unconfirmed
 use Rattle.session_core.specs.Session.{SessionState}
 use Rattle.session_core.specs.Sealed.{after_seal, is_spent}
 use Rattle.session_core.specs.Closing.{first_due as first_due_in, after_due as after_due_in, needs_keepalive, kept_alive, is_past, is_over, is_open, is_near_close}
-use Rattle.glare_core.specs.Calls.{where_true, first_that_stands}
+use Rattle.rtmfp_base.specs.Reasons.{where_true, first_that_stands}
 use Rattle.flow_send.specs.Flow.{Flow}
 use Rattle.session_flows.specs.Keeping.{FlowsState, with_sending}
 use Rattle.session_flows.specs.Calling.{abandon_refused}

@@ -12,8 +12,6 @@ use Rattle.crypto_profile.specs.Sealing.{tag_of}
 use Rattle.session_core.specs.declared.hearing.Unheard.TheVariants.{Short as ShortPart, BadTag as WrongTag, Repeated as OldNumber}
 use Rattle.crypto_profile.specs.Window.{window_answer}
 use Rattle.session_core.specs.declared.hearing.Unheard.{Unheard}
-use Rattle.session_core.specs.declared.hearing.Unheard.TheVariants.{Short as ShortPart, BadTag as WrongTag, Repeated as OldNumber}
-use Rattle.crypto_profile.specs.Window.{window_answer}
 use Rattle.session_core.specs.Session.{SessionState}
 use Rattle.session_core.specs.Hearing.{answered, count_of, is_new, inward_keys, opened, opens_in, unheard, unheard_by}
 use Rattle.endpoint_model.specs.State.{State}
@@ -50,8 +48,8 @@ pub unrefused : {A : Type 0} (refusal : Option SealFault) (result : Result A Sea
 unrefused None result x is refused = refl
 unrefused (Some fault) result x is refused = absurd (let clash : Ok x ≡ Err fault = sym is ∙ refused in cc)
 
-pub opened_so : (s : State) (keys : Keys) (sid : ℕ) (old new : List ℕ) → keys ≡ startup_keys s → open_refusal keys sid old ≡ None → IsOpened keys old new → opened_in_startup s sid old ≡ Ok (drop 32 new)
-opened_so s keys sid old new are none opened' =
+pub opened_so : (s : State) (generation : ℕ) (keys : Keys) (sid : ℕ) (old new : List ℕ) → keys ≡ startup_keys s generation → open_refusal keys sid old ≡ None → IsOpened keys old new → opened_in_startup s generation sid old ≡ Ok (drop 32 new)
+opened_so s generation keys sid old new are none opened' =
     sym (ap (λ k. opened_by k old (open_refusal k sid old)) are) ∙ ap (opened_by keys old) none ∙ ap Ok opened'.plain
 
 -- ---- in a session

@@ -10,7 +10,7 @@ use Rattle.rtmfp_chunks.specs.FieldReading.{chunk_reading}
 use Rattle.rtmfp_packet.specs.Walk.{Placed}
 use Rattle.startup.specs.Attempts.{has_tag, lowest}
 use Rattle.startup.specs.Redirects.{redirect_spread, sent_by_spread, told_addresses}
-use Rattle.startup.specs.declared.cause.Cause.{Cause}
+use Rattle.rtmfp_base.specs.declared.cause.Cause.{Cause}
 use Rattle.endpoint_model.specs.declared.walk.Walk.{Walk}
 use Rattle.endpoint_model.specs.declared.config.Draws.{Draws}
 use Rattle.endpoint_model.specs.declared.place.Place.{Place}

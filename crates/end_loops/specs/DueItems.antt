@@ -65,6 +65,11 @@ told_item (OfSession near row due) = Session near due
 abbrev pub due_item : State → Option DueItem
 due_item s = option_map told_item (first_due s)
 
+-- the first session of which something is due, as the table tells it, handed on
+abbrev pub handed_on : Option (ℕ × RowDue) → Option DueItem
+handed_on None = None
+handed_on (Some e) = Some (Session e.0 e.1)
+
 -- ---- that less is left to do of a session's flows, which their rows don't tell by themselves
 
 abbrev pub RowFalls : RowDue → ℕ → Option Row → Type 0

@@ -13,18 +13,20 @@ use crypto_profile::open_in_place;
 use end_state::{EndState, PLAIN_AT, word_of};
 use endpoint_model::Place;
 use packet_scramble::{SEALED_AT, unscramble};
+use rtmfp_base::Cause;
 use rtmfp_packet::{Mode, Packet, PacketFault, PacketHead, read_packet};
 use session_core::{Role, Unheard};
-use startup::Cause;
 
-/// Opens a sealed part in the startup context, in place.
-fn open_in_startup(end: &EndState, sid: u32, part: &mut [u8]) -> Result<(), Cause>
-    ensures ok { OnOk result (opened_in_startup end.now sid part.old ≡ Ok (drop 32 part.new)) }
-    ensures err { IfErr result (λ cause. opened_in_startup end.now sid part.old ≡ Err cause) }
+/// Opens a sealed part in the startup context of a generation, in place.
+fn open_in_startup(end: &EndState, generation: u64, sid: u32, part: &mut [u8]) -> Result<(), Cause>
+    ensures ok { OnOk result (opened_in_startup end.now generation sid part.old
+        ≡ Ok (drop 32 part.new)) }
+    ensures err { IfErr result (λ cause. opened_in_startup end.now generation sid part.old
+        ≡ Err cause) }
     ensures front { OnOk result (take 32 part.new ≡ take 32 part.old) }
     ensures length { length part.new ≡ length part.old }
 {
-    match open_in_place(&end.keys, sid, part) {
+    match open_in_place(end.startup_keys(generation), sid, part) {
         Ok(_) => Ok(()),
         Err(_) => Err(Cause::BadTag),
     }
@@ -65,14 +67,16 @@ pub fn open_datagram(end: &EndState, datagram: &mut [u8]) -> Result<Place, Cause
     let (head, part) = datagram.split_at_mut(SEALED_AT);
     let sid = unscramble(word_of(head), part);
     match end.place_of(sid) {
-        Some(Place::Startup) => match open_in_startup(end, 0, part) {
-            Ok(()) => Ok(Place::Startup),
+        Some(Place::Startup { generation }) => match open_in_startup(end, generation, 0, part) {
+            Ok(()) => Ok(Place::Startup { generation }),
             Err(cause) => Err(cause),
         },
-        Some(Place::Attempt(near)) => match open_in_startup(end, near, part) {
-            Ok(()) => Ok(Place::Attempt(near)),
-            Err(cause) => Err(cause),
-        },
+        Some(Place::Attempt { near, generation }) => {
+            match open_in_startup(end, generation, near, part) {
+                Ok(()) => Ok(Place::Attempt { near, generation }),
+                Err(cause) => Err(cause),
+            }
+        }
         Some(Place::Session(near)) => match open_in_session(end, near, part) {
             Ok(()) => Ok(Place::Session(near)),
             Err(cause) => Err(cause),
@@ -107,8 +111,8 @@ fn mode_at(end: &EndState, place: Place) -> Mode
     ensures { result ≡ mode_at end.now place }
 {
     match place {
-        Place::Startup => Mode::Startup,
-        Place::Attempt(_) => Mode::Startup,
+        Place::Startup { .. } => Mode::Startup,
+        Place::Attempt { .. } => Mode::Startup,
         Place::Session(near) => match end.sessions.row(near) {
             Some(row) => peers_mode(row.session.role()),
             None => Mode::Startup,

@@ -12,7 +12,7 @@ ghost use Rattle.endpoint_model.specs.FlowTimes.{due_row, row_due};
 ghost use Rattle.endpoint_model.specs.State.{Done, nothing};
 ghost use Rattle.end_state.specs.Steps.{data_sent_by};
 ghost use Rattle.end_loops.specs.DueItems.{RowFalls, abandoned_by, dropped_by, end_due_by};
-ghost use Rattle.end_loops.specs.DueItems.{kept_alive_in, row_due_by, told_item};
+ghost use Rattle.end_loops.specs.DueItems.{handed_on, kept_alive_in, row_due_by, told_item};
 
 use crate::ticking::DueItem;
 use end_state::{EndState, Outbox, blank};
@@ -23,11 +23,20 @@ use session_core::SessionDue;
 use std::alloc::AllocError;
 
 /// The first thing that is due of a session, by rising session IDs.
-pub(crate) fn due_session(end: &EndState) -> Option<DueItem>
-    ensures { result ≡ option_map told_item
-        (session_item end.now.moment (due_row end.now)) }
+pub(crate) fn due_session(end: &mut EndState) -> Option<DueItem>
+    ensures item { result ≡ option_map told_item
+        (session_item end.old.moment (due_row end.old)) }
+    ensures same { end.new ≡ end.old }
 {
-    match end.sessions.first_due(end.moment) {
+    let found = end.sessions.first_due(end.moment);
+    handed_on(found)
+}
+
+/// The same as it is handed on.
+fn handed_on(found: Option<(u32, RowDue)>) -> Option<DueItem>
+    ensures { result ≡ handed_on found }
+{
+    match found {
         Some((near, due)) => Some(DueItem::Session { near, due }),
         None => None,
     }

@@ -72,8 +72,8 @@ pub(crate) fn test(
     ensures asked { OnErr result (asks_at end.old place from.now ≡ true) }
 {
     match place {
-        Place::Startup => Ok(()),
-        Place::Attempt(_) => Ok(()),
+        Place::Startup { .. } => Ok(()),
+        Place::Attempt { .. } => Ok(()),
         Place::Session(near) => test_in(end, near, from, draws.token, out),
     }
 }

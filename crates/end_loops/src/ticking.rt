@@ -40,8 +40,9 @@ pub fn do_due(end: &mut EndState, out: &mut Outbox) -> Result<(), Memory>
 }
 
 /// The first thing that is due: of attempts, and then of sessions.
-fn first_due(end: &EndState) -> Option<DueItem>
-    ensures { result ≡ due_item end.now }
+fn first_due(end: &mut EndState) -> Option<DueItem>
+    ensures item { result ≡ due_item end.old }
+    ensures same { end.new ≡ end.old }
 {
     match end.startup.due_sends(end.moment) {
         Some(sends) => Some(DueItem::Attempt { sends }),

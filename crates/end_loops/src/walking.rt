@@ -17,10 +17,10 @@ use crate::testing::test;
 use end_chunks::take_chunk;
 use end_state::{EndState, Outbox, blank};
 use endpoint_model::{Draws, Entry, Place, Stopped, Walk};
+use rtmfp_base::Cause;
 use rtmfp_data_chunks::DataCursor;
 use rtmfp_forms::Address;
 use rtmfp_packet::{Chunks, PacketHead};
-use startup::Cause;
 use std::alloc::AllocError;
 
 /// The most packets of acks that a datagram's chunks can owe, one for each flow (own).
@@ -159,8 +159,8 @@ fn send_acks(end: &mut EndState, place: Place, out: &mut Outbox) -> Result<(), A
     ensures enough { owes_at end.old place ≡ false → IsOk result }
 {
     let near = match place {
-        Place::Startup => return Ok(()),
-        Place::Attempt(_) => return Ok(()),
+        Place::Startup { .. } => return Ok(()),
+        Place::Attempt { .. } => return Ok(()),
         Place::Session(near) => near,
     };
     for _ in 0..MOST_ACKS {
@@ -192,8 +192,8 @@ fn forget_acks(end: &mut EndState, place: Place)
     ensures { end.new ≡ unowed end.old place }
 {
     match place {
-        Place::Startup => {}
-        Place::Attempt(_) => {}
+        Place::Startup { .. } => {}
+        Place::Attempt { .. } => {}
         Place::Session(near) => end.forget_acks(near),
     }
 }

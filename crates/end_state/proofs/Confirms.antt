@@ -73,6 +73,6 @@ confirmed_by s near (Some row) entry e = by (is_opening row.session.stage) refl 
     by false is e = absurd (cc)
 
 pub confirms_where : (s t : State) (place : Place) (entry : Entry) → Gives (confirming s place) t (Some entry) → confirms s place ≡ true
-confirms_where s t Startup entry gives = let e : [] ≡ entry ∷ [] = gives.entries in absurd (cc)
-confirms_where s t (Attempt near) entry gives = let e : [] ≡ entry ∷ [] = gives.entries in absurd (cc)
+confirms_where s t (Startup generation) entry gives = let e : [] ≡ entry ∷ [] = gives.entries in absurd (cc)
+confirms_where s t (Attempt near generation) entry gives = let e : [] ≡ entry ∷ [] = gives.entries in absurd (cc)
 confirms_where s t (Session near) entry gives = confirmed_by s near (get s.sessions near) entry gives.entries

@@ -17,11 +17,11 @@ abbrev pub context_towards : Option Row → Option Context
 context_towards None = None
 context_towards (Some row) = Some (context_of row.session false)
 
--- that of a place: startup, but for a session
+-- that of a place: startup in the generation of the place, but for a session
 abbrev pub context_of_place : State → Option Place → Option Context
 context_of_place s None = None
-context_of_place s (Some Startup) = Some StartupContext
-context_of_place s (Some (Attempt near)) = Some StartupContext
+context_of_place s (Some (Startup generation)) = Some (StartupContext generation)
+context_of_place s (Some (Attempt near generation)) = Some (StartupContext generation)
 context_of_place s (Some (Session near)) = context_towards (get s.sessions near)
 
 -- A datagram of fewer than 36 bytes names none.

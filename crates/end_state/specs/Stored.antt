@@ -4,7 +4,7 @@ use Rattle.crypto_profile.specs.declared.keys.Context.TheVariants.{Startup}
 use Rattle.crypto_profile.specs.Keys.{Keys, keys_of}
 use Rattle.startup.specs.State.{StartupState}
 use Rattle.end_state.specs.declared.settings.Settings.{Settings}
-use Rattle.endpoint_model.specs.State.{State, Sessions}
+use Rattle.endpoint_model.specs.State.{State, Sessions, current_generation}
 
 abbrev pub state_of : Settings → ℕ → ℕ → StartupState → Sessions → State
 state_of settings moment sealed startup sessions =
@@ -23,5 +23,5 @@ pub record IsEnd (settings : Settings) (secret print : List ℕ) (keys : Keys)
     (startup : StartupState) : Type 0 where
   pub secret_is : secret ≡ startup.secret
   pub print_is : print ≡ startup.ledger.own
-  pub keys_are : keys ≡ keys_of startup.secret Startup
+  pub keys_are : keys ≡ keys_of startup.secret (Startup current_generation)
   pub few : settings.config.max_sessions ≤ 65536

@@ -21,9 +21,14 @@ impl EndState {
         ensures { result ≡ place_of self.now sid }
     {
         if sid == 0 {
-            Some(Place::Startup)
+            Some(Place::Startup {
+                generation: self.current_generation(),
+            })
         } else if self.startup.has_attempt(sid) {
-            Some(Place::Attempt(sid))
+            Some(Place::Attempt {
+                near: sid,
+                generation: self.current_generation(),
+            })
         } else if self.sessions.has(sid) {
             Some(Place::Session(sid))
         } else {
@@ -54,8 +59,8 @@ impl EndState {
         let (head, part) = datagram.split_at(SEALED_AT);
         let sid = unscramble(word_of(head), part);
         match self.place_of(sid) {
-            Some(Place::Startup) => Some(Context::Startup),
-            Some(Place::Attempt(_)) => Some(Context::Startup),
+            Some(Place::Startup { generation }) => Some(Context::Startup { generation }),
+            Some(Place::Attempt { generation, .. }) => Some(Context::Startup { generation }),
             Some(Place::Session(near)) => self.context_towards(near),
             None => None,
         }
@@ -81,19 +86,21 @@ impl EndState {
         let (head, part) = datagram.split_at(SEALED_AT);
         let sid = unscramble(word_of(head), part);
         match self.place_of(sid) {
-            Some(Place::Startup) => self.context_in_startup(0, part),
-            Some(Place::Attempt(near)) => self.context_in_startup(near, part),
+            Some(Place::Startup { generation }) => self.context_in_startup(generation, 0, part),
+            Some(Place::Attempt { near, generation }) => {
+                self.context_in_startup(generation, near, part)
+            }
             Some(Place::Session(near)) => self.context_in_session(near, part),
             None => None,
         }
     }
 
-    /// The startup context, where a sealed part opens in it under this session ID.
-    fn context_in_startup(&self, sid: u32, part: &[u8]) -> Option<Context>
-        ensures { result ≡ context_in_startup self.now sid part.now }
+    /// The startup context of a generation, where a sealed part opens in it under this session ID.
+    fn context_in_startup(&self, generation: u64, sid: u32, part: &[u8]) -> Option<Context>
+        ensures { result ≡ context_in_startup self.now generation sid part.now }
     {
-        match open_refusal(&self.keys, sid, part) {
-            None => Some(Context::Startup),
+        match open_refusal(self.startup_keys(generation), sid, part) {
+            None => Some(Context::Startup { generation }),
             Some(_) => None,
         }
     }

@@ -11,6 +11,10 @@ use startup::Startup;
 use std::alloc::Global;
 use std::marker::Model;
 
+/// The generation of the group secret in which an end sends and takes startup packets, and in which
+/// sessions begin. There is one generation (own).
+pub const CURRENT_GENERATION: u64 = 0;
+
 /// What an end keeps of its attempts and sessions.
 ///
 /// Contracts see its limits, the largest moment that it was given, how many startup packets it
@@ -25,7 +29,7 @@ pub struct EndState {
     pub secret: HmacKey,
     /// The fingerprint of the own certificate.
     pub print: [u8; 32],
-    /// The keys of startup packets.
+    /// The keys of startup packets of the current generation.
     pub keys: Keys,
     /// How many startup packets were sealed.
     pub sealed: u64,
@@ -58,7 +62,8 @@ impl EndState {
     ghost use Rattle.introducer.specs.Directory.{row_refusal};
     ghost use Rattle.startup.specs.Attempts.{cancel_fact};
     ghost use Rattle.endpoint_model.specs.Introducing.{introducing, with_redirect};
-    ghost use Rattle.endpoint_model.specs.State.{fresh, at_moment};
+    ghost use Rattle.endpoint_model.specs.State.{current_generation, fresh, at_moment};
+    ghost use Rattle.endpoint_model.specs.Admission.{startup_keys};
 
     /// An end that holds nothing yet. It takes no memory.
     pub fn new(
@@ -88,7 +93,12 @@ impl EndState {
             },
             moment: 0,
             print,
-            keys: Keys::under(&group, &Context::Startup),
+            keys: Keys::under(
+                &group,
+                &Context::Startup {
+                    generation: CURRENT_GENERATION,
+                },
+            ),
             secret: group,
             sealed: 0,
             startup: Startup::new(alloc, cert, secret, cookie_secret, config.max_peers),
@@ -96,11 +106,29 @@ impl EndState {
         }
     }
 
+    /// The generation of the group secret in which this end sends and takes startup packets, and in
+    /// which sessions begin (own).
+    pub fn current_generation(&self) -> u64
+        ensures { result ≡ current_generation }
+    {
+        CURRENT_GENERATION
+    }
+
+    /// The keys of startup packets of a generation. All generations have one secret, and no key is
+    /// made of the number.
+    pub fn startup_keys(&self, generation: u64) -> &Keys
+        ensures { result.now ≡ startup_keys self.now generation }
+    {
+        let _ = generation;
+        &self.keys
+    }
+
     /// Notes the moment that a call is given.
     pub fn advance(&mut self, moment: u64)
         ensures { self.new ≡ at_moment self.old moment }
     {
         self.moment = self.moment.max(moment);
+        self.startup.advance(self.moment);
     }
 
     /// Whether a held attempt has this number.

@@ -6,18 +6,16 @@ ghost use Rattle.endpoint_model.specs.Introducing.{forwarded_to, redirected_to};
 use crate::end_state::EndState;
 use glare_core::Held;
 use identity::Epd;
+use rtmfp_base::limits::CANDIDATES;
 use rtmfp_forms::Address;
 use std::marker::Model;
-
-/// The most addresses of a row.
-const MOST: usize = 16;
 
 /// The addresses of a row, with which a hello is answered: the first `count` of these.
 ///
 /// Contracts see them as their list.
 #[derive(Drop)]
 pub struct RowAddresses {
-    to: [Address; MOST],
+    to: [Address; CANDIDATES],
     count: usize,
 }
 
@@ -37,7 +35,7 @@ impl RowAddresses {
         requires { length addresses.now ≤ 16 }
         ensures { result ≡ addresses.now }
     {
-        let mut to = [Address::v4([0; 4], 0); MOST];
+        let mut to = [Address::v4([0; 4], 0); CANDIDATES];
         to[..addresses.len()].copy_from_slice(addresses);
         RowAddresses {
             to,

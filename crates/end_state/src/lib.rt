@@ -16,7 +16,7 @@ mod settings;
 mod taking;
 
 pub use contexts::{PLAIN_AT, word_of};
-pub use end_state::EndState;
+pub use end_state::{CURRENT_GENERATION, EndState};
 pub use introducing::RowAddresses;
 pub use outbox::{Outbox, fact_entry};
 pub use sealing::blank;

@@ -8,17 +8,15 @@ use crate::contexts::PLAIN_AT;
 use crypto_profile::{Keys, seal_into};
 use packet_scramble::{SEALED_AT, scramble};
 use rtmfp_base::Message;
+use rtmfp_base::limits::SENT;
 use rtmfp_forms::Outgoing;
 use std::alloc::{AllocError, Global};
-
-/// The most bytes of a datagram that is sent.
-const DATAGRAM_LIMIT: usize = 1200;
 
 /// Memory for one datagram, found before anything changes.
 pub fn blank(alloc: Global) -> Result<Vec<u8>, AllocError>
     ensures { IfOk result (λ bytes. length bytes.items ≡ 1200) }
 {
-    vec![in alloc; 0; DATAGRAM_LIMIT]
+    vec![in alloc; 0; SENT]
 }
 
 /// The datagram of a plain packet under keys, a session ID and a number. It takes no memory.

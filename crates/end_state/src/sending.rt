@@ -49,7 +49,9 @@ impl EndState {
         Some(Entry::Out {
             to: *to,
             datagram,
-            context: Context::Startup,
+            context: Context::Startup {
+                generation: self.current_generation(),
+            },
         })
     }
 

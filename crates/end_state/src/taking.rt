@@ -11,8 +11,8 @@ ghost use Rattle.end_state.specs.Steps.{Gives};
 use crate::end_state::EndState;
 use crate::outbox::{Outbox, fact_entry};
 use endpoint_model::{Entry, Place};
+use rtmfp_base::Cause;
 use rtmfp_packet::PacketHead;
-use startup::Cause;
 use std::alloc::AllocError;
 
 impl EndState {
@@ -22,8 +22,8 @@ impl EndState {
         ensures { self.new ≡ counted_at self.old place part.now }
     {
         match place {
-            Place::Startup => {}
-            Place::Attempt(_) => {}
+            Place::Startup { .. } => {}
+            Place::Attempt { .. } => {}
             Place::Session(near) => self.count_in(near, part),
         }
     }
@@ -40,8 +40,8 @@ impl EndState {
         ensures { self.new ≡ timed_at self.old place head.now }
     {
         match place {
-            Place::Startup => {}
-            Place::Attempt(_) => {}
+            Place::Startup { .. } => {}
+            Place::Attempt { .. } => {}
             Place::Session(near) => self.time_in(near, head),
         }
     }
@@ -57,8 +57,8 @@ impl EndState {
         ensures { result ≡ confirms self.now place }
     {
         match place {
-            Place::Startup => false,
-            Place::Attempt(_) => false,
+            Place::Startup { .. } => false,
+            Place::Attempt { .. } => false,
             Place::Session(near) => self.confirms_in(near),
         }
     }
@@ -78,8 +78,8 @@ impl EndState {
         ensures { Gives (confirming self.old place) self.new result }
     {
         match place {
-            Place::Startup => None,
-            Place::Attempt(_) => None,
+            Place::Startup { .. } => None,
+            Place::Attempt { .. } => None,
             Place::Session(near) => {
                 if self.confirms_in(near) {
                     self.confirm_in(near)

@@ -3,7 +3,8 @@ use Rattle.std.proofs.Common.{if◌then◌else◌, ◌^◌, nat_le, is_some, ◌
 use Rattle.std.specs.FinMap.{get, contains_key}
 use Rattle.std.specs.List.{fold, list_any}
 use Rattle.std.proofs.lemmas.Bool.Decides.{nat_tests}
-use Rattle.glare_core.specs.Calls.{first_that_stands, start_refusal}
+use Rattle.rtmfp_base.specs.Reasons.{first_that_stands}
+use Rattle.glare_core.specs.Calls.{start_refusal}
 use Rattle.startup.specs.Attempts.{joined, distinct_candidates}
 use Rattle.endpoint_model.specs.declared.answers.OpenRefusal.{OpenRefusal}
 use Rattle.rtmfp_forms.specs.Address.{AddressParts, is_same_place}

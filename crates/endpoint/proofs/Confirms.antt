@@ -32,8 +32,8 @@ unconfirmed_by s near (Some row) e =
     else nothing s) e
 
 pub unconfirmed : (s : State) (place : Place) → confirms s place ≡ false → confirming s place ≡ nothing s
-unconfirmed s Startup e = refl
-unconfirmed s (Attempt near) e = refl
+unconfirmed s (Startup generation) e = refl
+unconfirmed s (Attempt near generation) e = refl
 unconfirmed s (Session near) e = unconfirmed_by s near (get s.sessions near) e
 
 -- counting and timing a datagram don't change whether it confirms a session

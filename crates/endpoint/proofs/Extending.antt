@@ -10,8 +10,8 @@ use Rattle.startup.specs.Attempts.{cancel_fact}
 use Rattle.endpoint_model.specs.declared.config.Draws.{Draws}
 use Rattle.endpoint_model.specs.declared.entry.Entry.{Entry}
 use Rattle.endpoint_model.specs.declared.answers.OpenRefusal.{OpenRefusal}
-use Rattle.endpoint_model.specs.declared.answers.CallRefusal.{CallRefusal}
-use Rattle.endpoint_model.specs.declared.answers.CallRefusal.TheVariants.{NoAttempt, NoSession, Memory as NoMemory}
+use Rattle.session_flows.specs.declared.refusal.CallRefusal.{CallRefusal}
+use Rattle.session_flows.specs.declared.refusal.CallRefusal.TheVariants.{NoAttempt, NoSession, Memory as NoMemory}
 use Rattle.endpoint_model.specs.declared.answers.Stopped.{Stopped as Stop}
 use Rattle.endpoint_model.specs.Added.{Added}
 use Rattle.endpoint_model.specs.Event.{Event, Cancel, AddRow, Introduce, OnFlows, Refused, NotAdded, Done as Finished}

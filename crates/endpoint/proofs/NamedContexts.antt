@@ -16,9 +16,9 @@ use Rattle.endpoint_model.specs.Admission.{place_of, startup_keys}
 use Rattle.endpoint_laws.specs.OpensIn.{startup_unless, context_in_session, context_found, opens_in}
 use Rattle.end_state.specs.NamedContext.{context_towards, context_of_place, named_context}
 
-in_startup : (o : Option SealFault) (c : Context) → startup_unless o ≡ Some c → ◌≡◌ {A = Option Context} (Some StartupContext) (Some c)
-in_startup None c e = e
-in_startup (Some fault) c e = absurd (cc)
+in_startup : (generation : ℕ) (o : Option SealFault) (c : Context) → startup_unless generation o ≡ Some c → ◌≡◌ {A = Option Context} (Some (StartupContext generation)) (Some c)
+in_startup generation None c e = e
+in_startup generation (Some fault) c e = absurd (cc)
 
 if_opened : (opens : Bool) (own c : Context) → ◌≡◌ {A = Option Context} (if opens then Some own else None) (Some c) → ◌≡◌ {A = Option Context} (Some own) (Some c)
 if_opened true own c e = e
@@ -30,8 +30,8 @@ in_session (Some row) part c e = if_opened (opens_in_session row.session part) (
 
 at_place : (s : State) (o : Option Place) (part : List ℕ) (c : Context) → context_found s o part ≡ Some c → context_of_place s o ≡ Some c
 at_place s None part c e = e
-at_place s (Some Startup) part c e = in_startup (open_refusal (startup_keys s) 0 part) c e
-at_place s (Some (Attempt near)) part c e = in_startup (open_refusal (startup_keys s) near part) c e
+at_place s (Some (Startup generation)) part c e = in_startup generation (open_refusal (startup_keys s generation) 0 part) c e
+at_place s (Some (Attempt near generation)) part c e = in_startup generation (open_refusal (startup_keys s generation) near part) c e
 at_place s (Some (Session near)) part c e = in_session (get s.sessions near) part c e
 
 unless_short : (short : Bool) (s : State) (o : Option Place) (part : List ℕ) (c : Context) → ◌≡◌ {A = Option Context} (if short then None else context_found s o part) (Some c)

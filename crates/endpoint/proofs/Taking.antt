@@ -9,8 +9,8 @@ use Rattle.rtmfp_base.proofs.Maps.{get_inserted}
 use Rattle.rtmfp_forms.specs.Address.{AddressParts}
 use Rattle.rtmfp_packet.specs.declared.head.PacketFault.{PacketFault}
 use Rattle.rtmfp_packet.specs.Whole.{Whole}
-use Rattle.startup.specs.declared.cause.Cause.{Cause}
-use Rattle.startup.specs.declared.cause.Cause.TheVariants.{Short as ShortCause, BadPacket, WrongPlace}
+use Rattle.rtmfp_base.specs.declared.cause.Cause.{Cause}
+use Rattle.rtmfp_base.specs.declared.cause.Cause.TheVariants.{Short as ShortCause, BadPacket, WrongPlace}
 use Rattle.session_core.specs.Session.{SessionState}
 use Rattle.session_core.specs.Hearing.{counted, count_of}
 use Rattle.endpoint_model.specs.declared.row.Row.{Row}
@@ -59,8 +59,8 @@ mode_still s near part (Some row) e = ap mode_by (get_inserted s.sessions near (
 
 -- counting a datagram doesn't change the mode of its place
 mode_counted : (s : State) (place : Place) (part : List ℕ) → mode_at (counted_at s place part) place ≡ mode_at s place
-mode_counted s Startup part = refl
-mode_counted s (Attempt near) part = refl
+mode_counted s (Startup generation) part = refl
+mode_counted s (Attempt near generation) part = refl
 mode_counted s (Session near) part = mode_still s near part (get s.sessions near) refl
 
 -- a packet that is taken at its place
@@ -119,8 +119,8 @@ counted_alike_by s near a b None e = refl
 counted_alike_by s near a b (Some row) e = let session : SessionState = row.session in ap (λ n. with_session s near row (record session { window = window_after session.window n })) e
 
 counted_alike : (s : State) (place : Place) (a b : List ℕ) → count_of a ≡ count_of b → counted_at s place a ≡ counted_at s place b
-counted_alike s Startup a b e = refl
-counted_alike s (Attempt near) a b e = refl
+counted_alike s (Startup generation) a b e = refl
+counted_alike s (Attempt near generation) a b e = refl
 counted_alike s (Session near) a b e = counted_alike_by s near a b (get s.sessions near) e
 
 -- ---- an opened datagram

@@ -5,6 +5,7 @@ use Rattle.glare_core.specs.declared.facts.Held.{Held}
 use Rattle.glare_core.specs.declared.facts.Held.TheVariants.{Opening as AttemptHeld}
 use Rattle.glare_core.specs.Things.{IsSession, near_of}
 use Rattle.glare_core.specs.Ledger.{Ledger, held_with}
+use Rattle.startup.specs.Aims.{IsHeldAs}
 use Rattle.startup.specs.State.{AttemptState}
 use Rattle.session_core.specs.Session.{SessionState}
 use Rattle.session_flows.specs.Laws.{IsSound}
@@ -30,9 +31,10 @@ pub record SessionIsThere (s : State) (peer : List ℕ) (thing : Held) : Type 0 
 
 -- What is held with the peers names just the attempts and the sessions that are there.
 pub record HoldsWhatIsThere (s : State) : Type 0 where
-  -- each attempt is held with its peer, under its number, its near ID and its nonce
+  -- each attempt is held as what it aims at, under its near ID and its nonce: with its peer, under its
+  -- number
   pub attempts : (near : ℕ) (a : AttemptState) → get s.startup.attempts near ≡ Some a →
-      held_with s.startup.ledger a.peer ≡ Some (AttemptHeld a.n near a.ni)
+      IsHeldAs s.startup.ledger near a.ni a.aim
   pub attempts_there : (peer : List ℕ) (n near : ℕ) (ni : List ℕ) →
       held_with s.startup.ledger peer ≡ Some (AttemptHeld n near ni) →
       AttemptIsThere s peer n near ni

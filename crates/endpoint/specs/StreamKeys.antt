@@ -10,9 +10,9 @@ use Rattle.endpoint_model.specs.State.{State}
 
 -- the session ID of the end that seals in a context
 abbrev pub sealer_of : Context → ℕ
-sealer_of Startup = 0
-sealer_of (Session ni nr fp_i fp_r sid_i sid_r true) = sid_i
-sealer_of (Session ni nr fp_i fp_r sid_i sid_r false) = sid_r
+sealer_of (Startup generation) = 0
+sealer_of (Session generation ni nr fp_i fp_r sid_i sid_r true) = sid_i
+sealer_of (Session generation ni nr fp_i fp_r sid_i sid_r false) = sid_r
 
 -- that of a session's keystream, where it seals in this context under this secret
 abbrev pub stream_key_in : List ℕ → Context → Option Row → Option (List ℕ)

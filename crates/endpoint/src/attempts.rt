@@ -11,11 +11,9 @@ use crate::sizes::{are_sized, are_thirty_two};
 use end_state::{EndState, Outbox, blanks};
 use endpoint_model::{CallRefusal, Draws, Entry, OpenRefusal};
 use identity::Epd;
+use rtmfp_base::limits::CANDIDATES;
 use rtmfp_forms::Address;
 use std::alloc::AllocError;
-
-/// The most candidate addresses of an attempt (own).
-const CANDIDATES: usize = 16;
 
 impl Endpoint {
     /// Opens an attempt towards the end that the discriminator names, and sends a hello to each

@@ -59,7 +59,7 @@ fn sealer_of(context: &Context) -> u32
     ensures { result ≡ sealer_of context.now }
 {
     match context {
-        Context::Startup => 0,
+        Context::Startup { .. } => 0,
         Context::Session {
             sid_i,
             sid_r,

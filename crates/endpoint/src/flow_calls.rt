@@ -6,7 +6,7 @@ ghost use Rattle.std.specs.Option.{option_copied};
 ghost use Rattle.endpoint_model.specs.FlowCall.{Abandon, Finish, OpenFlow, Queue};
 ghost use Rattle.endpoint_model.specs.InSessions.{held_row};
 ghost use Rattle.endpoint_model.specs.Log.{Extends, flow_event};
-ghost use Rattle.endpoint_model.specs.OnFlows.{call_refusal, flow_called, flow_refused, flows_in};
+ghost use Rattle.endpoint_model.specs.OnFlows.{call_refusal, flow_called, flows_in};
 ghost use Rattle.endpoint_model.specs.State.{Done, nothing};
 
 use crate::endpoint::Endpoint;
@@ -14,7 +14,7 @@ use end_state::{EndState, Outbox};
 use endpoint_model::{CallRefusal, Entry};
 use flow_send::MessageOptions;
 use rtmfp_base::Message;
-use session_flows::{CallRefusal as FlowRefusal, Flows};
+use session_flows::Flows;
 use std::alloc::AllocError;
 
 impl Endpoint {
@@ -189,10 +189,7 @@ fn open_flow_refusal(
     let Some(flows) = flows_of(end, near) else {
         return Some(CallRefusal::NoSession);
     };
-    match flows.open_refusal(metadata, priority) {
-        Some(refusal) => Some(flow_refused(refusal)),
-        None => None,
-    }
+    flows.open_refusal(metadata, priority)
 }
 
 /// Does what nothing refuses.
@@ -234,10 +231,7 @@ fn queue_refusal(
     let Some(flows) = flows_of(end, near) else {
         return Some(CallRefusal::NoSession);
     };
-    match flows.queue_refusal(flow, message.len() as u64) {
-        Some(refusal) => Some(flow_refused(refusal)),
-        None => None,
-    }
+    flows.queue_refusal(flow, message.len() as u64)
 }
 
 /// Does what nothing refuses.
@@ -280,10 +274,7 @@ fn abandon_refusal(end: &EndState, near: u32, flow: u64, seq: u64) -> Option<Cal
     let Some(flows) = flows_of(end, near) else {
         return Some(CallRefusal::NoSession);
     };
-    match flows.abandon_refusal(flow, seq) {
-        Some(refusal) => Some(flow_refused(refusal)),
-        None => None,
-    }
+    flows.abandon_refusal(flow, seq)
 }
 
 /// Does what nothing refuses.
@@ -314,10 +305,7 @@ fn finish_refusal(end: &EndState, near: u32, flow: u64) -> Option<CallRefusal>
     let Some(flows) = flows_of(end, near) else {
         return Some(CallRefusal::NoSession);
     };
-    match flows.finish_refusal(flow) {
-        Some(refusal) => Some(flow_refused(refusal)),
-        None => None,
-    }
+    flows.finish_refusal(flow)
 }
 
 /// Does what nothing refuses.
@@ -333,19 +321,4 @@ fn finish_held(end: &mut EndState, near: u32, flow: u64, out: &mut Outbox) -> Re
     };
     out.add(Entry::Finished { near, flow, seq });
     Ok(())
-}
-
-/// Why the flows of a session refuse a call, as the end tells it.
-fn flow_refused(refusal: FlowRefusal) -> CallRefusal
-    ensures { result ≡ flow_refused refusal }
-{
-    match refusal {
-        FlowRefusal::NoFlow => CallRefusal::NoFlow,
-        FlowRefusal::FlowsFull(count) => CallRefusal::FlowsFull(count),
-        FlowRefusal::WideMetadata(size) => CallRefusal::WideMetadata(size),
-        FlowRefusal::Queue(refusal) => CallRefusal::Queue(refusal),
-        FlowRefusal::NotQueued => CallRefusal::NotQueued,
-        FlowRefusal::Finished => CallRefusal::Finished,
-        FlowRefusal::Memory => CallRefusal::Memory,
-    }
 }

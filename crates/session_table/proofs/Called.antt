@@ -6,6 +6,7 @@ use Rattle.session_flows.specs.declared.refusal.CallRefusal.TheVariants.{NoFlow}
 use Rattle.session_flows.specs.Keeping.{FlowsState, Stated, Did}
 use Rattle.endpoint_model.specs.declared.row.Row.{Row}
 use Rattle.endpoint_model.specs.FlowCall.{FlowCall, flow_refusal, flow_did}
+use Rattle.session_table.specs.declared.round.Round.{Round}
 use Rattle.session_table.specs.Table.{Table, in_row}
 use Rattle.session_table.specs.Calls.{called, stated_by, refused_by}
 use Rattle.deadlines.specs.Deadlines.{Slots}
@@ -31,12 +32,12 @@ ok_ok r h f = ok_on r h f
 
 -- ---- the row of the session
 
-module _ {keys : KeyTable} {deadlines : Slots} {sending : Flags} (seen : Table) (rows : Seats Row) (free near slot : ℕ) (old : Row) (view : record { rows = rows_in rows; free = free } ≡ seen) (kept : IsKept rows keys deadlines sending)
+module _ {keys : KeyTable} {deadlines : Slots} {sending : Flags} {round : Round} (seen : Table) (rows : Seats Row) (free near slot : ℕ) (old : Row) (view : record { rows = rows_in rows; free = free } ≡ seen) (kept : IsKept rows keys deadlines sending round)
     (position : Some slot ≡ slot_of keys near) (is : thing_at rows slot ≡ Some old) where
   pub there : get seen.rows near ≡ Some old
   there = ap (λ (t : Table). get t.rows near) (sym view) ∙ found_at rows near kept slot old position is
 
-  pub stays_loose : (flows : FlowsState) → IsLoose (with_thing rows slot (record old { flows = flows })) keys deadlines sending slot
+  pub stays_loose : (flows : FlowsState) → IsLoose (with_thing rows slot (record old { flows = flows })) keys deadlines sending round slot
   stays_loose flows = (changed_at (λ (r : Row). record r { flows = flows }) rows near slot old (record old { flows = flows }) kept position is refl refl).loose
 
   module _ (call : FlowCall) (flows : FlowsState) (stated : List Stated) (did : flow_did old.flows call ≡ record { flows = flows; stated = stated }) where
@@ -53,7 +54,7 @@ module _ {keys : KeyTable} {deadlines : Slots} {sending : Flags} (seen : Table) 
   refused_is call P Q h = subst (λ (o : Option CallRefusal). MatchOption o P Q) (sym (ap (refused_by call) there)) h
 
 -- where no row has the session ID there is no flow
-pub refused_nowhere : {keys : KeyTable} {deadlines : Slots} {sending : Flags} (seen : Table) (rows : Seats Row) (free near : ℕ) → record { rows = rows_in rows; free = free } ≡ seen → IsKept rows keys deadlines sending →
+pub refused_nowhere : {keys : KeyTable} {deadlines : Slots} {sending : Flags} {round : Round} (seen : Table) (rows : Seats Row) (free near : ℕ) → record { rows = rows_in rows; free = free } ≡ seen → IsKept rows keys deadlines sending round →
     None ≡ slot_of keys near →
     (call : FlowCall) (P : Type 0) (Q : CallRefusal → Type 0) → Q NoFlow → MatchOption (refused_by call (get seen.rows near)) P Q
 refused_nowhere seen rows free near view kept position call P Q q =

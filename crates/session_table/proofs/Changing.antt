@@ -1,5 +1,5 @@
 -- One row is changed.
-use Rattle.std.proofs.Common.{ℕ, ◌≡◌, ◌+◌, Bool, true, false, if◌then◌else◌, Option, Some, None, refl, sym, ap, ◌∙◌}
+use Rattle.std.proofs.Common.{ℕ, ◌≡◌, ◌+◌, set, Bool, true, false, if◌then◌else◌, Option, Some, None, refl, sym, ap, ◌∙◌}
 use Rattle.std.specs.FinMap.{insert}
 use Rattle.session_core.specs.declared.stage.Stage.TheVariants.{NearClose, FarLinger}
 use Rattle.session_core.specs.declared.stage.SessionDue.{SessionDue}
@@ -13,18 +13,29 @@ use Rattle.deadlines.specs.Deadlines.{Slots}
 use Rattle.keyed_slab.specs.Keys.{KeyTable}
 use Rattle.keyed_slab.specs.KeyedSlab.{Seats, thing_at, with_thing}
 use Rattle.keyed_slab.specs.SlotSet.{Flags}
-use Rattle.keyed_slab.proofs.Seated.{set_loose}
+use Rattle.keyed_slab.proofs.Seated.{set_at, set_loose}
+use Rattle.session_table.specs.declared.round.Round.{Round}
 use Rattle.session_table.specs.Table.{near_of, with_changed, in_row, of_session}
 use Rattle.session_table.specs.Inside.{IsKept, IsLoose, due_from, rows_in, sends_of, slot_of}
+use Rattle.session_table.proofs.Rounds.{beside_awaits}
 use Rattle.session_table.proofs.Rows.{row_there, put_at, found_at, found_nowhere}
 
-pub record IsChanged (change : Row → Row) (rows : Seats Row) (keys : KeyTable) (deadlines : Slots) (sending : Flags) (near slot : ℕ) (new : Row) : Type 0 where
+pub record IsChanged (change : Row → Row) (rows : Seats Row) (keys : KeyTable) (deadlines : Slots) (sending : Flags) (round : Round) (near slot : ℕ) (new : Row) : Type 0 where
   pub table : rows_in (with_thing rows slot new) ≡ in_row change (rows_in rows) near
-  pub loose : IsLoose (with_thing rows slot new) keys deadlines sending slot
+  pub loose : IsLoose (with_thing rows slot new) keys deadlines sending round slot
+
+-- Where it stays under its session ID, the row in the slot alone isn't told of yet.
+pub row_set_loose : {keys : KeyTable} {deadlines : Slots} {sending : Flags} {round : Round} (rows : Seats Row) (slot : ℕ) (old new : Row) → IsKept rows keys deadlines sending round → thing_at rows slot ≡ Some old →
+    near_of new ≡ near_of old → IsLoose (with_thing rows slot new) keys deadlines sending round slot
+row_set_loose {keys} {deadlines} {sending} {round} rows slot old new kept is stays = record {
+  seats = set_loose near_of due_from sends_of rows.things rows.generations keys deadlines sending slot old new kept.seats is stays;
+  rises = kept.rises;
+  awaits = beside_awaits rows.things (set rows.things slot (Some new)) slot (Some new) round (set_at rows.things slot old new is) kept.awaits;
+}
 
 -- the row in the slot of a session ID, which stays
-pub changed_at : {keys : KeyTable} {deadlines : Slots} {sending : Flags} (change : Row → Row) (rows : Seats Row) (near slot : ℕ) (old new : Row) → IsKept rows keys deadlines sending → Some slot ≡ slot_of keys near →
-    thing_at rows slot ≡ Some old → new ≡ change old → near_of (change old) ≡ near_of old → IsChanged change rows keys deadlines sending near slot new
+pub changed_at : {keys : KeyTable} {deadlines : Slots} {sending : Flags} {round : Round} (change : Row → Row) (rows : Seats Row) (near slot : ℕ) (old new : Row) → IsKept rows keys deadlines sending round → Some slot ≡ slot_of keys near →
+    thing_at rows slot ≡ Some old → new ≡ change old → near_of (change old) ≡ near_of old → IsChanged change rows keys deadlines sending round near slot new
 changed_at {keys} {deadlines} {sending} change rows near slot old new kept position is made same =
     let there = row_there rows near kept slot position in
     let stays : near_of new ≡ near_of old = ap near_of made ∙ same in
@@ -32,18 +43,18 @@ changed_at {keys} {deadlines} {sending} change rows near slot old new kept posit
     record {
       table = put_at rows slot old new kept is stays ∙ ap (λ (k : ℕ). insert (rows_in rows) k new) id ∙ ap (insert (rows_in rows) near) made
           ∙ sym (ap (with_changed change (rows_in rows) near) (found_at rows near kept slot old position is));
-      loose = set_loose near_of due_from sends_of rows.things rows.generations keys deadlines sending slot old new kept is stays;
+      loose = row_set_loose rows slot old new kept is stays;
     }
 
 -- the same of the session in it
-pub session_changed : {keys : KeyTable} {deadlines : Slots} {sending : Flags} (change : SessionState → SessionState) (rows : Seats Row) (near slot : ℕ) (old : Row) (new : SessionState) → IsKept rows keys deadlines sending →
+pub session_changed : {keys : KeyTable} {deadlines : Slots} {sending : Flags} {round : Round} (change : SessionState → SessionState) (rows : Seats Row) (near slot : ℕ) (old : Row) (new : SessionState) → IsKept rows keys deadlines sending round →
     Some slot ≡ slot_of keys near → thing_at rows slot ≡ Some old → new ≡ change old.session → (change old.session).joined.near ≡ old.session.joined.near →
-    IsChanged (of_session change) rows keys deadlines sending near slot (record old { session = new })
+    IsChanged (of_session change) rows keys deadlines sending round near slot (record old { session = new })
 session_changed change rows near slot old new kept position is made same =
     changed_at (of_session change) rows near slot old (record old { session = new }) kept position is (ap (λ (s : SessionState). record old { session = s }) made) same
 
 -- where no row has the session ID
-pub unchanged : {keys : KeyTable} {deadlines : Slots} {sending : Flags} (change : Row → Row) (rows : Seats Row) (near : ℕ) → IsKept rows keys deadlines sending → None ≡ slot_of keys near →
+pub unchanged : {keys : KeyTable} {deadlines : Slots} {sending : Flags} {round : Round} (change : Row → Row) (rows : Seats Row) (near : ℕ) → IsKept rows keys deadlines sending round → None ≡ slot_of keys near →
     rows_in rows ≡ in_row change (rows_in rows) near
 unchanged change rows near kept position = sym (ap (with_changed change (rows_in rows) near) (found_nowhere rows near kept position))
 

@@ -3,6 +3,7 @@ mod Rooms
 mod Changing
 mod SealedParts
 mod OwnDue
+mod Rounds
 mod Called
 mod Taken
 mod Staying

@@ -5,8 +5,8 @@ use Rattle.flow_send.specs.Flow.{Flow}
 use Rattle.flow_send.specs.Acks.{Told, makes_lost, new_bytes}
 use Rattle.session_core.specs.Session.{SessionState}
 use Rattle.session_core.specs.Closing.{with_acknowledged}
-use Rattle.session_flows.specs.declared.cause.FlowCause.{FlowCause}
-use Rattle.session_flows.specs.declared.cause.FlowCause.TheVariants.{WrongState}
+use Rattle.rtmfp_base.specs.declared.cause.Cause.{Cause}
+use Rattle.rtmfp_base.specs.declared.cause.Cause.TheVariants.{WrongState}
 use Rattle.session_flows.specs.Keeping.{FlowsState, sending_at}
 use Rattle.session_flows.specs.Chunks.{lost_if, opened_by, session_heard}
 use Rattle.session_flows.specs.Owing.{owes, owed_count}
@@ -14,6 +14,7 @@ use Rattle.endpoint_model.specs.declared.row.Row.{Row}
 use Rattle.endpoint_model.specs.State.{Sessions}
 use Rattle.endpoint_model.specs.FlowChunks.{owes_by}
 use Rattle.rtmfp_base.proofs.Maps.{get_inserted}
+use Rattle.session_table.specs.declared.round.Round.{Round}
 use Rattle.session_table.specs.Table.{Table, near_of, in_row, with_changed}
 use Rattle.session_table.specs.Chunks.{of_flows, cause_in, owed_at}
 use Rattle.deadlines.specs.Deadlines.{Slots}
@@ -52,9 +53,9 @@ hearing_keeps P (Err e) old new flows flow told ok err = ap (λ (s : SessionStat
 
 -- ---- the row of the session
 
-module _ {keys : KeyTable} {deadlines : Slots} {sending : Flags} (seen : Table) (rows : Seats Row) (free near slot : ℕ) (old : Row) (view : record { rows = rows_in rows; free = free } ≡ seen) (kept : IsKept rows keys deadlines sending)
+module _ {keys : KeyTable} {deadlines : Slots} {sending : Flags} {round : Round} (seen : Table) (rows : Seats Row) (free near slot : ℕ) (old : Row) (view : record { rows = rows_in rows; free = free } ≡ seen) (kept : IsKept rows keys deadlines sending round)
     (position : Some slot ≡ slot_of keys near) (is : thing_at rows slot ≡ Some old) where
-  pub row_loose : (new : Row) → near_of new ≡ near_of old → IsLoose (with_thing rows slot new) keys deadlines sending slot
+  pub row_loose : (new : Row) → near_of new ≡ near_of old → IsLoose (with_thing rows slot new) keys deadlines sending round slot
   row_loose new same = (changed_at (λ (r : Row). new) rows near slot old new kept position is refl same).loose
 
   pub row_changed : (change : Row → Row) (new : Row) → new ≡ change old → near_of new ≡ near_of old → rows_in (with_thing rows slot new) ≡ in_row change seen.rows near
@@ -68,8 +69,8 @@ module _ {keys : KeyTable} {deadlines : Slots} {sending : Flags} (seen : Table) 
   pub told_is : {A : Type 0} (tell : Option Row → A) → tell (get seen.rows near) ≡ tell (Some old)
   told_is tell = ap tell (there seen rows free near slot old view kept position is)
 
-  pub cause_is : (cause : SessionState → FlowsState → Option FlowCause) (P : Type 0) (Q : FlowCause → Type 0) → MatchOption (cause old.session old.flows) P Q → MatchOption (cause_in cause (get seen.rows near)) P Q
-  cause_is cause P Q h = subst (λ (o : Option FlowCause). MatchOption o P Q) (sym (told_is (cause_in cause))) h
+  pub cause_is : (cause : SessionState → FlowsState → Option Cause) (P : Type 0) (Q : Cause → Type 0) → MatchOption (cause old.session old.flows) P Q → MatchOption (cause_in cause (get seen.rows near)) P Q
+  cause_is cause P Q h = subst (λ (o : Option Cause). MatchOption o P Q) (sym (told_is (cause_in cause))) h
 
   -- what it is afterwards
   pub now_there : (change : Row → Row) (after : Sessions) → after ≡ in_row change seen.rows near → get after near ≡ Some (change old)
@@ -88,7 +89,7 @@ module _ {keys : KeyTable} {deadlines : Slots} {sending : Flags} (seen : Table) 
 none_owed : {P : Type 0} → false ≡ true → P
 none_owed e = absurd cc
 
-module _ {keys : KeyTable} {deadlines : Slots} {sending : Flags} (seen : Table) (rows : Seats Row) (free near : ℕ) (view : record { rows = rows_in rows; free = free } ≡ seen) (kept : IsKept rows keys deadlines sending)
+module _ {keys : KeyTable} {deadlines : Slots} {sending : Flags} {round : Round} (seen : Table) (rows : Seats Row) (free near : ℕ) (view : record { rows = rows_in rows; free = free } ≡ seen) (kept : IsKept rows keys deadlines sending round)
     (position : None ≡ slot_of keys near) where
   pub told_none : {A : Type 0} (tell : Option Row → A) → tell (get seen.rows near) ≡ tell None
   told_none tell = ap tell (ap (λ (t : Table). get t.rows near) (sym view) ∙ found_nowhere rows near kept position)
@@ -96,8 +97,8 @@ module _ {keys : KeyTable} {deadlines : Slots} {sending : Flags} (seen : Table) 
   pub same_rows : (change : Row → Row) → seen.rows ≡ in_row change seen.rows near
   same_rows change = ap (λ (t : Table). t.rows) (sym view) ∙ unchanged change rows near kept position ∙ ap (λ (t : Table). in_row change t.rows near) view
 
-  pub cause_none : (cause : SessionState → FlowsState → Option FlowCause) (P : Type 0) (Q : FlowCause → Type 0) → Q WrongState → MatchOption (cause_in cause (get seen.rows near)) P Q
-  cause_none cause P Q q = subst (λ (o : Option FlowCause). MatchOption o P Q) (sym (told_none (cause_in cause))) q
+  pub cause_none : (cause : SessionState → FlowsState → Option Cause) (P : Type 0) (Q : Cause → Type 0) → Q WrongState → MatchOption (cause_in cause (get seen.rows near)) P Q
+  cause_none cause P Q q = subst (λ (o : Option Cause). MatchOption o P Q) (sym (told_none (cause_in cause))) q
 
   pub owes_nowhere : (P : Type 0) → owes_by (get seen.rows near) ≡ true → P
   owes_nowhere P owed = none_owed (sym (told_none owes_by) ∙ owed)

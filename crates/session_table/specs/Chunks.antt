@@ -3,8 +3,8 @@ use Rattle.std.specs.Prelude.{ℕ, List, [], Option, Some, None}
 use Rattle.flow_send.specs.Acks.{Told}
 use Rattle.session_core.specs.Session.{SessionState}
 use Rattle.session_core.specs.Sealed.{after_seal}
-use Rattle.session_flows.specs.declared.cause.FlowCause.{FlowCause}
-use Rattle.session_flows.specs.declared.cause.FlowCause.TheVariants.{WrongState}
+use Rattle.rtmfp_base.specs.declared.cause.Cause.{Cause}
+use Rattle.rtmfp_base.specs.declared.cause.Cause.TheVariants.{WrongState}
 use Rattle.session_flows.specs.Keeping.{FlowsState, Stated}
 use Rattle.session_flows.specs.Chunks.{heard, session_heard, rejecting, waiting_at}
 use Rattle.session_flows.specs.Handing.{hands_once}
@@ -20,8 +20,8 @@ abbrev pub of_flows : (FlowsState → FlowsState) → Row → Row
 of_flows change row = record row { flows = change row.flows }
 
 -- Why a chunk is discarded: a session that isn't there takes none.
-abbrev pub cause_in : (SessionState → FlowsState → Option FlowCause) → Option Row →
-    Option FlowCause
+abbrev pub cause_in : (SessionState → FlowsState → Option Cause) → Option Row →
+    Option Cause
 cause_in cause None = Some WrongState
 cause_in cause (Some row) = cause row.session row.flows
 

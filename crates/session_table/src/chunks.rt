@@ -18,15 +18,15 @@ ghost use Rattle.session_table.specs.Table.{in_row};
 
 use crate::slot::slot_near;
 use crate::table::SessionTable;
-use rtmfp_base::Message;
+use rtmfp_base::{Cause, Message};
 use rtmfp_data_chunks::{AckedSpans, UserData};
-use session_flows::{FlowCause, JudgedData};
+use session_flows::JudgedData;
 use std::alloc::AllocError;
 
 impl SessionTable {
     /// Why a user data chunk is discarded in the session; or of which flow it is, and how many
     /// messages it hands over at most. It takes no memory.
-    pub fn judge_data(&self, near: u32, chunk: &UserData<'_>) -> Result<JudgedData, FlowCause>
+    pub fn judge_data(&self, near: u32, chunk: &UserData<'_>) -> Result<JudgedData, Cause>
         ensures none { OnOk result (cause_in (λ s f. data_cause s f (user_parts chunk.now))
             (get self.now.rows near) ≡ None) }
         ensures judged { IfOk result (λ judged. IfSome (get self.now.rows near)
@@ -37,7 +37,7 @@ impl SessionTable {
     {
         match self.row(near) {
             Some(row) => row.flows.judge_data(&row.session, chunk),
-            None => Err(FlowCause::WrongState),
+            None => Err(Cause::WrongState),
         }
     }
 
@@ -91,7 +91,7 @@ impl SessionTable {
         blocks: u64,
         upto: u64,
         spans: AckedSpans<'_>,
-    ) -> Result<(), FlowCause>
+    ) -> Result<(), Cause>
         ensures rows { OnOk result (self.new.rows
             ≡ in_row (heard_in flow (told blocks upto spans.entry)) self.old.rows near) }
         ensures cause { MatchOption (cause_in (λ s f. ack_cause s f flow
@@ -100,7 +100,7 @@ impl SessionTable {
         ensures err { OnErr result (self.new.rows ≡ self.old.rows) }
     {
         let Some(slot) = slot_near(&self.kept, near, self.likely) else {
-            return Err(FlowCause::WrongState);
+            return Err(Cause::WrongState);
         };
         let row = &mut self.kept.rows[slot];
         let taken = row
@@ -111,7 +111,7 @@ impl SessionTable {
     }
 
     /// Owes an ack for a buffer probe of a flow of the session. It takes no memory.
-    pub fn take_probe(&mut self, near: u32, flow: u64) -> Result<(), FlowCause>
+    pub fn take_probe(&mut self, near: u32, flow: u64) -> Result<(), Cause>
         ensures rows { OnOk result (self.new.rows
             ≡ in_row (of_flows (λ f. probed f flow)) self.old.rows near) }
         ensures cause { MatchOption (cause_in (λ s f. probe_cause s f flow)
@@ -119,7 +119,7 @@ impl SessionTable {
         ensures err { OnErr result (self.new.rows ≡ self.old.rows) }
     {
         let Some(slot) = slot_near(&self.kept, near, self.likely) else {
-            return Err(FlowCause::WrongState);
+            return Err(Cause::WrongState);
         };
         let row = &mut self.kept.rows[slot];
         let taken = row.flows.take_probe(&row.session, flow);
@@ -129,7 +129,7 @@ impl SessionTable {
 
     /// Why an exception for a flow is discarded in the session; or how much it states, or
     /// 2 ^ 64 - 1 where it is more. It takes no memory.
-    pub fn judge_exception(&self, near: u32, flow: u64) -> Result<usize, FlowCause>
+    pub fn judge_exception(&self, near: u32, flow: u64) -> Result<usize, Cause>
         ensures none { OnOk result (cause_in (λ s f. exception_cause s f flow)
             (get self.now.rows near) ≡ None) }
         ensures there { OnOk result (IfSome (get self.now.rows near)
@@ -143,7 +143,7 @@ impl SessionTable {
     {
         match self.row(near) {
             Some(row) => row.flows.judge_exception(&row.session, flow),
-            None => Err(FlowCause::WrongState),
+            None => Err(Cause::WrongState),
         }
     }
 

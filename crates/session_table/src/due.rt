@@ -1,10 +1,10 @@
 //! What time makes due of the sessions.
 
-ghost use Rattle.std.specs.Prelude.{◌≡◌, IfNone, IfSome, IsSome};
+ghost use Rattle.std.specs.Prelude.{◌≡◌, IfNone, IfSome, IsSome, Some};
 ghost use Rattle.keyed_slab.specs.KeyedSlab.{thing_at};
 ghost use Rattle.endpoint_model.specs.FlowTimes.{is_row_due, row_due};
 ghost use Rattle.session_table.specs.FlowTimes.{flows_due, still_due};
-ghost use Rattle.session_table.specs.Inside.{IsFirst, IsKept, NonePasses, better_of};
+ghost use Rattle.session_table.specs.Inside.{IsFirst, IsKept, NonePasses, better_of, rows_in};
 ghost use Rattle.session_table.specs.Table.{due_in, near_of, under};
 
 use crate::kept::Kept;
@@ -48,7 +48,7 @@ fn still_due(row: &Row, moment: u64) -> Option<RowDue>
 }
 
 /// Whether something is due of a session at a moment.
-fn is_row_due(row: &Row, moment: u64) -> bool
+pub(crate) fn is_row_due(row: &Row, moment: u64) -> bool
     ensures { result ≡ is_row_due moment row.now }
 {
     row_due(row, moment).is_some()
@@ -89,9 +89,45 @@ fn better(rows: &KeyedSlab<Row>, moment: u64, best: Option<usize>, slot: usize) 
 
 impl Kept {
     /// The slot of the row with the lowest session ID of those of which something is due at a
-    /// moment. Rows without a sending flow are looked at only where their deadline has come.
-    pub(crate) fn first_due(&self, moment: u64) -> Option<usize>
-        requires { IsKept self.now.rows self.now.keys.keys self.now.deadlines self.now.sending }
+    /// moment. In the round of this moment no row is looked at twice, unless it was changed.
+    pub(crate) fn first_due(&mut self, moment: u64) -> Option<usize>
+        requires { IsKept self.old.rows self.old.keys.keys self.old.deadlines self.old.sending
+            self.old.round }
+        ensures kept { IsKept self.new.rows self.new.keys.keys self.new.deadlines self.new.sending
+            self.new.round }
+        ensures rest { self.new ≡ record self.old { round = self.new.round } }
+        ensures none { IfNone result (NonePasses (is_row_due moment) self.old.rows) }
+        ensures some { IfSome result (IsFirst (is_row_due moment) self.old.rows) }
+    {
+        if self.round.goes_on(moment) {
+            return self.first_in_round(moment);
+        }
+        self.first_of_all(moment)
+    }
+
+    /// The same in the round of this moment.
+    fn first_in_round(&mut self, moment: u64) -> Option<usize>
+        requires kept { IsKept self.old.rows self.old.keys.keys self.old.deadlines self.old.sending
+            self.old.round }
+        requires moment { self.old.round.moment ≡ Some moment }
+        ensures kept { IsKept self.new.rows self.new.keys.keys self.new.deadlines self.new.sending
+            self.new.round }
+        ensures rest { self.new ≡ record self.old { round = self.new.round } }
+        ensures none { IfNone result (NonePasses (is_row_due moment) self.old.rows) }
+        ensures some { IfSome result (IsFirst (is_row_due moment) self.old.rows) }
+    {
+        let own = self.deadlines.due(moment);
+        match self.round.first_due(&self.rows, &self.keys, moment) {
+            Some(slot) => better(&self.rows, moment, own, slot),
+            None => own,
+        }
+    }
+
+    /// The same outside of a round. Rows without a sending flow are looked at only where their
+    /// deadline has come.
+    fn first_of_all(&self, moment: u64) -> Option<usize>
+        requires { IsKept self.now.rows self.now.keys.keys self.now.deadlines self.now.sending
+            self.now.round }
         ensures none { IfNone result (NonePasses (is_row_due moment) self.now.rows) }
         ensures some { IfSome result (IsFirst (is_row_due moment) self.now.rows) }
     {
@@ -104,15 +140,28 @@ impl Kept {
     }
 }
 
+/// The session ID of the first of which something is due, whose slot this is, and what it is.
+fn due_at(kept: &Kept, slot: Option<usize>, moment: u64) -> Option<(u32, RowDue)>
+    requires kept { IsKept kept.now.rows kept.now.keys.keys kept.now.deadlines kept.now.sending
+        kept.now.round }
+    requires none { IfNone slot (NonePasses (is_row_due moment) kept.now.rows) }
+    requires some { IfSome slot (IsFirst (is_row_due moment) kept.now.rows) }
+    ensures { result ≡ due_in moment (rows_in kept.now.rows) }
+{
+    match slot {
+        Some(slot) => due_of(&kept.rows[slot], moment),
+        None => None,
+    }
+}
+
 impl SessionTable {
     /// The first session, by rising session IDs, of which something is due at a moment, and what it
     /// is.
-    pub fn first_due(&self, moment: u64) -> Option<(u32, RowDue)>
-        ensures { result ≡ due_in moment self.now.rows }
+    pub fn first_due(&mut self, moment: u64) -> Option<(u32, RowDue)>
+        ensures due { result ≡ due_in moment self.old.rows }
+        ensures same { self.new ≡ self.old }
     {
-        match self.kept.first_due(moment) {
-            Some(slot) => due_of(&self.kept.rows[slot], moment),
-            None => None,
-        }
+        let slot = self.kept.first_due(moment);
+        due_at(&self.kept, slot, moment)
     }
 }

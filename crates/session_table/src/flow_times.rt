@@ -26,6 +26,7 @@ impl SessionTable {
     pub fn lose_late(&mut self, moment: u64)
         ensures { AreLate moment self.old.rows self.new.rows }
     {
+        self.kept.advance(moment);
         self.kept.lose_late(moment);
     }
 
@@ -65,15 +66,23 @@ impl SessionTable {
 }
 
 impl Kept {
-    /// Marks the numbers that are lost by time in each row. Those without a sending flow have none,
-    /// and aren't looked at.
+    /// Tells the deadlines that a moment has come.
+    fn advance(&mut self, moment: u64)
+        ensures { self.new ≡ self.old }
+    {
+        self.deadlines.advance(moment);
+    }
+
+    /// Marks the numbers that are lost by time in each row, and begins the round of this moment.
+    /// Those without a sending flow have none, and aren't looked at.
     fn lose_late(&mut self, moment: u64)
-        requires { IsKept self.old.rows self.old.keys.keys self.old.deadlines self.old.sending }
+        requires { IsKept self.old.rows self.old.keys.keys self.old.deadlines self.old.sending self.old.round }
         ensures kept { IsKept self.new.rows self.new.keys.keys self.new.deadlines
-            self.new.sending }
+            self.new.sending self.new.round }
         ensures late { AreLate moment (rows_in self.old.rows) (rows_in self.new.rows) }
     {
         lose_in_slots(&mut self.rows, self.sending.slots(), moment);
+        self.round.begin(&self.rows, self.sending.slots(), moment);
     }
 }
 

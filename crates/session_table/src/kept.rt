@@ -7,6 +7,7 @@ ghost use Rattle.session_table.specs.Inside.{IsKept, IsLoose, rows_in};
 ghost use Rattle.session_table.specs.Table.{near_of};
 ghost use Rattle.session_table.specs.Room.{free_of};
 
+use crate::round::Round;
 use crate::row_facts::{deadline_of, near_of, sends};
 use deadlines::Deadlines;
 use endpoint_model::Row;
@@ -25,31 +26,35 @@ pub(crate) struct Kept {
     pub(crate) deadlines: Deadlines,
     /// The slots of the sessions with a sending flow.
     pub(crate) sending: SlotSet,
+    /// Those of them that a tick has still to look at.
+    pub(crate) round: Round,
 }
 
 impl Kept {
     /// Brings what finds the row in a slot up to what the row has become.
     pub(crate) fn settle(&mut self, slot: usize)
-        requires { IsLoose self.old.rows self.old.keys.keys self.old.deadlines self.old.sending
+        requires { IsLoose self.old.rows self.old.keys.keys self.old.deadlines self.old.sending self.old.round
             slot }
         ensures kept { IsKept self.new.rows self.new.keys.keys self.new.deadlines
-            self.new.sending }
+            self.new.sending self.new.round }
         ensures table { rows_in self.new.rows ≡ rows_in self.old.rows }
     {
         let row = &self.rows[slot];
         let is_sending = sends(row);
-        self.deadlines.set(slot, deadline_of(row), near_of(row));
+        let near = near_of(row);
+        self.deadlines.set(slot, deadline_of(row), near);
         self.sending.set(slot, is_sending);
+        self.round.put(near);
     }
 
     /// Keeps one more row, for which there is room.
     pub(crate) fn add(&mut self, row: Row)
         requires kept { IsKept self.old.rows self.old.keys.keys self.old.deadlines
-            self.old.sending }
+            self.old.sending self.old.round }
         requires none { get self.old.keys.keys (near_of row) ≡ None }
         requires room { 0 < free_of self.old }
         ensures kept { IsKept self.new.rows self.new.keys.keys self.new.deadlines
-            self.new.sending }
+            self.new.sending self.new.round }
         ensures table { rows_in self.new.rows ≡ insert (rows_in self.old.rows) (near_of row) row }
     {
         let near = near_of(&row);
@@ -61,10 +66,10 @@ impl Kept {
     /// Takes away the row in a slot.
     pub(crate) fn forget(&mut self, slot: usize)
         requires kept { IsKept self.old.rows self.old.keys.keys self.old.deadlines
-            self.old.sending }
+            self.old.sending self.old.round }
         requires there { IsSome (thing_at self.old.rows slot) }
         ensures kept { IsKept self.new.rows self.new.keys.keys self.new.deadlines
-            self.new.sending }
+            self.new.sending self.new.round }
         ensures table { (row : Row) → thing_at self.old.rows slot ≡ Some row
             → rows_in self.new.rows ≡ remove (rows_in self.old.rows) (near_of row) }
         ensures free { free_of self.old ≤ free_of self.new }
@@ -79,9 +84,9 @@ impl Kept {
     /// Finds memory for one more row.
     pub(crate) fn reserve(&mut self) -> Result<(), AllocError>
         requires kept { IsKept self.old.rows self.old.keys.keys self.old.deadlines
-            self.old.sending }
+            self.old.sending self.old.round }
         ensures kept { IsKept self.new.rows self.new.keys.keys self.new.deadlines
-            self.new.sending }
+            self.new.sending self.new.round }
         ensures rows { self.new.rows.things ≡ self.old.rows.things }
         ensures ok { OnOk result (0 < free_of self.new) }
     {
@@ -94,21 +99,22 @@ impl Kept {
     /// The same with the error of what is kept.
     fn find_room(&mut self) -> Result<(), Memory>
         requires kept { IsKept self.old.rows self.old.keys.keys self.old.deadlines
-            self.old.sending }
+            self.old.sending self.old.round }
         ensures kept { IsKept self.new.rows self.new.keys.keys self.new.deadlines
-            self.new.sending }
+            self.new.sending self.new.round }
         ensures rows { self.new.rows.things ≡ self.old.rows.things }
         ensures ok { OnOk result (0 < free_of self.new) }
     {
         self.keys.reserve()?;
         let last = self.rows.reserve()?;
         self.deadlines.reserve(last)?;
-        self.sending.reserve(last)
+        self.sending.reserve(last)?;
+        self.round.reserve(last)
     }
 
     /// No rows. It takes no memory.
     pub(crate) fn new(alloc: Global) -> Kept
-        ensures kept { IsKept result.rows result.keys.keys result.deadlines result.sending }
+        ensures kept { IsKept result.rows result.keys.keys result.deadlines result.sending result.round }
         ensures rows { rows_in result.rows ≡ empty }
     {
         Kept {
@@ -116,6 +122,7 @@ impl Kept {
             keys: Keys::new(alloc),
             deadlines: Deadlines::new(alloc),
             sending: SlotSet::new(alloc),
+            round: Round::new(alloc),
         }
     }
 }

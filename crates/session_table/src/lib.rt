@@ -9,6 +9,7 @@ mod chunks;
 mod due;
 mod flow_times;
 mod kept;
+mod round;
 mod row_facts;
 mod sealing;
 mod slot;

@@ -1,8 +1,8 @@
 use Rattle.std.proofs.Common.{ℕ, ◌≡◌, Bool, true, false, if◌then◌else◌, Result, Ok, Err, sym, ap, ◌∙◌, arith}
 use Rattle.rtmfp_packet.specs.declared.head.PacketHead.{PacketHead}
 use Rattle.rtmfp_packet.specs.Whole.{Whole}
-use Rattle.startup.specs.declared.cause.Cause.{Cause}
-use Rattle.startup.specs.declared.cause.Cause.TheVariants.{BadPacket, WrongPlace}
+use Rattle.rtmfp_base.specs.declared.cause.Cause.{Cause}
+use Rattle.rtmfp_base.specs.declared.cause.Cause.TheVariants.{BadPacket, WrongPlace}
 use Rattle.endpoint_model.specs.Admission.{packet_in, has_mode, mode_at}
 use Rattle.endpoint_model.proofs.Reading.{packet_reads}
 use Rattle.end_loops.specs.Walks.{packet_at}

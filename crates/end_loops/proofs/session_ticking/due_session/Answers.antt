@@ -6,18 +6,20 @@ use Rattle.endpoint_model.specs.declared.row.Row.{Row}
 use Rattle.endpoint_model.specs.State.{State}
 use Rattle.endpoint_model.specs.FlowTimes.{due_row, is_row_due}
 use Rattle.endpoint_model.specs.Effects.{session_item}
-use Rattle.end_loops.specs.DueItems.{told_item}
-use Rattle.end_loops.proofs.DueItems.{handed_on, handed_is}
+use Rattle.session_table.specs.Table.{Table}
+use Rattle.end_state.specs.Stored.{state_of}
+use Rattle.end_loops.specs.DueItems.{handed_on, told_item}
+use Rattle.end_loops.proofs.DueItems.{handed_is}
 use Rattle.end_loops.proofs.session_ticking.due_session.Goals as goal
 
-pub returns-in-Some : goal.returns-in-Some
-returns-in-Some c =
+pub returns-clause-item : goal.returns-clause-item
+returns-clause-item c =
     let i = c.end.inside in
-    ap handed_on c.in-Some.ensures ∙ handed_is i.moment (find (λ (e : ℕ × Row). is_row_due i.moment e.1) (entries i.sessions.rows))
+    c.handed_on.ensures ∙ ap handed_on c.first_due-found.ensures.due
+    ∙ handed_is i.moment (find (λ (e : ℕ × Row). is_row_due i.moment e.1) (entries i.sessions.rows))
     ∙ ap (λ (s : State). option_map told_item (session_item s.moment (due_row s))) c.end.view_is
 
-pub returns-in-None : goal.returns-in-None
-returns-in-None c =
+pub returns-clause-same : goal.returns-clause-same
+returns-clause-same c =
     let i = c.end.inside in
-    ap handed_on c.in-None.ensures ∙ handed_is i.moment (find (λ (e : ℕ × Row). is_row_due i.moment e.1) (entries i.sessions.rows))
-    ∙ ap (λ (s : State). option_map told_item (session_item s.moment (due_row s))) c.end.view_is
+    ap (λ (t : Table). state_of i.settings i.moment i.sealed i.startup t.rows) c.first_due-found.ensures.same ∙ c.end.view_is

@@ -1,5 +1,5 @@
 use Rattle.std.proofs.Common.{ℕ, sym, ap, ◌∙◌, subst}
-use Rattle.endpoint_model.specs.declared.answers.CallRefusal.TheVariants.{Memory as NoMemory}
+use Rattle.session_flows.specs.declared.refusal.CallRefusal.TheVariants.{Memory as NoMemory}
 use Rattle.endpoint_model.specs.FlowCall.{Queue}
 use Rattle.endpoint_model.specs.OnFlows.{call_refusal, flow_called}
 use Rattle.endpoint_model.specs.Log.{not_called}

@@ -1,26 +1,18 @@
-use Rattle.std.proofs.Common.{◌≡◌, ℕ, Some, None, is_some, sym, ap, ◌∙◌}
-use Rattle.std.specs.List.{find}
-use Rattle.std.specs.FinMap.{entries}
-use Rattle.keyed_slab.proofs.Walked.{first_is_found, none_is_found}
-use Rattle.endpoint_model.specs.declared.row.Row.{Row}
+use Rattle.std.proofs.Common.{IfSome, IfNone, sym, ap, subst, ◌∙◌}
 use Rattle.endpoint_model.specs.FlowTimes.{is_row_due}
-use Rattle.session_table.specs.Table.{Table, near_of, entry_of, due_of, due_in}
-use Rattle.session_table.specs.Inside.{rows_in}
+use Rattle.session_table.specs.declared.kept.Kept.{Kept}
+use Rattle.session_table.specs.Table.{Table, due_in}
+use Rattle.session_table.specs.Inside.{IsFirst, NonePasses, rows_in}
 use Rattle.session_table.proofs.table.SessionTable.first_due.Goals as goal
 
-pub index-requires : goal.index-requires
-index-requires c = ap is_some c.in-Some.ensures.some.stands
+pub due_at-requires-clause-none : goal.due_at-requires-clause-none
+due_at-requires-clause-none c =
+    subst (λ (k : Kept). IfNone c.first_due-slot.result (NonePasses (is_row_due c.args.moment) k.rows)) (sym c.first_due-slot.ensures.rest) c.first_due-slot.ensures.none
 
-pub returns-in-Some : goal.returns-in-Some
-returns-in-Some c =
-    let k = c.self.inside.kept in
-    let found : find (λ (e : ℕ × Row). is_row_due c.args.moment e.1) (entries (rows_in k.rows)) ≡ Some (entry_of c.index.result.now) =
-    first_is_found near_of (is_row_due c.args.moment) k.rows.things k.rows.generations k.keys.keys c.self.invariant.names c.in-Some.slot c.index.result.now c.index.ensures c.in-Some.ensures.some in
-    c.due_of.ensures ∙ sym (ap (due_of c.args.moment) found) ∙ ap (λ (t : Table). due_in c.args.moment t.rows) c.self.view_is
+pub due_at-requires-clause-some : goal.due_at-requires-clause-some
+due_at-requires-clause-some c =
+    subst (λ (k : Kept). IfSome c.first_due-slot.result (IsFirst (is_row_due c.args.moment) k.rows)) (sym c.first_due-slot.ensures.rest) c.first_due-slot.ensures.some
 
-pub returns-in-None : goal.returns-in-None
-returns-in-None c =
-    let k = c.self.inside.kept in
-    let found : find (λ (e : ℕ × Row). is_row_due c.args.moment e.1) (entries (rows_in k.rows)) ≡ None =
-    none_is_found near_of (is_row_due c.args.moment) k.rows.things k.rows.generations k.keys.keys c.self.invariant.names c.in-None.ensures.none in
-    sym (ap (due_of c.args.moment) found) ∙ ap (λ (t : Table). due_in c.args.moment t.rows) c.self.view_is
+pub returns-clause-due : goal.returns-clause-due
+returns-clause-due c =
+    c.due_at.ensures ∙ ap (λ (k : Kept). due_in c.args.moment (rows_in k.rows)) c.first_due-slot.ensures.rest ∙ ap (λ (t : Table). due_in c.args.moment t.rows) c.self.view_is

@@ -1,9 +1,9 @@
 use Rattle.std.proofs.Common.{sym, ap, ◌∙◌}
 use Rattle.std.specs.FinMap.{insert}
 use Rattle.std.proofs.lemmas.Option.{same_Some}
-use Rattle.keyed_slab.proofs.Seated.{set_loose}
 use Rattle.session_table.specs.Table.{Table, near_of}
-use Rattle.session_table.specs.Inside.{due_from, sends_of, slot_of}
+use Rattle.session_table.specs.Inside.{slot_of}
+use Rattle.session_table.proofs.Changing.{row_set_loose}
 use Rattle.session_table.proofs.Rows.{row_there, put_at, no_key}
 use Rattle.session_table.proofs.table.SessionTable.keep_row.Goals as goal
 
@@ -12,7 +12,7 @@ settle-requires c =
     let k = c.self.inside.kept in
     let there = row_there k.rows c.near_of.result c.self.invariant c.in-Some.slot c.in-Some.ensures.found in
     let stays = sym (ap near_of (same_Some c.index_mut.result.now there.row (sym c.index_mut.ensures.value ∙ there.stands)) ∙ there.near_is ∙ c.near_of.ensures) in
-    set_loose near_of due_from sends_of k.rows.things k.rows.generations k.keys.keys k.deadlines k.sending c.in-Some.slot c.index_mut.result.now c.args.row c.self.invariant c.index_mut.ensures.value stays
+    row_set_loose k.rows c.in-Some.slot c.index_mut.result.now c.args.row c.self.invariant c.index_mut.ensures.value stays
 
 pub returns-in-Some : goal.returns-in-Some
 returns-in-Some c =

@@ -1,7 +1,7 @@
 use Rattle.std.proofs.Common.{◌≡◌, Err, IsOk, refl, ap, ◌∙◌}
 use Rattle.flow_send.specs.Acks.{told}
 use Rattle.session_core.specs.Session.{SessionState}
-use Rattle.session_flows.specs.declared.cause.FlowCause.TheVariants.{WrongState}
+use Rattle.rtmfp_base.specs.declared.cause.Cause.TheVariants.{WrongState}
 use Rattle.session_flows.specs.Keeping.{FlowsState}
 use Rattle.session_flows.specs.Causes.{ack_cause}
 use Rattle.session_flows.specs.Chunks.{session_heard}

@@ -1,5 +1,5 @@
 use Rattle.std.proofs.Common.{◌≡◌, Err, IsOk, refl, ◌∙◌}
-use Rattle.session_flows.specs.declared.cause.FlowCause.TheVariants.{WrongState}
+use Rattle.rtmfp_base.specs.declared.cause.Cause.TheVariants.{WrongState}
 use Rattle.session_flows.specs.Causes.{probe_cause}
 use Rattle.session_flows.specs.Chunks.{probed}
 use Rattle.session_table.proofs.Called.{stays_loose}
