@@ -11,7 +11,7 @@ use Rattle.rendezvous_world.specs.declared.journal.Refused.{Refused}
 use Rattle.rendezvous_world.specs.declared.step.Step.{Step}
 use Rattle.rendezvous_world.specs.Draws.{draws_of}
 use Rattle.rendezvous_world.specs.Entering.{event_by}
-use Rattle.rendezvous_world.specs.History.{answer_to_datagram}
+use Rattle.rendezvous_world.specs.Calls.{answer_to_datagram}
 
 -- the event of a step that brings a datagram
 pub brought : (s t : State) (print : List ℕ) (line moment : ℕ) (step brings : Step) (from : AddressParts) (bytes : List ℕ) (draws : Draws) (refused : Option Refused) (stopped : Option Stop) (entries : List Entry) →

@@ -1,13 +1,14 @@
 -- A step that calls an end leaves a world.
-use Rattle.std.proofs.Common.{◌≡◌, ℕ, ◌<◌, ◌≤◌, ◌^◌, List, [], ◌∷◌, ◌++◌, length, drop, slice_get, Bool, true, false, ◌||◌, Option, Some, None, inl, inr, ◌⊎◌, refl, sym, ap, subst, ◌∙◌, arith}
+use Rattle.std.proofs.Common.{◌≡◌, ℕ, ◌<◌, ◌≤◌, ◌^◌, List, [], ◌∷◌, ◌++◌, length, drop, slice_get, Bool, true, false, Option, Some, None, inl, inr, ◌⊎◌, refl, sym, ap, subst, ◌∙◌, arith}
 use Rattle.std.specs.Int.{w64, to_be_bytes, from_be_bytes}
 use Rattle.std.specs.List.{AllByRecursion}
+use Rattle.std.proofs.lemmas.Bool.{or_parts}
 use Rattle.std.proofs.lemmas.Bool.Decides.{nat_tests}
 use Rattle.std.proofs.lemmas.Nat.{from_be_bytes-to_be_bytes_8}
 use Rattle.sha2.proofs.Facts256.{length-sha256}
 use Rattle.crypto_profile.specs.declared.keys.Context.{Context}
 use Rattle.rtmfp_forms.specs.Address.{AddressParts}
-use Rattle.glare_core.specs.Calls.{where_true, first_that_stands}
+use Rattle.rtmfp_base.specs.Reasons.{where_true, first_that_stands}
 use Rattle.glare_core.specs.Steps.{Among}
 use Rattle.glare_core.specs.Told.{AllDifferent}
 use Rattle.endpoint_model.specs.declared.config.Draws.{Draws}
@@ -24,18 +25,19 @@ use Rattle.endpoint_laws.proofs.Opened.{opens_in_found}
 use Rattle.endpoint.proofs.Reaching.{calls_more}
 use Rattle.rendezvous_world.specs.declared.journal.JournalLine.{JournalLine}
 use Rattle.rendezvous_world.specs.declared.step.Step.{Step}
-use Rattle.rendezvous_world.specs.declared.step.Step.TheVariants.{End, At, Introduce, Redirect, Open, Cancel, Close, Flow, Queue, Abandon, Finish, Deliver, Bent, Inject, Forge, Tick}
 use Rattle.rendezvous_world.specs.declared.step.StepFault.{StepFault}
 use Rattle.rendezvous_world.specs.declared.step.StepFault.TheVariants.{NoEnd, NoDatagram, BadStep, Forged}
-use Rattle.rendezvous_world.specs.Seen.{EndSeen, Seen, setup_at}
+use Rattle.rendezvous_world.specs.Deed.{Opens, Closes, Ticks, Deed, Calls, Brings, deed_of, end_of}
+use Rattle.rendezvous_world.specs.Calls.{peer_in}
+use Rattle.rendezvous_world.specs.Seen.{EndSeen, Seen, print_at, setup_at}
 use Rattle.rendezvous_world.specs.Draws.{two_numbers, draws_of}
 use Rattle.rendezvous_world.specs.Sent.{sent_in}
-use Rattle.rendezvous_world.specs.Datagrams.{datagram_of}
-use Rattle.rendezvous_world.specs.History.{bytes_or_none, call_of, moment_given, event_of, happened, after_lines, history_of}
+use Rattle.rendezvous_world.specs.Datagrams.{datagram_had, datagram_in}
+use Rattle.rendezvous_world.specs.History.{bytes_or_none, peer_of, call_by, call_of, moment_given, event_of, happened, after_lines, history_of}
 use Rattle.rendezvous_world.specs.Sound.{AreBelow, StandsUpTo}
 use Rattle.rendezvous_world.specs.Stepping.{in_state, with_state, called_by, HasItsAnswer, IsAnswered, IsLineOf, Called}
-use Rattle.rendezvous_world.specs.Faults.{is_missing, lacks_end, lacks_datagram, is_bad, is_forged_by, is_forged, step_fault}
-use Rattle.rendezvous_world.specs.Kept.{IsGiven, name_of, print_of, HasPeer, IsLineIn, IsOfLine, IsWorld}
+use Rattle.rendezvous_world.specs.Faults.{is_missing, lacks_peer, lacks_end_in, lacks_end, lacks_datagram, is_bad, is_forged_by, is_forged_in, is_forged, step_fault}
+use Rattle.rendezvous_world.specs.Kept.{IsGiven, name_of, print_of, IsNamed, HasPeerIn, HasPeer, IsLineIn, IsOfLine, IsWorld}
 use Rattle.endpoint_laws.proofs.Drawn.{Once, MayDraw, answers_draw, nonces_none, nonces_once}
 use Rattle.rendezvous_world.proofs.Ends.{tested, setup_is, below_length, setups_stay, length-with_state, changed_end, other_end, was_there, apart_with_state}
 use Rattle.rendezvous_world.proofs.Told.{SameSetups, same_happened, same_lines, one_more_line, all_more, rise_more, of_line_stays, of_line_new, number_below, log_same, log_other, honest_same}
@@ -75,30 +77,16 @@ may_step w step none =
       unforged = test_fails (is_forged w step) Forged d.0;
     }
 
-or_false : (a b : Bool) → (a || b) ≡ false → (a ≡ false) × (b ≡ false)
-or_false true b e = absurd (cc)
-or_false false b e = (refl, e)
-
 not_missing : (w : Seen) (end : ℕ) → is_missing w end ≡ false → end < length w.ends
 not_missing w end e = grind (arith, nat_tests)
 
-has_peer : (w : Seen) (step : Step) → lacks_end w step ≡ false → HasPeer (length w.ends) step
-has_peer w (End name max_peers max_sessions cert) e = tt
-has_peer w (At moment) e = tt
-has_peer w (Open end peer list) e = not_missing w peer (or_false (is_missing w end) (is_missing w peer) e).1
-has_peer w (Cancel end n) e = tt
-has_peer w (Close end near) e = tt
-has_peer w (Flow end near priority metadata answers) e = tt
-has_peer w (Queue end near flow options message) e = tt
-has_peer w (Abandon end near flow seq) e = tt
-has_peer w (Finish end near flow) e = tt
-has_peer w (Introduce end) e = tt
-has_peer w (Redirect end peer list) e = not_missing w peer (or_false (is_missing w end) (is_missing w peer) e).1
-has_peer w (Deliver number end from) e = tt
-has_peer w (Bent number place end from) e = tt
-has_peer w (Inject end from bytes) e = tt
-has_peer w (Forge end from plain) e = tt
-has_peer w (Tick end) e = tt
+named_there : (w : Seen) (peer : Option ℕ) → lacks_peer w peer ≡ false → IsNamed (length w.ends) peer
+named_there w None e = tt
+named_there w (Some peer) e = not_missing w peer e
+
+has_peer : (w : Seen) (deed : Deed) → lacks_end_in w deed ≡ false → HasPeerIn (length w.ends) deed
+has_peer w (Calls end call) e = named_there w (peer_in call) (or_parts (lacks_peer w (peer_in call)) (is_missing w end) e).0
+has_peer w deed e = tt
 
 -- ---- the draws of a line
 
@@ -113,61 +101,24 @@ two_apart a b small_a small_b same =
     sym (from_be_bytes-to_be_bytes_8 a wide_a) ∙ ap (from_be_bytes w64) bytes ∙ from_be_bytes-to_be_bytes_8 b wide_b
 
 -- what a call is given has its sizes
-is_call : (ends : List EndSeen) (number : ℕ) (datagram : Option (List ℕ)) (step : Step) → number < 2 ^ 32 → AreBytes (bytes_or_none datagram) → IsCall (call_of ends number datagram step)
-is_call ends number datagram (End name max_peers max_sessions cert) small bytes = tt
-is_call ends number datagram (At moment) small bytes = tt
-is_call ends number datagram (Open end peer list) small bytes = (length-sha256 (setup_at ends peer).cert, length-two 0 number, small, length-two 2 number)
-is_call ends number datagram (Cancel end n) small bytes = tt
-is_call ends number datagram (Close end near) small bytes = tt
-is_call ends number datagram (Flow end near priority metadata answers) small bytes = tt
-is_call ends number datagram (Queue end near flow options message) small bytes = tt
-is_call ends number datagram (Abandon end near flow seq) small bytes = tt
-is_call ends number datagram (Finish end near flow) small bytes = tt
-is_call ends number datagram (Introduce end) small bytes = tt
-is_call ends number datagram (Redirect end peer list) small bytes = tt
-is_call ends number datagram (Deliver sent end from) small bytes = (bytes, length-two 0 number, small, length-two 1 number)
-is_call ends number datagram (Bent sent place end from) small bytes = (bytes, length-two 0 number, small, length-two 1 number)
-is_call ends number datagram (Inject end from b) small bytes = (bytes, length-two 0 number, small, length-two 1 number)
-is_call ends number datagram (Forge end from plain) small bytes = (bytes, length-two 0 number, small, length-two 1 number)
-is_call ends number datagram (Tick end) small bytes = tt
+is_call : (print : List ℕ) (number : ℕ) (bytes : List ℕ) (deed : Deed) → length print ≡ 32 → number < 2 ^ 32 → AreBytes bytes → IsCall (call_by print number bytes deed)
+is_call print number bytes (Calls end (Opens peer list)) wide small are = (wide, length-two 0 number, small, length-two 2 number)
+is_call print number bytes (Brings end from source) wide small are = (are, length-two 0 number, small, length-two 1 number)
+is_call print number bytes deed wide small are = tt
 
 -- it is given the moment of its line, or none
-given_from : (ends : List EndSeen) (number : ℕ) (datagram : Option (List ℕ)) (last moment : ℕ) (step : Step) → last ≤ moment → IsGivenFrom last (moment_given moment step) (call_of ends number datagram step)
-given_from ends number datagram last moment (End name max_peers max_sessions cert) le = le
-given_from ends number datagram last moment (At at) le = le
-given_from ends number datagram last moment (Open end peer list) le = le
-given_from ends number datagram last moment (Cancel end n) le = tt
-given_from ends number datagram last moment (Flow end near priority metadata answers) le = tt
-given_from ends number datagram last moment (Queue end near flow options message) le = tt
-given_from ends number datagram last moment (Abandon end near flow seq) le = tt
-given_from ends number datagram last moment (Finish end near flow) le = tt
-given_from ends number datagram last moment (Close end near) le = le
-given_from ends number datagram last moment (Introduce end) le = tt
-given_from ends number datagram last moment (Redirect end peer list) le = tt
-given_from ends number datagram last moment (Deliver sent end from) le = le
-given_from ends number datagram last moment (Bent sent place end from) le = le
-given_from ends number datagram last moment (Inject end from b) le = le
-given_from ends number datagram last moment (Forge end from plain) le = le
-given_from ends number datagram last moment (Tick end) le = le
+given_from : (print : List ℕ) (number : ℕ) (bytes : List ℕ) (last moment : ℕ) (deed : Deed) → last ≤ moment → IsGivenFrom last (moment_given moment deed) (call_by print number bytes deed)
+given_from print number bytes last moment (Calls end (Opens peer list)) le = le
+given_from print number bytes last moment (Calls end (Closes near)) le = le
+given_from print number bytes last moment (Calls end Ticks) le = le
+given_from print number bytes last moment (Calls end call) le = tt
+given_from print number bytes last moment deed le = le
 
 -- what it draws is the nonce of its line
-draws_line : (ends : List EndSeen) (number : ℕ) (datagram : Option (List ℕ)) (step : Step) (entries : List Entry) → MayDraw (call_of ends number datagram step) entries → Once (two_numbers 0 number) entries
-draws_line ends number datagram (End name max_peers max_sessions cert) entries h = inl h
-draws_line ends number datagram (At moment) entries h = inl h
-draws_line ends number datagram (Open end peer list) entries h = h
-draws_line ends number datagram (Cancel end n) entries h = inl h
-draws_line ends number datagram (Close end near) entries h = inl h
-draws_line ends number datagram (Flow end near priority metadata answers) entries h = inl h
-draws_line ends number datagram (Queue end near flow options message) entries h = inl h
-draws_line ends number datagram (Abandon end near flow seq) entries h = inl h
-draws_line ends number datagram (Finish end near flow) entries h = inl h
-draws_line ends number datagram (Introduce end) entries h = inl h
-draws_line ends number datagram (Redirect end peer list) entries h = inl h
-draws_line ends number datagram (Deliver sent end from) entries h = h
-draws_line ends number datagram (Bent sent place end from) entries h = h
-draws_line ends number datagram (Inject end from b) entries h = h
-draws_line ends number datagram (Forge end from plain) entries h = h
-draws_line ends number datagram (Tick end) entries h = inl h
+draws_line : (print : List ℕ) (number : ℕ) (bytes : List ℕ) (deed : Deed) (entries : List Entry) → MayDraw (call_by print number bytes deed) entries → Once (two_numbers 0 number) entries
+draws_line print number bytes (Calls end (Opens peer list)) entries h = h
+draws_line print number bytes (Brings end from source) entries h = h
+draws_line print number bytes deed entries h = inl h
 
 -- the nonces of an event
 nonces_of_event : (e : Event) (nonce : List ℕ) → Once nonce e.entries →
@@ -182,9 +133,9 @@ module _ (w : Seen) (is : IsWorld w) where
       IsHonestCall (setup_at w.ends who) (past_at who (history_of w)) (history_of w) (Receive from (bytes_or_none o) draws)
   honest_datagram who end o from draws there unforged =
       subst (λ (setup : Setup). IsHonestCall setup (past_at who (history_of w)) (history_of w) (Receive from (bytes_or_none o) draws)) (sym (setup_is w.ends who end there))
-      (λ context plain named opens. sent o unforged context
+      (λ contexts context plain named opens. sent o unforged context
       (opens_noted end.state stands.told stands.noted (bytes_or_none o) stands.state
-      ∙ opens_in_found end.setup (log_of who (history_of w)) stands.told (bytes_or_none o) (is.given who end there).sized (is.calls who) stands.stands context plain named opens))
+      ∙ opens_in_found end.setup (log_of who (history_of w)) stands.told (bytes_or_none o) (is.given who end there).sized (is.calls who) stands.stands contexts context plain named opens))
     where
       stands : StandsUpTo w.moment end.setup (log_of who (history_of w)) end.state
       stands = is.stand who end there
@@ -193,24 +144,11 @@ module _ (w : Seen) (is : IsWorld w) where
       sent None unforged context opens = absurd (cc)
       sent (Some bytes) unforged context opens = was_sent w.ends w.ends who end bytes w.lines context there unforged opens
 
-  honest_step : (number : ℕ) (end : EndSeen) (step : Step) → slice_get w.ends (called_by step) ≡ Some end → is_forged w step ≡ false →
-      IsHonestCall (setup_at w.ends (called_by step)) (past_at (called_by step) (history_of w)) (history_of w) (call_of w.ends number (datagram_of (sent_in w.lines) step) step)
-  honest_step number end (End name max_peers max_sessions cert) there unforged = tt
-  honest_step number end (At moment) there unforged = tt
-  honest_step number end (Open who peer list) there unforged = tt
-  honest_step number end (Cancel who n) there unforged = tt
-  honest_step number end (Close who near) there unforged = tt
-  honest_step number end (Flow who near priority metadata answers) there unforged = tt
-  honest_step number end (Queue who near flow options message) there unforged = tt
-  honest_step number end (Abandon who near flow seq) there unforged = tt
-  honest_step number end (Finish who near flow) there unforged = tt
-  honest_step number end (Introduce who) there unforged = tt
-  honest_step number end (Redirect who peer list) there unforged = tt
-  honest_step number end (Deliver sent who from) there unforged = honest_datagram who end (datagram_of (sent_in w.lines) (Deliver sent who from)) from (draws_of number) there unforged
-  honest_step number end (Bent sent place who from) there unforged = honest_datagram who end (datagram_of (sent_in w.lines) (Bent sent place who from)) from (draws_of number) there unforged
-  honest_step number end (Inject who from bytes) there unforged = honest_datagram who end (Some bytes) from (draws_of number) there unforged
-  honest_step number end (Forge who from plain) there unforged = honest_datagram who end (datagram_of (sent_in w.lines) (Forge who from plain)) from (draws_of number) there unforged
-  honest_step number end (Tick who) there unforged = tt
+  honest_deed : (print : List ℕ) (number : ℕ) (end : EndSeen) (deed : Deed) → slice_get w.ends (end_of deed) ≡ Some end → is_forged_in w deed ≡ false →
+      IsHonestCall (setup_at w.ends (end_of deed)) (past_at (end_of deed) (history_of w)) (history_of w) (call_by print number (bytes_or_none (datagram_in (sent_in w.lines) deed)) deed)
+  honest_deed print number end (Brings who from source) there unforged = honest_datagram who end (datagram_had (sent_in w.lines) source) from (draws_of number) there unforged
+  honest_deed print number end (Calls who (Opens peer list)) there unforged = tt
+  honest_deed print number end deed there unforged = tt
 
 -- ---- the world after a line
 
@@ -237,6 +175,9 @@ module _ (w : Seen) (line : JournalLine) (end : EndSeen) (state : State) (is : I
   abbrev h : Happened
   h = happened w.ends line
 
+  abbrev who_named : ℕ
+  who_named = peer_of (deed_of line.step)
+
   stay : SameSetups (length w.ends) w.ends later
   stay who below = setups_stay w.ends line.end state who
 
@@ -258,7 +199,7 @@ module _ (w : Seen) (line : JournalLine) (end : EndSeen) (state : State) (is : I
   ]
     where
       given : IsGivenFrom w.moment h.event.moment h.event.call
-      given = given_from w.ends line.line line.datagram w.moment line.moment line.step (let same : line.moment ≡ w.moment = next.moment in omega arith)
+      given = given_from (print_at w.ends who_named) line.line (bytes_or_none line.datagram) w.moment line.moment (deed_of line.step) (let same : line.moment ≡ w.moment = next.moment in omega arith)
 
       here : line.end ≡ who → StandsUpTo w.moment x.setup (log_of who (h ∷ history_of w)) x.state
       here same =
@@ -287,7 +228,7 @@ module _ (w : Seen) (line : JournalLine) (end : EndSeen) (state : State) (is : I
   calls_now who = elim (tested line.end who) [
     | inl hit ↦
         subst (λ (log : List Event). AreCalls log) (sym (log_same who h (history_of w) hit.0))
-        (calls_more (log_of who (history_of w)) h.event (is.calls who) (is_call w.ends line.line line.datagram line.step next.small next.bytes))
+        (calls_more (log_of who (history_of w)) h.event (is.calls who) (is_call (print_at w.ends who_named) line.line (bytes_or_none line.datagram) (deed_of line.step) (length-sha256 (setup_at w.ends who_named).cert) next.small next.bytes))
     | inr miss ↦ subst (λ (log : List Event). AreCalls log) (sym (log_other who h (history_of w) miss.0)) (is.calls who)
   ]
 
@@ -330,7 +271,7 @@ module _ (w : Seen) (line : JournalLine) (end : EndSeen) (state : State) (is : I
   fresh_now =
       fresh_after (nonces_of (facts_of (with_event (moment_at 0 h.event) h.event [])))
       (nonces_of_event h.event nonce
-      (draws_line w.ends line.line line.datagram line.step line.out.entries (answers_draw (at_moment end.state h.event.moment) state h.event.call h.event.answer h.event.entries next.event)))
+      (draws_line (print_at w.ends who_named) line.line (bytes_or_none line.datagram) (deed_of line.step) line.out.entries (answers_draw (at_moment end.state h.event.moment) state h.event.call h.event.answer h.event.entries next.event)))
 
   pub grown_is_world : IsWorld (grown w line state)
   grown_is_world = record {
@@ -364,7 +305,7 @@ called_may w number step line t is below small may called bytes =
       below = subst (λ (n : ℕ). AreBelow w.lines n) (sym of_step.line) below;
       small = subst (λ (n : ℕ). n < 2 ^ 32) (sym of_step.line) small;
       bytes = bytes;
-      peer = subst (λ (s : Step). HasPeer (length w.ends) s) (sym of_step.step) (has_peer w step may.ends);
+      peer = subst (λ (s : Step). HasPeer (length w.ends) s) (sym of_step.step) (has_peer w (deed_of step) may.ends);
       moment = of_step.moment;
       answer = subst (λ (s : Step). HasItsAnswer s line.refused line.stopped) (sym of_step.step) of_step.answer;
       there = called.is_end;
@@ -380,7 +321,7 @@ called_may w number step line t is below small may called bytes =
         subst (λ (k : ℕ). IsHonestCall (setup_at w.ends k) (past_at k (history_of w)) (history_of w) (event_of w.ends line).call) (sym of_step.end)
         (subst (λ (s : Step). IsHonestCall (setup_at w.ends (called_by step)) (past_at (called_by step) (history_of w)) (history_of w) (call_of w.ends line.line line.datagram s)) (sym of_step.step)
         (subst (λ (o : Option (List ℕ)). IsHonestCall (setup_at w.ends (called_by step)) (past_at (called_by step) (history_of w)) (history_of w) (call_of w.ends line.line o step)) (sym of_step.datagram)
-        (honest_step w is line.line called.end step there may.unforged)))
+        (honest_deed w is (print_at w.ends (peer_of (deed_of step))) line.line called.end (deed_of step) there may.unforged)))
 
 pub called_is_world : (w : Seen) (number : ℕ) (step : Step) (line : JournalLine) (t : Seen) → IsWorld w → AreBelow w.lines number → number < 2 ^ 32 → step_fault w step ≡ None → Called w number step line t →
     AreBytes (bytes_or_none line.datagram) → IsWorld t

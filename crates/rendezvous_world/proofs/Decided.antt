@@ -8,8 +8,8 @@ use Rattle.endpoint_model.specs.declared.config.Draws.{Draws}
 use Rattle.endpoint_model.specs.declared.entry.Entry.{Entry}
 use Rattle.endpoint_model.specs.declared.answers.OpenRefusal.{OpenRefusal}
 use Rattle.endpoint_model.specs.declared.answers.OpenRefusal.TheVariants.{Memory as NoMemoryToOpen}
-use Rattle.endpoint_model.specs.declared.answers.CallRefusal.{CallRefusal}
-use Rattle.endpoint_model.specs.declared.answers.CallRefusal.TheVariants.{NoAttempt, NoSession, Memory as NoMemoryToCall}
+use Rattle.session_flows.specs.declared.refusal.CallRefusal.{CallRefusal}
+use Rattle.session_flows.specs.declared.refusal.CallRefusal.TheVariants.{NoAttempt, NoSession, Memory as NoMemoryToCall}
 use Rattle.endpoint_model.specs.declared.answers.Stopped.{Stopped as Stop}
 use Rattle.endpoint_model.specs.Event.{Call, Open as OpenCall, Cancel as CancelCall, Close as CloseCall, AddRow, Introduce as IntroduceCall, OnFlows, Receive, Tick as TickCall, Answer, Began, Done, NotOpened, Refused as RefusedCall, NotAdded, Stopped, OutOfMemory, Event}
 use Rattle.endpoint_model.specs.State.{State, Did, Does, after_entries, at_moment, nothing, then_do}
@@ -27,13 +27,14 @@ use Rattle.rendezvous_world.specs.declared.journal.JournalLine.{JournalLine}
 use Rattle.rendezvous_world.specs.declared.journal.Refused.{Refused}
 use Rattle.rendezvous_world.specs.declared.journal.Refused.TheVariants.{Open as OpenRefused, Call as CallRefused, Row as RowRefused}
 use Rattle.rendezvous_world.specs.declared.step.Step.{Step}
-use Rattle.rendezvous_world.specs.declared.step.Step.TheVariants.{End, At, Introduce, Redirect, Open, Cancel, Close, Flow, Queue, Abandon, Finish, Deliver, Bent, Inject, Forge, Tick}
+use Rattle.rendezvous_world.specs.Deed.{Opens, Introduces, Ticks, Deed, NewEnd, NewMoment, Calls, Brings, deed_of}
+use Rattle.rendezvous_world.specs.Calls.{answer_to_call, answer_to_datagram, answer_to_open, answer_to_tick, IsDoneOrRefused}
 use Rattle.rendezvous_world.specs.Seen.{EndSeen, Seen}
 use Rattle.rendezvous_world.specs.Same.{AreSameWorlds, without_room}
 use Rattle.rendezvous_world.specs.Sent.{Sent, sent_among, sent_in}
 use Rattle.rendezvous_world.specs.Datagrams.{datagram_of}
-use Rattle.rendezvous_world.specs.History.{answer_of, answer_to_call, call_of, event_of, moment_given}
-use Rattle.rendezvous_world.specs.Stepping.{Called, HasItsAnswer, IsDoneOrRefused, Stepped, new_end, new_setup, with_end, with_moment, with_state}
+use Rattle.rendezvous_world.specs.History.{answer_by, answer_of, call_of, event_of, moment_given}
+use Rattle.rendezvous_world.specs.Stepping.{Called, HasAnswer, HasItsAnswer, SteppedAs, Stepped, new_end, new_setup, with_end, with_moment, with_state}
 
 -- ---- ticks
 
@@ -186,83 +187,57 @@ called_whole (Some (OpenRefused refusal)) h = λ e. h.opened (ap (λ (x : OpenRe
 called_whole (Some (CallRefused refusal)) h = λ e. h.called (ap (λ (x : CallRefusal). Some (CallRefused x)) e)
 called_whole (Some (RowRefused refusal)) h = λ e. h.added (ap (λ (x : RowRefusal). Some (RowRefused x)) e)
 
-whole : (step : Step) (refused : Option Refused) (stopped : Option Stop) (entries : List Entry) → HasItsAnswer step refused stopped → is_some stopped ≡ false → IsWhole (answer_of step refused stopped entries)
-whole (End name max_peers max_sessions cert) refused stopped entries h none = absurd h
-whole (At moment) refused stopped entries h none = absurd h
-whole (Open end peer list) None stopped entries h none = tt
-whole (Open end peer list) (Some (OpenRefused refusal)) stopped entries h none = λ e. h.1.opened (ap (λ (x : OpenRefusal). Some (OpenRefused x)) e)
-whole (Open end peer list) (Some (CallRefused refusal)) stopped entries h none = λ e. h.1.called (ap (λ (x : CallRefusal). Some (CallRefused x)) e)
-whole (Open end peer list) (Some (RowRefused refusal)) stopped entries h none = λ e. h.1.added (ap (λ (x : RowRefusal). Some (RowRefused x)) e)
-whole (Cancel end n) refused stopped entries h none = called_whole refused h.1
-whole (Close end near) refused stopped entries h none = called_whole refused h.1
-whole (Flow end near priority metadata answers) refused stopped entries h none = called_whole refused h.1
-whole (Queue end near flow options message) refused stopped entries h none = called_whole refused h.1
-whole (Abandon end near flow seq) refused stopped entries h none = called_whole refused h.1
-whole (Finish end near flow) refused stopped entries h none = called_whole refused h.1
-whole (Introduce end) refused stopped entries h none = tt
-whole (Redirect end peer list) refused stopped entries h none = called_whole refused h.1
-whole (Deliver number end from) refused None entries h none = tt
-whole (Deliver number end from) refused (Some stop) entries h none = absurd (cc)
-whole (Bent number place end from) refused None entries h none = tt
-whole (Bent number place end from) refused (Some stop) entries h none = absurd (cc)
-whole (Inject end from bytes) refused None entries h none = tt
-whole (Inject end from bytes) refused (Some stop) entries h none = absurd (cc)
-whole (Forge end from plain) refused None entries h none = tt
-whole (Forge end from plain) refused (Some stop) entries h none = absurd (cc)
-whole (Tick end) refused None entries h none = tt
-whole (Tick end) refused (Some stop) entries h none = absurd (cc)
+opened_whole : (refused : Option Refused) (entries : List Entry) → IsDoneOrRefused refused → IsWhole (answer_to_open refused entries)
+opened_whole None entries h = tt
+opened_whole (Some (OpenRefused refusal)) entries h = λ e. h.opened (ap (λ (x : OpenRefusal). Some (OpenRefused x)) e)
+opened_whole (Some (CallRefused refusal)) entries h = λ e. h.called (ap (λ (x : CallRefusal). Some (CallRefused x)) e)
+opened_whole (Some (RowRefused refusal)) entries h = λ e. h.added (ap (λ (x : RowRefusal). Some (RowRefused x)) e)
+
+ticked_whole : (stopped : Option Stop) → is_some stopped ≡ false → IsWhole (answer_to_tick stopped)
+ticked_whole None none = tt
+ticked_whole (Some stop) none = absurd (cc)
+
+brought_whole : (stopped : Option Stop) → is_some stopped ≡ false → IsWhole (answer_to_datagram stopped)
+brought_whole None none = tt
+brought_whole (Some stop) none = absurd (cc)
+
+whole : (deed : Deed) (refused : Option Refused) (stopped : Option Stop) (entries : List Entry) → HasAnswer deed refused stopped → is_some stopped ≡ false → IsWhole (answer_by deed refused stopped entries)
+whole (Calls end (Opens peer list)) refused stopped entries h none = opened_whole refused entries h.1
+whole (Calls end Introduces) refused stopped entries h none = tt
+whole (Calls end Ticks) refused stopped entries h none = ticked_whole stopped none
+whole (Calls end call) refused stopped entries h none = called_whole refused h.1
+whole (Brings end from source) refused stopped entries h none = brought_whole stopped none
+whole deed refused stopped entries h none = absurd h
+
+-- why a call was refused, by its answer
+refused_in : Answer → Option Refused
+refused_in (NotOpened refusal) = Some (OpenRefused refusal)
+refused_in (RefusedCall refusal) = Some (CallRefused refusal)
+refused_in (NotAdded refusal) = Some (RowRefused refusal)
+refused_in answer = None
+
+called_for : (refused : Option Refused) → refused_in (answer_to_call refused) ≡ refused
+unfolding refused_in
+called_for None = refl
+called_for (Some (OpenRefused refusal)) = refl
+called_for (Some (CallRefused refusal)) = refl
+called_for (Some (RowRefused refusal)) = refl
+
+opened_for : (refused : Option Refused) (entries : List Entry) → refused_in (answer_to_open refused entries) ≡ refused
+unfolding refused_in
+opened_for None entries = refl
+opened_for (Some (OpenRefused refusal)) entries = refl
+opened_for (Some (CallRefused refusal)) entries = refl
+opened_for (Some (RowRefused refusal)) entries = refl
 
 -- two answers that are the same were refused for the same
-same_refusal : (a b : Option Refused) → answer_to_call a ≡ answer_to_call b → a ≡ b
-same_refusal None None e = refl
-same_refusal None (Some (OpenRefused r)) e = absurd (cc)
-same_refusal None (Some (CallRefused r)) e = absurd (cc)
-same_refusal None (Some (RowRefused r)) e = absurd (cc)
-same_refusal (Some (RowRefused r)) None e = absurd (cc)
-same_refusal (Some (RowRefused r)) (Some (OpenRefused s)) e = absurd (cc)
-same_refusal (Some (RowRefused r)) (Some (CallRefused s)) e = absurd (cc)
-same_refusal (Some (OpenRefused r)) (Some (RowRefused s)) e = absurd (cc)
-same_refusal (Some (CallRefused r)) (Some (RowRefused s)) e = absurd (cc)
-same_refusal (Some (RowRefused r)) (Some (RowRefused s)) e = let same : r ≡ s = cc in ap (λ (x : RowRefusal). Some (RowRefused x)) same
-same_refusal (Some (OpenRefused r)) None e = absurd (cc)
-same_refusal (Some (CallRefused r)) None e = absurd (cc)
-same_refusal (Some (OpenRefused r)) (Some (OpenRefused s)) e = let same : r ≡ s = cc in ap (λ (x : OpenRefusal). Some (OpenRefused x)) same
-same_refusal (Some (OpenRefused r)) (Some (CallRefused s)) e = absurd (cc)
-same_refusal (Some (CallRefused r)) (Some (OpenRefused s)) e = absurd (cc)
-same_refusal (Some (CallRefused r)) (Some (CallRefused s)) e = let same : r ≡ s = cc in ap (λ (x : CallRefusal). Some (CallRefused x)) same
-
-one_refusal : (step : Step) (a b : Option Refused) (p q : Option Stop) (xs ys : List Entry) → HasItsAnswer step a p → HasItsAnswer step b q → answer_of step a p xs ≡ answer_of step b q ys → a ≡ b
-one_refusal (End name max_peers max_sessions cert) a b p q xs ys h k e = absurd h
-one_refusal (At moment) a b p q xs ys h k e = absurd h
-one_refusal (Open end peer list) None None p q xs ys h k e = refl
-one_refusal (Open end peer list) None (Some (OpenRefused r)) p q xs ys h k e = absurd (cc)
-one_refusal (Open end peer list) None (Some (CallRefused r)) p q xs ys h k e = absurd (cc)
-one_refusal (Open end peer list) None (Some (RowRefused r)) p q xs ys h k e = absurd (cc)
-one_refusal (Open end peer list) (Some (RowRefused r)) None p q xs ys h k e = absurd (cc)
-one_refusal (Open end peer list) (Some (RowRefused r)) (Some (OpenRefused s)) p q xs ys h k e = absurd (cc)
-one_refusal (Open end peer list) (Some (RowRefused r)) (Some (CallRefused s)) p q xs ys h k e = absurd (cc)
-one_refusal (Open end peer list) (Some (OpenRefused r)) (Some (RowRefused s)) p q xs ys h k e = absurd (cc)
-one_refusal (Open end peer list) (Some (CallRefused r)) (Some (RowRefused s)) p q xs ys h k e = absurd (cc)
-one_refusal (Open end peer list) (Some (RowRefused r)) (Some (RowRefused s)) p q xs ys h k e = let same : r ≡ s = cc in ap (λ (x : RowRefusal). Some (RowRefused x)) same
-one_refusal (Open end peer list) (Some (OpenRefused r)) None p q xs ys h k e = absurd (cc)
-one_refusal (Open end peer list) (Some (CallRefused r)) None p q xs ys h k e = absurd (cc)
-one_refusal (Open end peer list) (Some (OpenRefused r)) (Some (OpenRefused s)) p q xs ys h k e = let same : r ≡ s = cc in ap (λ (x : OpenRefusal). Some (OpenRefused x)) same
-one_refusal (Open end peer list) (Some (OpenRefused r)) (Some (CallRefused s)) p q xs ys h k e = absurd (cc)
-one_refusal (Open end peer list) (Some (CallRefused r)) (Some (OpenRefused s)) p q xs ys h k e = absurd (cc)
-one_refusal (Open end peer list) (Some (CallRefused r)) (Some (CallRefused s)) p q xs ys h k e = let same : r ≡ s = cc in ap (λ (x : CallRefusal). Some (CallRefused x)) same
-one_refusal (Cancel end n) a b p q xs ys h k e = same_refusal a b e
-one_refusal (Close end near) a b p q xs ys h k e = same_refusal a b e
-one_refusal (Flow end near priority metadata answers) a b p q xs ys h k e = same_refusal a b e
-one_refusal (Queue end near flow options message) a b p q xs ys h k e = same_refusal a b e
-one_refusal (Abandon end near flow seq) a b p q xs ys h k e = same_refusal a b e
-one_refusal (Finish end near flow) a b p q xs ys h k e = same_refusal a b e
-one_refusal (Introduce end) a b p q xs ys h k e = h.0 ∙ sym k.0
-one_refusal (Redirect end peer list) a b p q xs ys h k e = same_refusal a b e
-one_refusal (Deliver number end from) a b p q xs ys h k e = h ∙ sym k
-one_refusal (Bent number place end from) a b p q xs ys h k e = h ∙ sym k
-one_refusal (Inject end from bytes) a b p q xs ys h k e = h ∙ sym k
-one_refusal (Forge end from plain) a b p q xs ys h k e = h ∙ sym k
-one_refusal (Tick end) a b p q xs ys h k e = h.0 ∙ sym k.0
+one_refusal : (deed : Deed) (a b : Option Refused) (p q : Option Stop) (xs ys : List Entry) → HasAnswer deed a p → HasAnswer deed b q → answer_by deed a p xs ≡ answer_by deed b q ys → a ≡ b
+one_refusal (Calls end (Opens peer list)) a b p q xs ys h k e = sym (opened_for a xs) ∙ ap refused_in e ∙ opened_for b ys
+one_refusal (Calls end Introduces) a b p q xs ys h k e = h.0 ∙ sym k.0
+one_refusal (Calls end Ticks) a b p q xs ys h k e = h.0 ∙ sym k.0
+one_refusal (Calls end call) a b p q xs ys h k e = sym (called_for a) ∙ ap refused_in e ∙ called_for b
+one_refusal (Brings end from source) a b p q xs ys h k e = h ∙ sym k
+one_refusal deed a b p q xs ys h k e = absurd h
 
 none_is : (o : Option Stop) → is_some o ≡ false → o ≡ None
 none_is None e = refl
@@ -290,7 +265,7 @@ pub record SameCall (k l : JournalLine) (t s : Seen) : Type 0 where
 
 -- the event of a line whose step is known
 whole_event : (ends : List EndSeen) (step : Step) (k : JournalLine) → k.step ≡ step → HasItsAnswer step k.refused k.stopped → is_some k.stopped ≡ false → IsWhole (event_of ends k).answer
-whole_event ends step k e answer none = subst (λ (x : Step). IsWhole (answer_of x k.refused k.stopped k.out.entries)) (sym e) (whole step k.refused k.stopped k.out.entries answer none)
+whole_event ends step k e answer none = subst (λ (x : Step). IsWhole (answer_of x k.refused k.stopped k.out.entries)) (sym e) (whole (deed_of step) k.refused k.stopped k.out.entries answer none)
 
 one_event : (s o : State) (e f : Event) (t r : State) → s ≡ o → e.moment ≡ f.moment → e.call ≡ f.call → IsWhole e.answer → IsWhole f.answer → StepOf s e t → StepOf o f r → SameAnswer e.answer f.answer e.entries f.entries t r
 one_event s o e f t r states moments calls p q h k =
@@ -309,7 +284,7 @@ one_step w v n step k l t s moments ends sent p q a b =
     let datagrams : k.datagram ≡ l.datagram = a.is_line.datagram ∙ ap (λ (x : List Sent). datagram_of x step) sent ∙ sym b.is_line.datagram in
     let found : slice_get w.ends k.end ≡ slice_get v.ends l.end = ap (λ (x : List EndSeen). slice_get x k.end) ends ∙ ap (λ (i : ℕ). slice_get v.ends i) who in
     let same_end : a.end ≡ b.end = same_some a.end b.end (sym a.is_end ∙ found ∙ b.is_end) in
-    let given : moment_given k.moment k.step ≡ moment_given l.moment l.step = ap (λ (m : ℕ). moment_given m k.step) when ∙ ap (λ (x : Step). moment_given l.moment x) steps in
+    let given : moment_given k.moment (deed_of k.step) ≡ moment_given l.moment (deed_of l.step) = ap (λ (m : ℕ). moment_given m (deed_of k.step)) when ∙ ap (λ (x : Step). moment_given l.moment (deed_of x)) steps in
     let calls : call_of w.ends k.line k.datagram k.step ≡ call_of v.ends l.line l.datagram l.step =
     ap (λ (x : List EndSeen). call_of x k.line k.datagram k.step) ends
     ∙ ap (λ (x : ℕ). call_of v.ends x k.datagram k.step) lines
@@ -327,7 +302,7 @@ one_step w v n step k l t s moments ends sent p q a b =
         moment = when;
         step = steps;
         datagram = datagrams;
-        refused = one_refusal step k.refused l.refused k.stopped l.stopped k.out.entries l.out.entries a.is_line.answer b.is_line.answer answers;
+        refused = one_refusal (deed_of step) k.refused l.refused k.stopped l.stopped k.out.entries l.out.entries a.is_line.answer b.is_line.answer answers;
         stopped = none_is k.stopped p ∙ sym (none_is l.stopped q);
         entries = done.entries;
       };
@@ -388,22 +363,13 @@ same_called w v n step t s before h k =
 pub same_by : (w v x y : Seen) → x ≡ w → y ≡ v → AreSameWorlds w v → AreSameWorlds x y
 same_by w v x y e f same = subst (λ (a : Seen). AreSameWorlds a y) (sym e) (subst (λ (b : Seen). AreSameWorlds w b) (sym f) same)
 
-pub same_step : (w v : Seen) (n : ℕ) (step : Step) (t s : Seen) → AreSameWorlds w v → Stepped w n step t → Stepped v n step s → AreSameWorlds t s
-same_step w v n (End name max_peers max_sessions cert) t s before h k =
+same_as : (w v : Seen) (n : ℕ) (step : Step) (deed : Deed) (t s : Seen) → AreSameWorlds w v → SteppedAs w n step deed t → SteppedAs v n step deed s → AreSameWorlds t s
+same_as w v n step (NewEnd name max_peers max_sessions cert) t s before h k =
     let new : EndSeen = new_end name (new_setup max_peers max_sessions cert) in
     same_by (with_end w new) (with_end v new) t s h k (record { moment = before.moment; ends = ap (λ (l : List EndSeen). l ++ new ∷ []) before.ends; lines = before.lines })
-same_step w v n (At moment) t s before h k = same_by (with_moment w moment) (with_moment v moment) t s h k (record { moment = refl; ends = before.ends; lines = before.lines })
-same_step w v n (Open end peer list) t s before h k = same_called w v n (Open end peer list) t s before h k
-same_step w v n (Cancel end number) t s before h k = same_called w v n (Cancel end number) t s before h k
-same_step w v n (Close end near) t s before h k = same_called w v n (Close end near) t s before h k
-same_step w v n (Flow end near priority metadata answers) t s before h k = same_called w v n (Flow end near priority metadata answers) t s before h k
-same_step w v n (Queue end near flow options message) t s before h k = same_called w v n (Queue end near flow options message) t s before h k
-same_step w v n (Abandon end near flow seq) t s before h k = same_called w v n (Abandon end near flow seq) t s before h k
-same_step w v n (Finish end near flow) t s before h k = same_called w v n (Finish end near flow) t s before h k
-same_step w v n (Introduce end) t s before h k = same_called w v n (Introduce end) t s before h k
-same_step w v n (Redirect end peer list) t s before h k = same_called w v n (Redirect end peer list) t s before h k
-same_step w v n (Deliver sent end from) t s before h k = same_called w v n (Deliver sent end from) t s before h k
-same_step w v n (Bent sent place end from) t s before h k = same_called w v n (Bent sent place end from) t s before h k
-same_step w v n (Inject end from bytes) t s before h k = same_called w v n (Inject end from bytes) t s before h k
-same_step w v n (Forge end from plain) t s before h k = same_called w v n (Forge end from plain) t s before h k
-same_step w v n (Tick end) t s before h k = same_called w v n (Tick end) t s before h k
+same_as w v n step (NewMoment moment) t s before h k = same_by (with_moment w moment) (with_moment v moment) t s h k (record { moment = refl; ends = before.ends; lines = before.lines })
+same_as w v n step (Calls end call) t s before h k = same_called w v n step t s before h k
+same_as w v n step (Brings end from source) t s before h k = same_called w v n step t s before h k
+
+pub same_step : (w v : Seen) (n : ℕ) (step : Step) (t s : Seen) → AreSameWorlds w v → Stepped w n step t → Stepped v n step s → AreSameWorlds t s
+same_step w v n step t s before h k = same_as w v n step (deed_of step) t s before h k

@@ -90,13 +90,13 @@ module _ (w : Seen) (is : IsWorld w) where
       IsHonestCall (setup_at w.ends who) (past_at who (history_of w)) (history_of w) (Receive from bytes draws) → ⊥
   dishonest who end bytes from draws there unsent honest =
       let stands : StandsUpTo w.moment end.setup (log_of who (history_of w)) end.state = is.stand who end there in
-      let found = unsent_context bytes Startup (opens_in end.state bytes) (sent_in w.lines) unsent in
+      let found = unsent_context bytes (Startup 0) (opens_in end.state bytes) (sent_in w.lines) unsent in
       let opens : opens_in stands.told bytes ≡ Some found.0 = sym (opens_noted end.state stands.told stands.noted bytes stands.state) ∙ found.1 in
       let at : OpensAt end.setup (past_at who (history_of w)) bytes found.0 =
       opens_in_told end.setup (log_of who (history_of w)) stands.told bytes (is.given who end there).sized (is.calls who) stands.stands found.0 opens in
       let ours : IsHonestCall end.setup (past_at who (history_of w)) (history_of w) (Receive from bytes draws) =
       subst (λ (setup : Setup). IsHonestCall setup (past_at who (history_of w)) (history_of w) (Receive from bytes draws)) (setup_is w.ends who end there) honest in
-      let was : WasSent bytes found.0 (history_of w) = ours found.0 at.plain at.named at.opens in
+      let was : WasSent bytes found.0 (history_of w) = ours at.contexts found.0 at.plain at.named at.opens in
       let none : not (list_any (is_sent bytes found.0) (sent_in w.lines)) ≡ true =
       sym (ap (λ (o : Option Context). is_unsent_in o bytes (sent_in w.lines)) found.1) ∙ unsent in
       elim (in_lines bytes found.0 w.ends w.lines [] was) [

@@ -15,15 +15,17 @@ use Rattle.rendezvous_world.specs.declared.journal.JournalLine.{JournalLine}
 use Rattle.rendezvous_world.specs.declared.journal.Refused.{Refused}
 use Rattle.rendezvous_world.specs.declared.step.StepFault.TheVariants.{Memory}
 use Rattle.rendezvous_world.specs.declared.step.Step.{Step}
-use Rattle.rendezvous_world.specs.declared.step.Step.TheVariants.{End, At, Introduce, Redirect, Open, Cancel, Close, Flow, Queue, Abandon, Finish, Deliver, Bent, Inject, Forge, Tick}
+use Rattle.rendezvous_world.specs.declared.step.Step.TheVariants.{Inject}
+use Rattle.rendezvous_world.specs.Deed.{StepCall, Opens, Closes, Introduces, Ticks, Deed, Calls, deed_of}
+use Rattle.rendezvous_world.specs.Calls.{peer_in, IsAllowed, LeavesUndone}
 use Rattle.rendezvous_world.specs.Seen.{EndSeen, Seen, print_at}
-use Rattle.rendezvous_world.specs.Line.{IsOne, IsWith}
+use Rattle.rendezvous_world.specs.Line.{IsWith}
 use Rattle.rendezvous_world.specs.Sent.{Sent, sent_among, sent_in}
 use Rattle.rendezvous_world.specs.Datagrams.{datagram_of}
 use Rattle.rendezvous_world.specs.Keyed.{AreKeys}
-use Rattle.rendezvous_world.specs.History.{bytes_or_none, call_of, moment_given, answer_of}
-use Rattle.rendezvous_world.specs.Stepping.{in_state, with_state, HasItsAnswer, Called, Allows, Noted}
-use Rattle.rendezvous_world.specs.Entering.{peer_of, call_by, event_by, IsUndone, IsEntering, IsEntered, answered}
+use Rattle.rendezvous_world.specs.History.{bytes_or_none, peer_or, peer_of, call_by, call_of, moment_given, answer_of}
+use Rattle.rendezvous_world.specs.Stepping.{in_state, with_state, HasItsAnswer, Called, AllowsIn, Allows, Noted}
+use Rattle.rendezvous_world.specs.Entering.{event_by, IsUndoneIn, IsUndone, IsEntering, IsEntered, answered}
 use Rattle.rendezvous_world.specs.Kept.{IsWorld}
 use Rattle.rendezvous_world.specs.Inside.{end_seen, world_seen, named_of, count_in, starts_after, IsKept}
 use Rattle.rendezvous_world.proofs.Calling.{called_is_world}
@@ -73,24 +75,10 @@ print_named ends named k x same lt is = print_in ends k x lt (is ∙ ap (λ (ns 
 pub named_is : (x : Named) (named seen : List Named) (peer k : ℕ) → k ≡ peer → seen ≡ named → x ≡ get_or seen k x → x ≡ get_or named peer x
 named_is x named seen peer k at same is = is ∙ ap (λ (n : ℕ). get_or seen n x) at ∙ ap (λ (ns : List Named). get_or ns peer x) same
 
-call_same : (ends : List EndSeen) (print : List ℕ) (line : ℕ) (bytes : List ℕ) (datagram : Option (List ℕ)) (step : Step) → print ≡ print_at ends (peer_of step) → bytes ≡ bytes_or_none datagram →
-    call_by print line bytes step ≡ call_of ends line datagram step
-call_same ends print line bytes datagram (End name max_peers max_sessions cert) p b = refl
-call_same ends print line bytes datagram (At moment) p b = refl
-call_same ends print line bytes datagram (Open end peer list) p b = ap (λ (x : List ℕ). call_by x line bytes (Open end peer list)) p
-call_same ends print line bytes datagram (Cancel end n) p b = refl
-call_same ends print line bytes datagram (Close end near) p b = refl
-call_same ends print line bytes datagram (Flow end near priority metadata answers) p b = refl
-call_same ends print line bytes datagram (Queue end near flow options message) p b = refl
-call_same ends print line bytes datagram (Abandon end near flow seq) p b = refl
-call_same ends print line bytes datagram (Finish end near flow) p b = refl
-call_same ends print line bytes datagram (Introduce end) p b = refl
-call_same ends print line bytes datagram (Redirect end peer list) p b = ap (λ (x : List ℕ). call_by x line bytes (Redirect end peer list)) p
-call_same ends print line bytes datagram (Deliver number end from) p b = ap (λ (x : List ℕ). call_by print line x (Deliver number end from)) b
-call_same ends print line bytes datagram (Bent number place end from) p b = ap (λ (x : List ℕ). call_by print line x (Bent number place end from)) b
-call_same ends print line bytes datagram (Inject end from plain) p b = ap (λ (x : List ℕ). call_by print line x (Inject end from plain)) b
-call_same ends print line bytes datagram (Forge end from plain) p b = ap (λ (x : List ℕ). call_by print line x (Forge end from plain)) b
-call_same ends print line bytes datagram (Tick end) p b = refl
+call_same : (ends : List EndSeen) (print : List ℕ) (line : ℕ) (bytes : List ℕ) (datagram : Option (List ℕ)) (step : Step) → print ≡ print_at ends (peer_of (deed_of step)) → bytes ≡ bytes_or_none datagram →
+    call_by print line bytes (deed_of step) ≡ call_of ends line datagram step
+call_same ends print line bytes datagram step p b =
+    ap (λ (x : List ℕ). call_by x line bytes (deed_of step)) p ∙ ap (λ (x : List ℕ). call_by (print_at ends (peer_of (deed_of step))) line x (deed_of step)) b
 
 -- what a step injects is its datagram
 is_with : (sent : List Sent) (datagram : Option (List ℕ)) (step : Step) → datagram ≡ datagram_of sent step → IsWith datagram step
@@ -98,51 +86,18 @@ is_with sent datagram (Inject end from bytes) is = is
 is_with sent datagram _ is = tt
 
 -- what a call leaves that found no memory
-undone_is : (ends : List EndSeen) (print : List ℕ) (moment : ℕ) (step : Step) (old new : State) → print ≡ print_at ends (peer_of step) → IsUndone print moment step old new →
-    (new ≡ old) ⊎ (Allows ends old step × (new ≡ at_moment old moment))
-undone_is ends print moment (End name max_peers max_sessions cert) old new p h = absurd h
-undone_is ends print moment (At at) old new p h = absurd h
-undone_is ends print moment (Open end peer list) old new p h = inr (subst (λ (x : List ℕ). open_refusal old x list ≡ None) p h.0, h.1)
-undone_is ends print moment (Cancel end n) old new p h = inl h
-undone_is ends print moment (Flow end near priority metadata answers) old new p h = inl h
-undone_is ends print moment (Queue end near flow options message) old new p h = inl h
-undone_is ends print moment (Abandon end near flow seq) old new p h = inl h
-undone_is ends print moment (Finish end near flow) old new p h = inl h
-undone_is ends print moment (Close end near) old new p h = inr h
-undone_is ends print moment (Introduce end) old new p h = absurd h
-undone_is ends print moment (Redirect end peer list) old new p h = inl h
-undone_is ends print moment (Deliver number end from) old new p h = absurd h
-undone_is ends print moment (Bent number place end from) old new p h = absurd h
-undone_is ends print moment (Inject end from bytes) old new p h = absurd h
-undone_is ends print moment (Forge end from plain) old new p h = absurd h
-undone_is ends print moment (Tick end) old new p h = absurd h
+undone_call : (print named : List ℕ) (moment : ℕ) (call : StepCall) (old new : State) → print ≡ named → LeavesUndone print moment call old new →
+    (new ≡ old) ⊎ (IsAllowed named old call × (new ≡ at_moment old moment))
+undone_call print named moment (Opens peer list) old new p h = inr (subst (λ (x : List ℕ). open_refusal old x list ≡ None) p h.0, h.1)
+undone_call print named moment (Closes near) old new p h = inr h
+undone_call print named moment Introduces old new p h = absurd h
+undone_call print named moment Ticks old new p h = absurd h
+undone_call print named moment call old new p h = inl h
 
--- a call was not both refused and stopped
-only_stopped : (refused : Option Refused) (stopped : Option Stop) → refused ≡ None → IsOne refused stopped
-only_stopped None stopped e = tt
-only_stopped (Some refusal) stopped e = absurd (cc)
-
-only_refused : (refused : Option Refused) (stopped : Option Stop) → stopped ≡ None → IsOne refused stopped
-only_refused None stopped e = tt
-only_refused (Some refusal) stopped e = e
-
-pub answered_one : (step : Step) (refused : Option Refused) (stopped : Option Stop) → HasItsAnswer step refused stopped → IsOne refused stopped
-answered_one (End name max_peers max_sessions cert) refused stopped h = absurd h
-answered_one (At moment) refused stopped h = absurd h
-answered_one (Open end peer list) refused stopped h = only_refused refused stopped h.0
-answered_one (Cancel end n) refused stopped h = only_refused refused stopped h.0
-answered_one (Close end near) refused stopped h = only_refused refused stopped h.0
-answered_one (Flow end near priority metadata answers) refused stopped h = only_refused refused stopped h.0
-answered_one (Queue end near flow options message) refused stopped h = only_refused refused stopped h.0
-answered_one (Abandon end near flow seq) refused stopped h = only_refused refused stopped h.0
-answered_one (Finish end near flow) refused stopped h = only_refused refused stopped h.0
-answered_one (Introduce end) refused stopped h = only_refused refused stopped h.1
-answered_one (Redirect end peer list) refused stopped h = only_refused refused stopped h.0
-answered_one (Deliver number end from) refused stopped h = only_stopped refused stopped h
-answered_one (Bent number place end from) refused stopped h = only_stopped refused stopped h
-answered_one (Inject end from bytes) refused stopped h = only_stopped refused stopped h
-answered_one (Forge end from plain) refused stopped h = only_stopped refused stopped h
-answered_one (Tick end) refused stopped h = only_stopped refused stopped h.0
+undone_is : (ends : List EndSeen) (print : List ℕ) (moment : ℕ) (deed : Deed) (old new : State) → print ≡ print_at ends (peer_of deed) → IsUndoneIn print moment deed old new →
+    (new ≡ old) ⊎ (AllowsIn ends old deed × (new ≡ at_moment old moment))
+undone_is ends print moment (Calls end call) old new p h = undone_call print (print_at ends (peer_or end (peer_in call))) moment call old new p h
+undone_is ends print moment deed old new p h = absurd h
 
 -- ---- sent datagrams
 
@@ -174,7 +129,7 @@ starts_more (x ∷ lines) line before =
 pub record IsCalled (moment : ℕ) (ends : List EndKept) (named : List Named) (number end : ℕ) (step : Step) (bytes : List ℕ) (refused : Option Refused) (stopped : Option Stop) (out : Added) (there : EndKept) (state : State) : Type 0 where
   pub there_is : there ≡ get_or ends end there
   pub peer : Named
-  pub peer_is : peer ≡ get_or named (peer_of step) peer
+  pub peer_is : peer ≡ get_or named (peer_of (deed_of step)) peer
   pub event : StepOf there.endpoint (event_by peer.print number moment step bytes refused stopped out.entries) state
   pub answer : HasItsAnswer step refused stopped
 
@@ -205,8 +160,8 @@ module _ (moment : ℕ) (ends : List EndKept) (named : List Named) (lines : List
     abbrev after : List EndKept
     after = set ends end (now_in there state)
 
-    same_call : call_by did.peer.print number bytes step ≡ call_of (map end_seen ends) number datagram step
-    same_call = call_same (map end_seen ends) did.peer.print number bytes datagram step (print_named (map end_seen ends) named (peer_of step) did.peer kept.names entering.peer did.peer_is) entering.bytes
+    same_call : call_by did.peer.print number bytes (deed_of step) ≡ call_of (map end_seen ends) number datagram step
+    same_call = call_same (map end_seen ends) did.peer.print number bytes datagram step (print_named (map end_seen ends) named (peer_of (deed_of step)) did.peer kept.names entering.peer did.peer_is) entering.bytes
 
     pub called : Called (world_seen moment ends lines) number step the_line (world_seen moment after (lines ++ the_line ∷ []))
     called = record {
@@ -215,7 +170,7 @@ module _ (moment : ℕ) (ends : List EndKept) (named : List Named) (lines : List
       is_end = seen_there ends end there there_is did.there_is;
       state = state;
       event =
-          subst (λ (call : Call). Answers (at_moment there.endpoint (moment_given moment step)) call (answer_of step refused stopped out.entries) out.entries state) same_call did.event;
+          subst (λ (call : Call). Answers (at_moment there.endpoint (moment_given moment (deed_of step))) call (answer_of step refused stopped out.entries) out.entries state) same_call did.event;
       moment = refl;
       ends = seen_set end ends there state did.there_is;
       lines = refl;
@@ -238,7 +193,7 @@ module _ (moment : ℕ) (ends : List EndKept) (named : List Named) (lines : List
 
   -- ---- a call that has no line
 
-  module _ (there : EndKept) (state : State) (peer : Named) (there_is_there : there ≡ get_or ends end there) (peer_is : peer ≡ get_or named (peer_of step) peer) (undone : IsUndone peer.print moment step there.endpoint state) where
+  module _ (there : EndKept) (state : State) (peer : Named) (there_is_there : there ≡ get_or ends end there) (peer_is : peer ≡ get_or named (peer_of (deed_of step)) peer) (undone : IsUndone peer.print moment step there.endpoint state) where
     abbrev without : List EndKept
     without = set ends end (now_in there state)
 
@@ -246,7 +201,7 @@ module _ (moment : ℕ) (ends : List EndKept) (named : List Named) (lines : List
     before = world_seen moment ends lines
 
     left : (state ≡ there.endpoint) ⊎ (Allows (map end_seen ends) there.endpoint step × (state ≡ at_moment there.endpoint moment))
-    left = undone_is (map end_seen ends) peer.print moment step there.endpoint state (print_named (map end_seen ends) named (peer_of step) peer kept.names entering.peer peer_is) undone
+    left = undone_is (map end_seen ends) peer.print moment (deed_of step) there.endpoint state (print_named (map end_seen ends) named (peer_of (deed_of step)) peer kept.names entering.peer peer_is) undone
 
     as_before : state ≡ there.endpoint → world_seen moment without lines ≡ before
     as_before same = ap (λ (es : List EndKept). world_seen moment es lines) (same_set end ends there state there_is_there same)

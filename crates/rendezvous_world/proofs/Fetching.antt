@@ -6,7 +6,7 @@ use Rattle.std.proofs.lemmas.Bool.Decides.{nat_tests}
 use Rattle.std.proofs.lemmas.Slice.Eq.{bytes_eq-Decides}
 use Rattle.rtmfp_forms.specs.Address.{AddressParts}
 use Rattle.crypto_profile.specs.declared.keys.Context.{Context}
-use Rattle.glare_core.specs.Calls.{where_true}
+use Rattle.rtmfp_base.specs.Reasons.{where_true}
 use Rattle.rendezvous_world.specs.declared.step.StepFault.TheVariants.{Forged}
 use Rattle.rendezvous_world.specs.declared.step.Step.TheVariants.{Forge}
 use Rattle.rendezvous_world.specs.Seen.{Seen}

@@ -1,7 +1,8 @@
 -- The first world, one at another moment, and one with one more end.
-use Rattle.std.proofs.Common.{◌≡◌, ◌≢◌, ℕ, zero, suc, ◌<◌, ◌≤◌, ◌==◌, List, [], ◌∷◌, ◌++◌, length, slice_get, nat_lt, nat_le, Bool, true, false, ◌||◌, Some, inl, inr, refl, sym, ap, subst, ◌∙◌, arith}
+use Rattle.std.proofs.Common.{◌≡◌, ◌≢◌, ℕ, zero, suc, ◌<◌, ◌≤◌, ◌==◌, List, [], ◌∷◌, ◌++◌, length, slice_get, nat_lt, nat_le, Bool, true, false, ◌||◌, Option, None, Some, inl, inr, refl, sym, ap, subst, ◌∙◌, arith}
 use Rattle.std.specs.Str.{bytes_eq}
 use Rattle.std.specs.List.{list_any, AllByRecursion}
+use Rattle.std.proofs.lemmas.Bool.{or_parts}
 use Rattle.std.proofs.lemmas.Bool.Decides.{nat_tests}
 use Rattle.std.proofs.lemmas.Slice.Eq.{bytes_eq-Decides}
 use Rattle.sha2.specs.Sha256.{sha256}
@@ -14,15 +15,16 @@ use Rattle.endpoint_model.specs.State.{fresh}
 use Rattle.endpoint_laws.specs.Laws.{AreCalls}
 use Rattle.endpoint_laws.specs.History.{History, log_of, IsHonest, TakesPart, nonces_in}
 use Rattle.rendezvous_world.specs.declared.journal.JournalLine.{JournalLine}
-use Rattle.rendezvous_world.specs.declared.step.Step.{Step}
-use Rattle.rendezvous_world.specs.declared.step.Step.TheVariants.{End, At, Introduce, Redirect, Open, Cancel, Close, Flow, Queue, Abandon, Finish, Deliver, Bent, Inject, Forge, Tick}
+use Rattle.rendezvous_world.specs.declared.step.Step.TheVariants.{End}
+use Rattle.rendezvous_world.specs.Deed.{Deed, Calls, deed_of}
+use Rattle.rendezvous_world.specs.Calls.{peer_in}
 use Rattle.rendezvous_world.specs.Seen.{EndSeen, Seen, setup_at}
 use Rattle.rendezvous_world.specs.History.{history_of}
 use Rattle.rendezvous_world.specs.Sound.{StandsUpTo}
 use Rattle.rendezvous_world.specs.Stepping.{new_setup, new_end, with_end, with_moment}
 use Rattle.rendezvous_world.specs.Faults.{is_like, is_outside, is_bad}
 use Rattle.rendezvous_world.specs.Laws.{empty_world}
-use Rattle.rendezvous_world.specs.Kept.{IsGiven, name_of, print_of, HasPeer, IsLineIn, IsOfLine, IsWorld}
+use Rattle.rendezvous_world.specs.Kept.{IsGiven, name_of, print_of, IsNamed, HasPeerIn, IsLineIn, IsOfLine, IsWorld}
 use Rattle.rendezvous_world.proofs.Ends.{setups_stay_before, length-more, before_or_new, NoneHas, apart_with_end}
 use Rattle.rendezvous_world.proofs.Noting.{stands_whole, stands_later}
 use Rattle.rendezvous_world.proofs.Told.{SameSetups, same_lines, all_mapped, takes_part_below, log_absent, honest_same}
@@ -66,12 +68,8 @@ with_moment_is_world w moment le is = record {
 
 -- ---- one more end
 
-or_false : (a b : Bool) → (a || b) ≡ false → (a ≡ false) × (b ≡ false)
-or_false true b e = absurd (cc)
-or_false false b e = (refl, e)
-
 not_outside : (most count : ℕ) → is_outside most count ≡ false → count ≤ most
-not_outside most count e = let both = or_false (count == 0) (nat_lt most count) e in let last : nat_lt most count ≡ false = both.1 in grind (arith, nat_tests)
+not_outside most count e = let both = or_parts (count == 0) (nat_lt most count) e in let last : nat_lt most count ≡ false = both.1 in grind (arith, nat_tests)
 
 other_bytes : (x y : List ℕ) → bytes_eq x y ≡ false → x ≢ y
 other_bytes x y e is = let clash : true ≡ false = sym ((bytes_eq-Decides x y).1 is) ∙ e in cc
@@ -81,38 +79,28 @@ module _ (name cert : List ℕ) where
   none_like [] who end e there = absurd (cc)
   none_like (x ∷ ends) zero end e there =
       let same : x ≡ end = cc in
-      sym (ap (is_like name cert) same) ∙ (or_false (is_like name cert x) (list_any (is_like name cert) ends) e).0
-  none_like (x ∷ ends) (suc who) end e there = none_like ends who end ((or_false (is_like name cert x) (list_any (is_like name cert) ends) e).1) there
+      sym (ap (is_like name cert) same) ∙ (or_parts (is_like name cert x) (list_any (is_like name cert) ends) e).0
+  none_like (x ∷ ends) (suc who) end e there = none_like ends who end ((or_parts (is_like name cert x) (list_any (is_like name cert) ends) e).1) there
 
   no_name : (ends : List EndSeen) → list_any (is_like name cert) ends ≡ false → NoneHas name_of name ends
-  no_name ends e who end there = other_bytes end.name name (or_false (bytes_eq end.name name) (bytes_eq (own_of end.setup) (sha256 cert)) (none_like ends who end e there)).0
+  no_name ends e who end there = other_bytes end.name name (or_parts (bytes_eq end.name name) (bytes_eq (own_of end.setup) (sha256 cert)) (none_like ends who end e there)).0
 
   no_print : (ends : List EndSeen) → list_any (is_like name cert) ends ≡ false → NoneHas print_of (sha256 cert) ends
   no_print ends e who end there =
-      other_bytes (own_of end.setup) (sha256 cert) (or_false (bytes_eq end.name name) (bytes_eq (own_of end.setup) (sha256 cert)) (none_like ends who end e there)).1
+      other_bytes (own_of end.setup) (sha256 cert) (or_parts (bytes_eq end.name name) (bytes_eq (own_of end.setup) (sha256 cert)) (none_like ends who end e there)).1
 
-has_peer_more : (few many : ℕ) (step : Step) → few ≤ many → HasPeer few step → HasPeer many step
-has_peer_more few many (End name max_peers max_sessions cert) le has = tt
-has_peer_more few many (At moment) le has = tt
-has_peer_more few many (Open end peer list) le has = omega arith
-has_peer_more few many (Cancel end n) le has = tt
-has_peer_more few many (Close end near) le has = tt
-has_peer_more few many (Flow end near priority metadata answers) le has = tt
-has_peer_more few many (Queue end near flow options message) le has = tt
-has_peer_more few many (Abandon end near flow seq) le has = tt
-has_peer_more few many (Finish end near flow) le has = tt
-has_peer_more few many (Introduce end) le has = tt
-has_peer_more few many (Redirect end peer list) le has = omega arith
-has_peer_more few many (Deliver number end from) le has = tt
-has_peer_more few many (Bent number place end from) le has = tt
-has_peer_more few many (Inject end from bytes) le has = tt
-has_peer_more few many (Forge end from plain) le has = tt
-has_peer_more few many (Tick end) le has = tt
+named_more : (few many : ℕ) (peer : Option ℕ) → few ≤ many → IsNamed few peer → IsNamed many peer
+named_more few many None le has = tt
+named_more few many (Some peer) le has = omega arith
+
+has_peer_more : (few many : ℕ) (deed : Deed) → few ≤ many → HasPeerIn few deed → HasPeerIn many deed
+has_peer_more few many (Calls end call) le has = named_more few many (peer_in call) le has
+has_peer_more few many deed le has = tt
 
 line_in_more : (few many : ℕ) → few ≤ many → (line : JournalLine) → IsLineIn few line → IsLineIn many line
 line_in_more few many le line is = record {
   end = (let below : line.end < few = is.end in omega arith);
-  peer = has_peer_more few many line.step le is.peer;
+  peer = has_peer_more few many (deed_of line.step) le is.peer;
   small = is.small;
 }
 
@@ -173,8 +161,8 @@ pub with_end_is_world : (w : Seen) (name cert : List ℕ) (max_peers max_session
     IsWorld (with_end w (new_end name (new_setup max_peers max_sessions cert)))
 with_end_is_world w name cert max_peers max_sessions is certified fine =
     let like : Bool = list_any (is_like name cert) w.ends in
-    let last = or_false (like || nat_le 1024 (length w.ends) || is_outside 1048576 max_peers) (is_outside 65536 max_sessions) fine in
-    let limits = or_false (like || nat_le 1024 (length w.ends)) (is_outside 1048576 max_peers) last.0 in
-    let first = or_false like (nat_le 1024 (length w.ends)) limits.0 in
+    let last = or_parts (like || nat_le 1024 (length w.ends) || is_outside 1048576 max_peers) (is_outside 65536 max_sessions) fine in
+    let limits = or_parts (like || nat_le 1024 (length w.ends)) (is_outside 1048576 max_peers) last.0 in
+    let first = or_parts like (nat_le 1024 (length w.ends)) limits.0 in
     one_more_end w is (new_end name (new_setup max_peers max_sessions cert)) (new_setup_is max_peers max_sessions cert certified (not_outside 65536 max_sessions last.1)) refl
     (no_name name cert w.ends first.0) (no_print name cert w.ends first.0)

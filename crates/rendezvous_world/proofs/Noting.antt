@@ -5,14 +5,13 @@ use Rattle.glare_core.specs.Steps.{Among}
 use Rattle.glare_core.specs.Told.{AllDifferent}
 use Rattle.startup.specs.Attempts.{after_cancel}
 use Rattle.endpoint_model.specs.declared.entry.Entry.{Entry}
-use Rattle.endpoint_model.specs.Event.{Setup, own_of, Call, Open, Cancel, Close, AddRow, Introduce, OnFlows, Receive, Tick, Answer, Began, Done, NotOpened, Refused, NotAdded, Stopped, OutOfMemory, Event}
+use Rattle.endpoint_model.specs.Event.{Setup, own_of, Call, Open, Cancel, Close, AddRow, Introduce, OnFlows, Receive, Tick, Answer, Done, Refused, NotAdded, Event}
 use Rattle.endpoint_model.specs.declared.row.Row.{Row}
 use Rattle.endpoint_model.specs.State.{State, Did, at_moment, with_startup}
 use Rattle.endpoint_model.specs.InSessions.{held_row}
 use Rattle.endpoint_model.specs.FlowCall.{FlowCall}
 use Rattle.endpoint_model.specs.OnFlows.{flow_called, flow_called_by}
 use Rattle.endpoint_model.specs.Introducing.{with_redirect, introducing}
-use Rattle.rtmfp_forms.specs.Address.{AddressParts}
 use Rattle.endpoint_laws.specs.OpensIn.{opens_in}
 use Rattle.endpoint_model.specs.Log.{StandsFor, Answers, Step as StepOf}
 use Rattle.endpoint_laws.specs.Laws.{AreCalls}
@@ -80,13 +79,43 @@ flow_noted s noted near call (Some row) = refl
 -- The call is given a moment that isn't before this one, or none.
 abbrev pub IsGivenFrom : ℕ → ℕ → Call → Type 0
 IsGivenFrom last moment (Open peer candidates draws) = last ≤ moment
-IsGivenFrom last moment (Cancel n) = Unit {0}
 IsGivenFrom last moment (Close near) = last ≤ moment
-IsGivenFrom last moment (AddRow print addresses) = Unit {0}
-IsGivenFrom last moment Introduce = Unit {0}
-IsGivenFrom last moment (OnFlows near call) = Unit {0}
 IsGivenFrom last moment (Receive from datagram draws) = last ≤ moment
 IsGivenFrom last moment (Tick draws) = last ≤ moment
+IsGivenFrom last moment call = Unit {0}
+
+-- it is given none
+abbrev IsUntimed : Call → Type 0
+IsUntimed (Open peer candidates draws) = ⊥
+IsUntimed (Close near) = ⊥
+IsUntimed (Receive from datagram draws) = ⊥
+IsUntimed (Tick draws) = ⊥
+IsUntimed call = Unit {0}
+
+-- what a call leaves at an end that has noted a moment, by what it leaves at one that hasn't
+record IsLeft (s : State) (noted : ℕ) (call : Call) (answer : Answer) (entries : List Entry) (t : State) : Type 0 where
+  after : State
+  answers : Answers s call answer entries after
+  state : t ≡ at_moment after noted
+
+unmoved : (s : State) (noted : ℕ) (call : Call) (answer : Answer) (entries : List Entry) (t : State) → IsUntimed call → Answers (at_moment s noted) call answer entries t → IsLeft s noted call answer entries t
+unmoved s noted (Open peer candidates draws) answer entries t untimed h = absurd untimed
+unmoved s noted (Close near) answer entries t untimed h = absurd untimed
+unmoved s noted (Receive from datagram draws) answer entries t untimed h = absurd untimed
+unmoved s noted (Tick draws) answer entries t untimed h = absurd untimed
+unmoved s noted (Cancel n) Done entries t untimed h =
+    record { after = with_startup s (after_cancel s.startup n); answers = (h.0, record { state = refl; entries = h.1.entries }); state = h.1.state }
+unmoved s noted (Cancel n) (Refused refusal) entries t untimed h = record { after = s; answers = (h.0, h.1, record { state = refl; entries = h.2.entries }); state = h.2.state }
+unmoved s noted (AddRow print addresses) Done entries t untimed h =
+    record { after = with_redirect s print addresses; answers = (h.0, record { state = refl; entries = h.1.entries }); state = h.1.state }
+unmoved s noted (AddRow print addresses) (NotAdded refusal) entries t untimed h = record { after = s; answers = (h.0, record { state = refl; entries = h.1.entries }); state = h.1.state }
+unmoved s noted Introduce Done entries t untimed h = record { after = introducing s; answers = record { state = refl; entries = h.entries }; state = h.state }
+unmoved s noted (OnFlows near call) Done entries t untimed h =
+    let did : Did = flow_called s near call in
+    let same : flow_called (at_moment s noted) near call ≡ noted_did did noted = flow_noted s noted near call (held_row s near) in
+    record { after = did.state; answers = (h.0, record { state = refl; entries = h.1.entries ∙ ap (λ (d : Did). d.entries) same }); state = h.1.state ∙ ap (λ (d : Did). d.state) same }
+unmoved s noted (OnFlows near call) (Refused refusal) entries t untimed h = record { after = s; answers = (h.0, record { state = refl; entries = h.1.entries }); state = h.1.state }
+unmoved s noted call answer entries t untimed h = absurd h
 
 module _ (last : ℕ) (setup : Setup) (log : List Event) (s t : State) (moment : ℕ) (entries : List Entry) (h : StandsUpTo last setup log s) where
   abbrev event_with : Call → Answer → Event
@@ -103,76 +132,19 @@ module _ (last : ℕ) (setup : Setup) (log : List Event) (s t : State) (moment :
       subst (λ (x : State). Answers x call answer entries t) (noted_before h.told h.noted moment (omega arith)) (from_told call answer step) in
       stands_whole last setup (log ++ event_with call answer ∷ []) t (extends h.told t (event_with call answer) told setup log h.stands)
 
-  -- a cancel is given none, and what was noted stays
-  untimed : (n : ℕ) (answer : Answer) → Answers (at_moment (at_moment h.told moment) h.noted) (Cancel n) answer entries t → StandsUpTo last setup (log ++ event_with (Cancel n) answer ∷ []) t
-  untimed n Done step =
-      let before : State = at_moment h.told moment in
-      let after : State = with_startup before (after_cancel before.startup n) in
-      let told : StepOf h.told (event_with (Cancel n) Done) after = (step.0, record { state = refl; entries = step.1.entries }) in
-      record { told = after; stands = extends h.told after (event_with (Cancel n) Done) told setup log h.stands; noted = h.noted; passed = h.passed; state = step.1.state }
-  untimed n (Refused refusal) step =
-      let after : State = at_moment h.told moment in
-      let told : StepOf h.told (event_with (Cancel n) (Refused refusal)) after = (step.0, step.1, record { state = refl; entries = step.2.entries }) in
-      record { told = after; stands = extends h.told after (event_with (Cancel n) (Refused refusal)) told setup log h.stands; noted = h.noted; passed = h.passed; state = step.2.state }
-  untimed n (Began count) step = absurd step
-  untimed n (NotOpened refusal) step = absurd step
-  untimed n (NotAdded refusal) step = absurd step
-  untimed n (Stopped stop) step = absurd step
-  untimed n OutOfMemory step = absurd step
-
-  -- nor are the calls of an introducer
-  untimed_row : (print : List ℕ) (addresses : List AddressParts) (answer : Answer) → Answers (at_moment (at_moment h.told moment) h.noted) (AddRow print addresses) answer entries t →
-      StandsUpTo last setup (log ++ event_with (AddRow print addresses) answer ∷ []) t
-  untimed_row print addresses Done step =
-      let after : State = with_redirect (at_moment h.told moment) print addresses in
-      let told : StepOf h.told (event_with (AddRow print addresses) Done) after = (step.0, record { state = refl; entries = step.1.entries }) in
-      record { told = after; stands = extends h.told after (event_with (AddRow print addresses) Done) told setup log h.stands; noted = h.noted; passed = h.passed; state = step.1.state }
-  untimed_row print addresses (NotAdded refusal) step =
-      let after : State = at_moment h.told moment in
-      let told : StepOf h.told (event_with (AddRow print addresses) (NotAdded refusal)) after = (step.0, record { state = refl; entries = step.1.entries }) in
-      record { told = after; stands = extends h.told after (event_with (AddRow print addresses) (NotAdded refusal)) told setup log h.stands; noted = h.noted; passed = h.passed; state = step.1.state }
-  untimed_row print addresses answer step = absurd step
-
-  untimed_introduce : (answer : Answer) → Answers (at_moment (at_moment h.told moment) h.noted) Introduce answer entries t → StandsUpTo last setup (log ++ event_with Introduce answer ∷ []) t
-  untimed_introduce Done step =
-      let after : State = introducing (at_moment h.told moment) in
-      let told : StepOf h.told (event_with Introduce Done) after = record { state = refl; entries = step.entries } in
-      record { told = after; stands = extends h.told after (event_with Introduce Done) told setup log h.stands; noted = h.noted; passed = h.passed; state = step.state }
-  untimed_introduce answer step = absurd step
-
-  -- nor are the calls on flows
-  untimed_flow : (near : ℕ) (call : FlowCall) (answer : Answer) → Answers (at_moment (at_moment h.told moment) h.noted) (OnFlows near call) answer entries t →
-      StandsUpTo last setup (log ++ event_with (OnFlows near call) answer ∷ []) t
-  untimed_flow near call Done step =
-      let did : Did = flow_called (at_moment h.told moment) near call in
-      let same : flow_called (at_moment (at_moment h.told moment) h.noted) near call ≡ noted_did did h.noted = flow_noted (at_moment h.told moment) h.noted near call (held_row h.told near) in
-      let told : StepOf h.told (event_with (OnFlows near call) Done) did.state = (step.0, record { state = refl; entries = step.1.entries ∙ ap (λ (d : Did). d.entries) same }) in
-      record {
-        told = did.state;
-        stands = extends h.told did.state (event_with (OnFlows near call) Done) told setup log h.stands;
-        noted = h.noted;
-        passed = h.passed;
-        state = step.1.state ∙ ap (λ (d : Did). d.state) same;
-      }
-  untimed_flow near call (Refused refusal) step =
-      let after : State = at_moment h.told moment in
-      let told : StepOf h.told (event_with (OnFlows near call) (Refused refusal)) after = (step.0, record { state = refl; entries = step.1.entries }) in
-      record { told = after; stands = extends h.told after (event_with (OnFlows near call) (Refused refusal)) told setup log h.stands; noted = h.noted; passed = h.passed; state = step.1.state }
-  untimed_flow near call answer step = absurd step
+  -- it is given none, and what was noted stays
+  untimed : (call : Call) (answer : Answer) → IsUntimed call → Answers (at_moment s moment) call answer entries t → StandsUpTo last setup (log ++ event_with call answer ∷ []) t
+  untimed call answer none step =
+      let left : IsLeft (at_moment h.told moment) h.noted call answer entries t =
+      unmoved (at_moment h.told moment) h.noted call answer entries t none (subst (λ (x : State). Answers x call answer entries t) (noted_both h.told h.noted moment) (from_told call answer step)) in
+      record { told = left.after; stands = extends h.told left.after (event_with call answer) left.answers setup log h.stands; noted = h.noted; passed = h.passed; state = left.state }
 
   stands_by : (call : Call) (answer : Answer) → IsGivenFrom last moment call → Answers (at_moment s moment) call answer entries t → StandsUpTo last setup (log ++ event_with call answer ∷ []) t
   stands_by (Open peer candidates draws) answer from step = timed (Open peer candidates draws) answer from step
-  stands_by (Cancel n) answer from step =
-      untimed n answer (subst (λ (x : State). Answers x (Cancel n) answer entries t) (noted_both h.told h.noted moment) (from_told (Cancel n) answer step))
   stands_by (Close near) answer from step = timed (Close near) answer from step
-  stands_by (AddRow print addresses) answer from step =
-      untimed_row print addresses answer (subst (λ (x : State). Answers x (AddRow print addresses) answer entries t) (noted_both h.told h.noted moment) (from_told (AddRow print addresses) answer step))
-  stands_by Introduce answer from step =
-      untimed_introduce answer (subst (λ (x : State). Answers x Introduce answer entries t) (noted_both h.told h.noted moment) (from_told Introduce answer step))
-  stands_by (OnFlows near call) answer from step =
-      untimed_flow near call answer (subst (λ (x : State). Answers x (OnFlows near call) answer entries t) (noted_both h.told h.noted moment) (from_told (OnFlows near call) answer step))
   stands_by (Receive address datagram draws) answer from step = timed (Receive address datagram draws) answer from step
   stands_by (Tick draws) answer from step = timed (Tick draws) answer from step
+  stands_by call answer from step = untimed call answer tt step
 
 -- A call brings an end from each log that it stands for so to that log with its event.
 pub stands_more : (last : ℕ) (setup : Setup) (log : List Event) (s t : State) (e : Event) → IsGivenFrom last e.moment e.call → StandsUpTo last setup log s → StepOf s e t → StandsUpTo last setup (log ++ e ∷ []) t

@@ -1,24 +1,28 @@
 -- What a step answers, by what refuses it.
-use Rattle.std.proofs.Common.{◌≡◌, ℕ, ◌<◌, ◌^◌, ◌||◌, Bool, true, false, List, [], ◌∷◌, map, length, Option, Some, None, IfSome, IfNone, OnOk, IfErr, Result, Ok, Err, nat_le, refl, sym, ap, ◌∙◌, subst, inl, arith}
+use Rattle.std.proofs.Common.{◌≡◌, ℕ, ◌<◌, ◌^◌, ◌||◌, Bool, true, false, List, [], ◌∷◌, map, length, Option, Some, None, IfSome, IfNone, OnOk, IfErr, Result, Ok, Err, is_some, nat_le, refl, sym, ap, ◌∙◌, subst, inl, arith}
 use Rattle.std.specs.List.{list_any}
+use Rattle.std.proofs.lemmas.Bool.{or_parts}
 use Rattle.std.proofs.lemmas.Bool.Decides.{nat_tests}
 use Rattle.sha2.specs.Sha256.{sha256}
-use Rattle.glare_core.specs.Calls.{first_that_stands, where_true}
+use Rattle.rtmfp_base.specs.Reasons.{first_that_stands, where_true}
 use Rattle.endpoint_laws.specs.Laws.{AreBytes}
-use Rattle.rtmfp_forms.specs.Address.{AddressParts}
 use Rattle.rendezvous_world.specs.declared.step.Step.{Step}
-use Rattle.rendezvous_world.specs.declared.step.Step.TheVariants.{End, At, Introduce, Redirect, Open, Cancel, Close, Flow, Queue, Abandon, Finish, Deliver, Bent, Inject, Forge, Tick}
+use Rattle.rendezvous_world.specs.declared.step.Step.TheVariants.{End}
 use Rattle.rendezvous_world.specs.declared.step.StepFault.{StepFault}
 use Rattle.rendezvous_world.specs.declared.step.StepFault.TheVariants.{NoEnd, NoDatagram, BadStep, Forged, Memory}
+use Rattle.rendezvous_world.specs.declared.journal.JournalLine.{JournalLine}
+use Rattle.rendezvous_world.specs.Deed.{Deed, Calls, Brings, deed_of, end_of, IsCalling}
+use Rattle.rendezvous_world.specs.Calls.{peer_in}
 use Rattle.rendezvous_world.specs.Seen.{EndSeen, Seen}
-use Rattle.rendezvous_world.specs.Faults.{is_missing, lacks_end, lacks_datagram, is_like, is_outside, is_bad, is_forged, is_forged_by, step_fault}
-use Rattle.rendezvous_world.specs.Datagrams.{datagram_of}
+use Rattle.rendezvous_world.specs.Faults.{is_missing, lacks_peer, lacks_end_in, lacks_end, lacks_datagram_in, lacks_datagram, is_like, is_outside, is_bad_in, is_bad, is_forged_in, is_forged, is_forged_by, step_fault}
+use Rattle.rendezvous_world.specs.Datagrams.{datagram_in}
+use Rattle.rendezvous_world.specs.History.{peer_or, peer_of}
 use Rattle.rendezvous_world.specs.Sent.{sent_in}
-use Rattle.rendezvous_world.specs.Stepping.{Stepped, called_by}
+use Rattle.rendezvous_world.specs.Stepping.{Called, SteppedAs, Stepped}
 use Rattle.rendezvous_world.specs.Sound.{AreBelow}
 use Rattle.rendezvous_world.specs.Inside.{named_of}
 use Rattle.rtmfp_text.specs.Names.{is_like as is_like_named}
-use Rattle.rendezvous_world.specs.Entering.{CallsAnEnd, IsOnFlows, peer_of, IsEntering, IsEntered, IsBringing, IsDone}
+use Rattle.rendezvous_world.specs.Entering.{CallsAnEnd, IsCallOf, IsEntering, IsEntered, IsBringing, IsDone}
 
 -- ---- the first reason
 
@@ -78,27 +82,15 @@ module _ (w : Seen) (number : ℕ) (step : Step) where
 
 -- ---- a step that calls an end
 
-stepped : (w : Seen) (number : ℕ) (step : Step) (r : Result (Unit {0}) StepFault) (t : Seen) → CallsAnEnd step → IsEntered w number step r t → OnOk r (Stepped w number step t)
-stepped w number (End name max_peers max_sessions cert) r t calls h = absurd calls
-stepped w number (At moment) r t calls h = absurd calls
-stepped w number (Open end peer list) r t calls h = h.ok
-stepped w number (Cancel end n) r t calls h = h.ok
-stepped w number (Close end near) r t calls h = h.ok
-stepped w number (Flow end near priority metadata answers) r t calls h = h.ok
-stepped w number (Queue end near flow options message) r t calls h = h.ok
-stepped w number (Abandon end near flow seq) r t calls h = h.ok
-stepped w number (Finish end near flow) r t calls h = h.ok
-stepped w number (Introduce end) r t calls h = h.ok
-stepped w number (Redirect end peer list) r t calls h = h.ok
-stepped w number (Deliver sent end from) r t calls h = h.ok
-stepped w number (Bent sent place end from) r t calls h = h.ok
-stepped w number (Inject end from bytes) r t calls h = h.ok
-stepped w number (Forge end from plain) r t calls h = h.ok
-stepped w number (Tick end) r t calls h = h.ok
+stepped : (w : Seen) (number : ℕ) (step : Step) (deed : Deed) (r : Result (Unit {0}) StepFault) (t : Seen) → IsCalling deed →
+    OnOk r ((line : JournalLine) × (is_some line.stopped ≡ false) × Called w number step line t) → OnOk r (SteppedAs w number step deed t)
+stepped w number step (Calls end call) r t calls h = h
+stepped w number step (Brings end from source) r t calls h = h
+stepped w number step deed r t calls h = absurd calls
 
 pub entered_done : (w : Seen) (number : ℕ) (step : Step) (r : Result (Unit {0}) StepFault) (t : Seen) → CallsAnEnd step → step_fault w step ≡ None → IsEntered w number step r t → IsDone w number step r t
 entered_done w number step r t calls e h = record {
-  ok = stepped w number step r t calls h;
+  ok = stepped w number step (deed_of step) r t calls h.ok;
   refused = subst (λ (o : Option StepFault). IfSome o (λ x. (r ≡ Err x) × (t ≡ w))) (sym e) tt;
   memory = subst (λ (o : Option StepFault). IfNone o (IfErr r (λ fault. fault ≡ Memory))) (sym e) h.memory;
   err = h.err;
@@ -107,68 +99,61 @@ entered_done w number step r t calls e h = record {
 pub there_is : (w : Seen) (end : ℕ) → is_missing w end ≡ false → end < length w.ends
 there_is w end e = grind (arith, nat_tests)
 
-or_false : (a b : Bool) → (a || b) ≡ false → (a ≡ false) × (b ≡ false)
-or_false true b e = absurd (cc)
-or_false false b e = (refl, e)
-
 no_bytes : AreBytes []
 no_bytes k d lt = absurd (omega arith)
 
--- a step of an end, which brings no datagram
-entering_alone : (w : Seen) (number end : ℕ) (step : Step) → AreBelow w.lines number → number < 2 ^ 32 → end < length w.ends → peer_of step < length w.ends → CallsAnEnd step → called_by step ≡ end →
-    datagram_of (sent_in w.lines) step ≡ None → step_fault w step ≡ None → IsEntering w number end step None []
-entering_alone w number end step above fits there peer calls called none fine = record {
-  above = above;
-  fits = fits;
-  there = there;
-  calls = calls;
-  called = called;
-  peer = peer;
-  datagram = sym none;
-  bytes = refl;
-  short = omega arith;
-  are_bytes = no_bytes;
-  fine = fine;
+-- what is so of a call of this end, which names this other, if any
+record IsPlain (w : Seen) (end : ℕ) (peer : Option ℕ) (deed : Deed) : Type 0 where
+  calls : IsCalling deed
+  called : end_of deed ≡ end
+  named : peer_of deed ≡ peer_or end peer
+  datagram : None ≡ datagram_in (sent_in w.lines) deed
+  lacks : lacks_end_in w deed ≡ (lacks_peer w peer || is_missing w end)
+  full : lacks_datagram_in w deed ≡ false
+  fine : is_bad_in w deed ≡ false
+  unforged : is_forged_in w deed ≡ false
+
+plain : (w : Seen) (end : ℕ) (peer : Option ℕ) (deed : Deed) → IsCallOf end peer deed → IsPlain w end peer deed
+plain w end peer (Calls who call) is = record {
+  calls = tt;
+  called = is.0;
+  named = ap (λ (k : ℕ). peer_or k (peer_in call)) is.0 ∙ ap (λ (o : Option ℕ). peer_or end o) is.1;
+  datagram = refl;
+  lacks = ap (λ (k : ℕ). lacks_peer w (peer_in call) || is_missing w k) is.0 ∙ ap (λ (o : Option ℕ). lacks_peer w o || is_missing w end) is.1;
+  full = refl;
+  fine = refl;
+  unforged = refl;
 }
+plain w end peer deed is = absurd is
 
-pub entering_open : (w : Seen) (number end peer : ℕ) (list : List AddressParts) → AreBelow w.lines number → number < 2 ^ 32 → (is_missing w end || is_missing w peer) ≡ false → IsEntering w number end (Open end peer list) None []
-entering_open w number end peer list above fits there =
-    let both = or_false (is_missing w end) (is_missing w peer) there in
-    entering_alone w number end (Open end peer list) above fits (there_is w end both.0) (there_is w peer both.1) tt refl refl (fault_left w number (Open end peer list) there refl refl)
+pub call_named : (w : Seen) (end : ℕ) (peer : Option ℕ) (deed : Deed) → IsCallOf end peer deed → peer_of deed ≡ peer_or end peer
+call_named w end peer deed is = (plain w end peer deed is).named
 
-pub entering_redirect : (w : Seen) (number end peer : ℕ) (list : List AddressParts) → AreBelow w.lines number → number < 2 ^ 32 → (is_missing w end || is_missing w peer) ≡ false → IsEntering w number end (Redirect end peer list) None []
-entering_redirect w number end peer list above fits there =
-    let both = or_false (is_missing w end) (is_missing w peer) there in
-    entering_alone w number end (Redirect end peer list) above fits (there_is w end both.0) (there_is w peer both.1) tt refl refl (fault_left w number (Redirect end peer list) there refl refl)
+pub call_lacks : (w : Seen) (end : ℕ) (peer : Option ℕ) (step : Step) → IsCallOf end peer (deed_of step) → lacks_end w step ≡ (lacks_peer w peer || is_missing w end)
+call_lacks w end peer step is = (plain w end peer (deed_of step) is).lacks
 
--- one of an end that is there, which is given no other
-module _ (w : Seen) (number end : ℕ) (above : AreBelow w.lines number) (fits : number < 2 ^ 32) (there : is_missing w end ≡ false) where
-  pub entering_cancel : (n : ℕ) → IsEntering w number end (Cancel end n) None []
-  entering_cancel n = entering_alone w number end (Cancel end n) above fits (there_is w end there) (there_is w end there) tt refl refl (fault_left w number (Cancel end n) there refl refl)
+peer_there : (w : Seen) (end : ℕ) (peer : Option ℕ) → lacks_peer w peer ≡ false → is_missing w end ≡ false → peer_or end peer < length w.ends
+peer_there w end None e there = there_is w end there
+peer_there w end (Some peer) e there = there_is w peer e
 
-  pub entering_close : (near : ℕ) → IsEntering w number end (Close end near) None []
-  entering_close near = entering_alone w number end (Close end near) above fits (there_is w end there) (there_is w end there) tt refl refl (fault_left w number (Close end near) there refl refl)
-
-  pub entering_introduce : IsEntering w number end (Introduce end) None []
-  entering_introduce = entering_alone w number end (Introduce end) above fits (there_is w end there) (there_is w end there) tt refl refl (fault_left w number (Introduce end) there refl refl)
-
-  pub entering_tick : IsEntering w number end (Tick end) None []
-  entering_tick = entering_alone w number end (Tick end) above fits (there_is w end there) (there_is w end there) tt refl refl (fault_left w number (Tick end) there refl refl)
-
--- a call on flows
-pub flows_end : (w : Seen) (step : Step) → IsOnFlows step → lacks_end w step ≡ is_missing w (called_by step)
-flows_end w (Flow end near priority metadata answers) is = refl
-flows_end w (Queue end near flow options message) is = refl
-flows_end w (Abandon end near flow seq) is = refl
-flows_end w (Finish end near flow) is = refl
-flows_end w step is = absurd is
-
-pub entering_flows : (w : Seen) (number : ℕ) (step : Step) → AreBelow w.lines number → number < 2 ^ 32 → IsOnFlows step → is_missing w (called_by step) ≡ false → IsEntering w number (called_by step) step None []
-entering_flows w number (Flow end near priority metadata answers) above fits is there = entering_alone w number end (Flow end near priority metadata answers) above fits (there_is w end there) (there_is w end there) tt refl refl (fault_left w number (Flow end near priority metadata answers) there refl refl)
-entering_flows w number (Queue end near flow options message) above fits is there = entering_alone w number end (Queue end near flow options message) above fits (there_is w end there) (there_is w end there) tt refl refl (fault_left w number (Queue end near flow options message) there refl refl)
-entering_flows w number (Abandon end near flow seq) above fits is there = entering_alone w number end (Abandon end near flow seq) above fits (there_is w end there) (there_is w end there) tt refl refl (fault_left w number (Abandon end near flow seq) there refl refl)
-entering_flows w number (Finish end near flow) above fits is there = entering_alone w number end (Finish end near flow) above fits (there_is w end there) (there_is w end there) tt refl refl (fault_left w number (Finish end near flow) there refl refl)
-entering_flows w number step above fits is there = absurd is
+pub entering_call : (w : Seen) (number end : ℕ) (peer : Option ℕ) (step : Step) → AreBelow w.lines number → number < 2 ^ 32 → IsCallOf end peer (deed_of step) → (lacks_peer w peer || is_missing w end) ≡ false →
+    IsEntering w number end step None []
+entering_call w number end peer step above fits is there =
+    let p : IsPlain w end peer (deed_of step) = plain w end peer (deed_of step) is in
+    let both = or_parts (lacks_peer w peer) (is_missing w end) there in
+    record {
+      above = above;
+      fits = fits;
+      there = there_is w end both.1;
+      calls = p.calls;
+      called = p.called;
+      peer = subst (λ (k : ℕ). k < length w.ends) (sym p.named) (peer_there w end peer both.0 both.1);
+      datagram = p.datagram;
+      bytes = refl;
+      short = omega arith;
+      are_bytes = no_bytes;
+      fine = fault_left w number step (p.lacks ∙ there) p.full p.fine ∙ ap (λ (x : Bool). where_true x Forged) p.unforged;
+    }
 
 -- ---- a step that brings a datagram
 
@@ -181,7 +166,7 @@ entering_bringing w number end step bytes copy b fine are same =
       there = b.there;
       calls = b.calls;
       called = b.called;
-      peer = (let p : peer_of step ≡ end = b.peer in let t : end < length w.ends = b.there in subst (λ (k : ℕ). k < length w.ends) (sym p) t);
+      peer = (let p : peer_of (deed_of step) ≡ end = b.peer in let t : end < length w.ends = b.there in subst (λ (k : ℕ). k < length w.ends) (sym p) t);
       datagram = sym b.datagram;
       bytes = refl;
       short = b.short;

@@ -1,16 +1,15 @@
 -- The history that a journal tells, line by line.
-use Rattle.std.proofs.Common.{◌≡◌, ◌≢◌, ℕ, ◌<◌, ◌≤◌, List, [], ◌∷◌, ◌++◌, Bool, if◌then◌else◌, Option, inl, inr, ◌⊎◌, refl, sym, ap, subst, ◌∙◌, arith}
+use Rattle.std.proofs.Common.{◌≡◌, ◌≢◌, ℕ, ◌<◌, ◌≤◌, List, [], ◌∷◌, ◌++◌, Bool, if◌then◌else◌, inl, inr, ◌⊎◌, refl, sym, ap, subst, ◌∙◌, arith}
 use Rattle.std.specs.List.{AllByRecursion}
 use Rattle.endpoint_model.specs.Event.{Setup, own_of, Call, AddRow, Open as OpenCall, Event}
 use Rattle.endpoint_laws.specs.History.{Happened, History, log_of, past_at, IsHonestCall, IsHonest, TakesPart}
 use Rattle.rendezvous_world.specs.declared.journal.JournalLine.{JournalLine}
-use Rattle.rendezvous_world.specs.declared.step.Step.{Step}
-use Rattle.rendezvous_world.specs.declared.step.Step.TheVariants.{End, At, Introduce, Redirect, Open, Cancel, Close, Flow, Queue, Abandon, Finish, Deliver, Bent, Inject, Forge, Tick}
+use Rattle.rendezvous_world.specs.Deed.{Opens, Redirects, Deed, Calls, deed_of}
 use Rattle.rendezvous_world.specs.Draws.{two_numbers, draws_of}
-use Rattle.rendezvous_world.specs.Seen.{EndSeen, setup_at}
-use Rattle.rendezvous_world.specs.History.{call_of, happened, after_lines, moment_given, answer_of}
+use Rattle.rendezvous_world.specs.Seen.{EndSeen, print_at, setup_at}
+use Rattle.rendezvous_world.specs.History.{bytes_or_none, peer_of, call_by, happened, after_lines, moment_given, answer_of}
 use Rattle.rendezvous_world.specs.Sound.{AreBelow}
-use Rattle.rendezvous_world.specs.Kept.{HasPeer, IsLineIn, Rise, HasNumber, IsOfLine}
+use Rattle.rendezvous_world.specs.Kept.{HasPeerIn, IsLineIn, Rise, HasNumber, IsOfLine}
 use Rattle.rendezvous_world.proofs.Ends.{tested}
 
 -- ---- ends that were given the same tell the same
@@ -19,30 +18,17 @@ abbrev pub SameSetups : ℕ → List EndSeen → List EndSeen → Type 0
 SameSetups count ends later = (who : ℕ) → who < count → setup_at later who ≡ setup_at ends who
 
 module _ (count : ℕ) (ends later : List EndSeen) (same : SameSetups count ends later) where
-  same_call : (number : ℕ) (datagram : Option (List ℕ)) (step : Step) → HasPeer count step → call_of later number datagram step ≡ call_of ends number datagram step
-  same_call number datagram (End name max_peers max_sessions cert) has = refl
-  same_call number datagram (At moment) has = refl
-  same_call number datagram (Open end peer list) has = ap (λ (setup : Setup). OpenCall (own_of setup) list (draws_of number)) (same peer has)
-  same_call number datagram (Cancel end n) has = refl
-  same_call number datagram (Close end near) has = refl
-  same_call number datagram (Flow end near priority metadata answers) has = refl
-  same_call number datagram (Queue end near flow options message) has = refl
-  same_call number datagram (Abandon end near flow seq) has = refl
-  same_call number datagram (Finish end near flow) has = refl
-  same_call number datagram (Introduce end) has = refl
-  same_call number datagram (Redirect end peer list) has = ap (λ (setup : Setup). AddRow (own_of setup) list) (same peer has)
-  same_call number datagram (Deliver sent end from) has = refl
-  same_call number datagram (Bent sent place end from) has = refl
-  same_call number datagram (Inject end from bytes) has = refl
-  same_call number datagram (Forge end from plain) has = refl
-  same_call number datagram (Tick end) has = refl
+  same_call : (number : ℕ) (bytes : List ℕ) (deed : Deed) → HasPeerIn count deed → call_by (print_at later (peer_of deed)) number bytes deed ≡ call_by (print_at ends (peer_of deed)) number bytes deed
+  same_call number bytes (Calls end (Opens peer list)) has = ap (λ (setup : Setup). OpenCall (own_of setup) list (draws_of number)) (same peer has)
+  same_call number bytes (Calls end (Redirects peer list)) has = ap (λ (setup : Setup). AddRow (own_of setup) list) (same peer has)
+  same_call number bytes deed has = refl
 
   pub same_happened : (line : JournalLine) → IsLineIn count line → happened later line ≡ happened ends line
   same_happened line is =
       ap (λ (call : Call). record {
         who = line.end;
-        event = record { moment = moment_given line.moment line.step; call = call; answer = answer_of line.step line.refused line.stopped line.out.entries; entries = line.out.entries };
-      }) (same_call line.line line.datagram line.step is.peer)
+        event = record { moment = moment_given line.moment (deed_of line.step); call = call; answer = answer_of line.step line.refused line.stopped line.out.entries; entries = line.out.entries };
+      }) (same_call line.line (bytes_or_none line.datagram) (deed_of line.step) is.peer)
 
   pub same_lines : (lines : List JournalLine) (earlier : History) → AllByRecursion (IsLineIn count) lines → after_lines later lines earlier ≡ after_lines ends lines earlier
   same_lines [] earlier are = refl

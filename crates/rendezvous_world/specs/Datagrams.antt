@@ -3,10 +3,11 @@ use Rattle.std.specs.Prelude.{ℕ, ◌-◌, ◌==◌, nat_lt, List, [], ◌∷�
 use Rattle.crypto_profile.specs.declared.keys.Context.TheVariants.{Startup}
 use Rattle.crypto_profile.specs.Sealing.{sealed_in}
 use Rattle.packet_scramble.specs.Datagram.{datagram}
+use Rattle.rendezvous_world.specs.Deed.{Source, Delivered, Turned, Injected, Sealed, Deed, Brings, deed_of}
 use Rattle.rendezvous_world.specs.Sent.{Sent}
 use Rattle.rendezvous_world.specs.declared.step.Step.{Step}
-use Rattle.rendezvous_world.specs.declared.step.Step.TheVariants.{Deliver, Bent, Inject, Forge}
 use Rattle.rendezvous_world.specs.Seen.{group_secret}
+use Rattle.endpoint_model.specs.State.{current_generation}
 
 -- the first of a list, the second and so on, counted from 1
 abbrev pub nth : {A : Type 0} → List A → ℕ → Option A
@@ -30,13 +31,20 @@ forged_number = replicate 16 0xff
 
 -- a plain packet, sealed for startup under session ID 0
 abbrev pub forged : List ℕ → List ℕ
-forged plain = datagram 0 (sealed_in group_secret Startup 0 forged_number plain)
+forged plain = datagram 0
+    (sealed_in group_secret (Startup current_generation) 0 forged_number plain)
 
--- the datagram that the step brings, where these were sent before; none where it isn't there, or
--- the step brings none
+-- a datagram that is had so, where these were sent before; none where it isn't there
+abbrev pub datagram_had : List Sent → Source → Option (List ℕ)
+datagram_had sent (Delivered number) = bytes_of (nth sent number)
+datagram_had sent (Turned number place) = bent place (bytes_of (nth sent number))
+datagram_had sent (Injected bytes) = Some bytes
+datagram_had sent (Sealed plain) = Some (forged plain)
+
+-- the datagram that a deed brings; none where it isn't there, or the deed brings none
+abbrev pub datagram_in : List Sent → Deed → Option (List ℕ)
+datagram_in sent (Brings end from source) = datagram_had sent source
+datagram_in sent deed = None
+
 abbrev pub datagram_of : List Sent → Step → Option (List ℕ)
-datagram_of sent (Deliver number end from) = bytes_of (nth sent number)
-datagram_of sent (Bent number place end from) = bent place (bytes_of (nth sent number))
-datagram_of sent (Inject end from bytes) = Some bytes
-datagram_of sent (Forge end from plain) = Some (forged plain)
-datagram_of sent step = None
+datagram_of sent step = datagram_in sent (deed_of step)

@@ -1,28 +1,31 @@
 -- How a step is taken: the call that it makes, its line in the journal, and what it answers.
-use Rattle.std.specs.Prelude.{ℕ, ◌≡◌, ◌<◌, ◌≤◌, ◌^◌, ◌⊎◌, Bool, true, false, List, length, take, Option, Some, None, IsSome, IfSome, IfNone, is_some, OnOk, OnErr, IfErr, Result, Ok, Err}
+use Rattle.std.specs.Prelude.{ℕ, ◌≡◌, ◌<◌, ◌≤◌, ◌^◌, ◌⊎◌, Bool, true, false, List, length, take, Option, Some, None, IfSome, IfNone, is_some, OnOk, OnErr, IfErr, Result, Ok, Err}
 use Rattle.endpoint_model.specs.declared.entry.Entry.{Entry}
 use Rattle.endpoint_model.specs.declared.answers.Stopped.{Stopped as Stop}
 use Rattle.endpoint_laws.specs.Laws.{AreBytes}
-use Rattle.endpoint_model.specs.State.{State, at_moment}
-use Rattle.endpoint_model.specs.InSessions.{held_row}
-use Rattle.endpoint_model.specs.Effects.{open_refusal}
-use Rattle.endpoint_model.specs.Event.{Call, Open as OpenCall, Cancel as CancelCall, Close as CloseCall, AddRow, Introduce as IntroduceCall, OnFlows, Receive, Tick as TickCall, Event}
-use Rattle.endpoint_model.specs.FlowCall.{OpenFlow, Queue as QueueCall, Abandon as AbandonCall, Finish as FinishCall}
+use Rattle.endpoint_model.specs.State.{State}
+use Rattle.endpoint_model.specs.Event.{Event}
 use Rattle.rendezvous_world.specs.declared.bringing.Fetched.{Fetched}
 use Rattle.rendezvous_world.specs.declared.bringing.Fetched.TheVariants.{Missing, Forged as IsForged, Sent as IsSent}
 use Rattle.rendezvous_world.specs.declared.journal.JournalLine.{JournalLine}
 use Rattle.rendezvous_world.specs.declared.journal.Refused.{Refused}
 use Rattle.rendezvous_world.specs.declared.step.Step.{Step}
-use Rattle.rendezvous_world.specs.declared.step.Step.TheVariants.{End, At, Introduce, Redirect, Open, Cancel, Close, Flow, Queue, Abandon, Finish, Deliver, Bent, Inject, Forge, Tick}
+use Rattle.rendezvous_world.specs.declared.step.Step.TheVariants.{End, At, Deliver, Bent, Inject, Forge}
+use Rattle.rendezvous_world.specs.declared.step.Deed.{Deed as DeedTaken}
+use Rattle.rendezvous_world.specs.declared.step.Deed.TheVariants.{NewEnd as NewEndBy, NewMoment as NewMomentBy, Call as CallBy, Bring as BringBy}
+use Rattle.rendezvous_world.specs.declared.step.Source.{Source as SourceTaken}
+use Rattle.rendezvous_world.specs.declared.step.Source.TheVariants.{Delivered as DeliveredBy, Turned as TurnedBy, Injected as InjectedBy, Sealed as SealedBy}
 use Rattle.rendezvous_world.specs.declared.step.StepFault.{StepFault}
 use Rattle.rendezvous_world.specs.declared.step.StepFault.TheVariants.{Forged, Memory}
-use Rattle.rendezvous_world.specs.Draws.{draws_of}
+use Rattle.rtmfp_forms.specs.Address.{AddressParts}
+use Rattle.rendezvous_world.specs.Deed.{Deed, Calls, deed_of, IsCalling}
+use Rattle.rendezvous_world.specs.Calls.{peer_in, LeavesUndone}
 use Rattle.rendezvous_world.specs.Seen.{Seen}
 use Rattle.rendezvous_world.specs.Sent.{Sent, sent_in}
 use Rattle.rendezvous_world.specs.Datagrams.{datagram_of}
 use Rattle.rendezvous_world.specs.Faults.{step_fault, is_forged, is_forged_by}
-use Rattle.glare_core.specs.Calls.{where_true}
-use Rattle.rendezvous_world.specs.History.{moment_given, answer_of, bytes_or_none}
+use Rattle.rtmfp_base.specs.Reasons.{where_true}
+use Rattle.rendezvous_world.specs.History.{peer_of, call_by, moment_given, answer_of, bytes_or_none}
 use Rattle.rendezvous_world.specs.Stepping.{Called, Stepped, StoppedIn, Noted, called_by}
 use Rattle.rendezvous_world.specs.Sound.{AreBelow}
 
@@ -30,81 +33,44 @@ use Rattle.rendezvous_world.specs.Sound.{AreBelow}
 
 -- The step calls an end.
 abbrev pub CallsAnEnd : Step → Type 0
-CallsAnEnd (End name max_peers max_sessions cert) = ⊥
-CallsAnEnd (At moment) = ⊥
-CallsAnEnd step = Unit {0}
+CallsAnEnd step = IsCalling (deed_of step)
 
--- The step makes a call on the flows of a session.
-abbrev pub IsOnFlows : Step → Type 0
-IsOnFlows (Flow end near priority metadata answers) = Unit {0}
-IsOnFlows (Queue end near flow options message) = Unit {0}
-IsOnFlows (Abandon end near flow seq) = Unit {0}
-IsOnFlows (Finish end near flow) = Unit {0}
-IsOnFlows step = ⊥
+-- The deed is a call of this end, which names this other, if any.
+abbrev pub IsCallOf : ℕ → Option ℕ → Deed → Type 0
+IsCallOf end peer (Calls who call) = (who ≡ end) × (peer_in call ≡ peer)
+IsCallOf end peer deed = ⊥
 
--- the end whose fingerprint the call is given; for a call that is given none, the end that is
--- called
-abbrev pub peer_of : Step → ℕ
-peer_of (Open end peer list) = peer
-peer_of (End name max_peers max_sessions cert) = 0
-peer_of (At moment) = 0
-peer_of (Cancel end n) = end
-peer_of (Close end near) = end
-peer_of (Flow end near priority metadata answers) = end
-peer_of (Queue end near flow options message) = end
-peer_of (Abandon end near flow seq) = end
-peer_of (Finish end near flow) = end
-peer_of (Introduce end) = end
-peer_of (Redirect end peer list) = peer
-peer_of (Deliver number end from) = end
-peer_of (Bent number place end from) = end
-peer_of (Inject end from bytes) = end
-peer_of (Forge end from plain) = end
-peer_of (Tick end) = end
+-- the step that brings a datagram which is had so
+abbrev pub bringing : ℕ → AddressParts → SourceTaken → Step
+bringing end from (DeliveredBy number) = Deliver number end from
+bringing end from (TurnedBy number place) = Bent number place end from
+bringing end from (InjectedBy bytes) = Inject end from bytes.now
+bringing end from (SealedBy plain) = Forge end from plain.now
 
--- the call of a step, by the fingerprint and the datagram that it is given
-abbrev pub call_by : List ℕ → ℕ → List ℕ → Step → Call
-call_by print line bytes (Open end peer list) = OpenCall print list (draws_of line)
-call_by print line bytes (Cancel end n) = CancelCall n
-call_by print line bytes (Close end near) = CloseCall near
-call_by print line bytes (Flow end near priority metadata answers) =
-    OnFlows near (OpenFlow priority metadata answers)
-call_by print line bytes (Queue end near flow options message) =
-    OnFlows near (QueueCall flow message options)
-call_by print line bytes (Abandon end near flow seq) = OnFlows near (AbandonCall flow seq)
-call_by print line bytes (Finish end near flow) = OnFlows near (FinishCall flow)
-call_by print line bytes (Introduce end) = IntroduceCall
-call_by print line bytes (Redirect end peer list) = AddRow print list
-call_by print line bytes (Deliver number end from) = Receive from bytes (draws_of line)
-call_by print line bytes (Bent number place end from) = Receive from bytes (draws_of line)
-call_by print line bytes (Inject end from plain) = Receive from bytes (draws_of line)
-call_by print line bytes (Forge end from plain) = Receive from bytes (draws_of line)
-call_by print line bytes step = TickCall (draws_of line)
+-- This is the deed of a step.
+abbrev pub IsDeed : Step → DeedTaken → Type 0
+IsDeed step (NewEndBy name max_peers max_sessions cert) =
+    step ≡ End name.now max_peers max_sessions cert.now
+IsDeed step (NewMomentBy moment) = step ≡ At moment
+IsDeed step (CallBy end peer) = IsCallOf end peer (deed_of step)
+IsDeed step (BringBy end from source) = step ≡ bringing end from.now source
 
 abbrev pub event_by : List ℕ → ℕ → ℕ → Step → List ℕ → Option Refused → Option Stop → List Entry →
     Event
 event_by print line moment step bytes refused stopped entries = record {
-  moment = moment_given moment step;
-  call = call_by print line bytes step;
+  moment = moment_given moment (deed_of step);
+  call = call_by print line bytes (deed_of step);
   answer = answer_of step refused stopped entries;
   entries = entries;
 }
 
--- What an open, a cancel, a close, a row or a call on flows leaves that found no memory, at the end
--- in this state: an open and a close, which nothing else refused, have noted the moment, and the
--- others have left all as before.
+-- What a call leaves that found no memory, at the end in this state.
+abbrev pub IsUndoneIn : List ℕ → ℕ → Deed → State → State → Type 0
+IsUndoneIn print moment (Calls end call) old new = LeavesUndone print moment call old new
+IsUndoneIn print moment deed old new = ⊥
+
 abbrev pub IsUndone : List ℕ → ℕ → Step → State → State → Type 0
-IsUndone print moment (Open end peer list) old new = (open_refusal old print list ≡ None) ×
-    (new ≡ at_moment old moment)
-IsUndone print moment (Cancel end n) old new = new ≡ old
-IsUndone print moment (Flow end near priority metadata answers) old new = new ≡ old
-IsUndone print moment (Queue end near flow options message) old new = new ≡ old
-IsUndone print moment (Abandon end near flow seq) old new = new ≡ old
-IsUndone print moment (Finish end near flow) old new = new ≡ old
-IsUndone print moment (Redirect end peer list) old new = new ≡ old
-IsUndone print moment (Close end near) old new = IsSome (held_row old near) ×
-    (new ≡ at_moment old moment)
-IsUndone print moment step old new = ⊥
+IsUndone print moment step old new = IsUndoneIn print moment (deed_of step) old new
 
 -- ---- its line
 
@@ -116,7 +82,7 @@ pub record IsEntering (w : Seen) (number end : ℕ) (step : Step) (brought : Opt
   pub there : end < length w.ends
   pub calls : CallsAnEnd step
   pub called : called_by step ≡ end
-  pub peer : peer_of step < length w.ends
+  pub peer : peer_of (deed_of step) < length w.ends
   pub datagram : brought ≡ datagram_of (sent_in w.lines) step
   pub bytes : taken ≡ bytes_or_none brought
   pub short : length taken ≤ 2048
@@ -144,7 +110,7 @@ pub record IsBringing (w : Seen) (number end : ℕ) (step : Step) (bytes : List 
   pub there : end < length w.ends
   pub calls : CallsAnEnd step
   pub called : called_by step ≡ end
-  pub peer : peer_of step ≡ end
+  pub peer : peer_of (deed_of step) ≡ end
   pub datagram : datagram_of (sent_in w.lines) step ≡ Some bytes
   pub short : length bytes ≤ 2048
   pub forged : is_forged w step ≡ is_forged_by w end (Some bytes)

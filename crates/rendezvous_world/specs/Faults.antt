@@ -5,49 +5,44 @@ use Rattle.std.specs.Str.{bytes_eq}
 use Rattle.crypto_profile.specs.declared.keys.Context.{Context}
 use Rattle.crypto_profile.specs.Keys.{same_context}
 use Rattle.sha2.specs.Sha256.{sha256}
-use Rattle.glare_core.specs.Calls.{first_that_stands, where_true}
+use Rattle.rtmfp_base.specs.Reasons.{first_that_stands, where_true}
 use Rattle.endpoint_model.specs.Event.{own_of}
 use Rattle.endpoint_laws.specs.OpensIn.{opens_in}
 use Rattle.rendezvous_world.specs.declared.step.Step.{Step}
-use Rattle.rendezvous_world.specs.declared.step.Step.TheVariants.{End, At, Introduce, Redirect, Open, Cancel, Close, Flow, Queue, Abandon, Finish, Deliver, Bent, Inject, Forge, Tick}
 use Rattle.rendezvous_world.specs.declared.step.StepFault.{StepFault}
 use Rattle.rendezvous_world.specs.declared.step.StepFault.TheVariants.{NoEnd, NoDatagram, BadStep, Forged}
 use Rattle.rendezvous_world.specs.Seen.{EndSeen, Seen}
 use Rattle.rendezvous_world.specs.Sent.{Sent, sent_in}
-use Rattle.rendezvous_world.specs.Datagrams.{datagram_of}
+use Rattle.rendezvous_world.specs.Deed.{Source, Injected, Sealed, Deed, NewEnd, NewMoment, Calls, Brings, deed_of}
+use Rattle.rendezvous_world.specs.Calls.{peer_in}
+use Rattle.rendezvous_world.specs.Datagrams.{datagram_had}
 
 -- ---- an end that isn't there
 
 abbrev pub is_missing : Seen → ℕ → Bool
 is_missing w end = nat_le (length w.ends) end
 
--- an end that the step names isn't there
+abbrev pub lacks_peer : Seen → Option ℕ → Bool
+lacks_peer w None = false
+lacks_peer w (Some peer) = is_missing w peer
+
+-- an end that the deed names isn't there
+abbrev pub lacks_end_in : Seen → Deed → Bool
+lacks_end_in w (Calls end call) = lacks_peer w (peer_in call) || is_missing w end
+lacks_end_in w (Brings end from source) = is_missing w end
+lacks_end_in w deed = false
+
 abbrev pub lacks_end : Seen → Step → Bool
-lacks_end w (End name max_peers max_sessions cert) = false
-lacks_end w (At moment) = false
-lacks_end w (Open end peer list) = is_missing w end || is_missing w peer
-lacks_end w (Cancel end n) = is_missing w end
-lacks_end w (Close end near) = is_missing w end
-lacks_end w (Flow end near priority metadata answers) = is_missing w end
-lacks_end w (Queue end near flow options message) = is_missing w end
-lacks_end w (Abandon end near flow seq) = is_missing w end
-lacks_end w (Finish end near flow) = is_missing w end
-lacks_end w (Introduce end) = is_missing w end
-lacks_end w (Redirect end peer list) = is_missing w end || is_missing w peer
-lacks_end w (Deliver number end from) = is_missing w end
-lacks_end w (Bent number place end from) = is_missing w end
-lacks_end w (Inject end from bytes) = is_missing w end
-lacks_end w (Forge end from plain) = is_missing w end
-lacks_end w (Tick end) = is_missing w end
+lacks_end w step = lacks_end_in w (deed_of step)
 
 -- ---- a datagram that isn't there
 
+abbrev pub lacks_datagram_in : Seen → Deed → Bool
+lacks_datagram_in w (Brings end from source) = is_none (datagram_had (sent_in w.lines) source)
+lacks_datagram_in w deed = false
+
 abbrev pub lacks_datagram : Seen → Step → Bool
-lacks_datagram w (Deliver number end from) =
-    is_none (datagram_of (sent_in w.lines) (Deliver number end from))
-lacks_datagram w (Bent number place end from) =
-    is_none (datagram_of (sent_in w.lines) (Bent number place end from))
-lacks_datagram w step = false
+lacks_datagram w step = lacks_datagram_in w (deed_of step)
 
 -- ---- a step outside its limits
 
@@ -58,14 +53,22 @@ is_outside most count = (count == 0) || nat_lt most count
 abbrev pub is_like : List ℕ → List ℕ → EndSeen → Bool
 is_like name cert end = bytes_eq end.name name || bytes_eq (own_of end.setup) (sha256 cert)
 
-abbrev pub is_bad : Seen → Step → Bool
-is_bad w (End name max_peers max_sessions cert) =
+-- the bytes or the plain packet that are brought are too long
+abbrev pub is_long : Source → Bool
+is_long (Injected bytes) = nat_lt 2048 (length bytes)
+is_long (Sealed plain) = nat_lt 1164 (length plain)
+is_long source = false
+
+abbrev pub is_bad_in : Seen → Deed → Bool
+is_bad_in w (NewEnd name max_peers max_sessions cert) =
     list_any (is_like name cert) w.ends || nat_le 1024 (length w.ends)
     || is_outside 1048576 max_peers || is_outside 65536 max_sessions
-is_bad w (At moment) = nat_lt moment w.moment
-is_bad w (Inject end from bytes) = nat_lt 2048 (length bytes)
-is_bad w (Forge end from plain) = nat_lt 1164 (length plain)
-is_bad w step = false
+is_bad_in w (NewMoment moment) = nat_lt moment w.moment
+is_bad_in w (Calls end call) = false
+is_bad_in w (Brings end from source) = is_long source
+
+abbrev pub is_bad : Seen → Step → Bool
+is_bad w step = is_bad_in w (deed_of step)
 
 -- ---- a datagram that is forged
 
@@ -88,15 +91,13 @@ abbrev pub is_forged_by : Seen → ℕ → Option (List ℕ) → Bool
 is_forged_by w end None = false
 is_forged_by w end (Some bytes) = is_forged_at w.ends end bytes (sent_in w.lines)
 
+abbrev pub is_forged_in : Seen → Deed → Bool
+is_forged_in w (Brings end from source) =
+    is_forged_by w end (datagram_had (sent_in w.lines) source)
+is_forged_in w deed = false
+
 abbrev pub is_forged : Seen → Step → Bool
-is_forged w (Deliver number end from) = is_forged_by w end
-    (datagram_of (sent_in w.lines) (Deliver number end from))
-is_forged w (Bent number place end from) = is_forged_by w end
-    (datagram_of (sent_in w.lines) (Bent number place end from))
-is_forged w (Inject end from bytes) = is_forged_by w end (Some bytes)
-is_forged w (Forge end from plain) = is_forged_by w end
-    (datagram_of (sent_in w.lines) (Forge end from plain))
-is_forged w step = false
+is_forged w step = is_forged_in w (deed_of step)
 
 -- why the step is refused, but for want of memory
 abbrev pub step_fault : Seen → Step → Option StepFault

@@ -1,5 +1,5 @@
 -- What each step keeps of a world.
-use Rattle.std.specs.Prelude.{ℕ, ◌≡◌, ◌<◌, ◌^◌, ◌⊎◌, List, [], ◌∷◌, length, slice_get, Some}
+use Rattle.std.specs.Prelude.{ℕ, ◌≡◌, ◌<◌, ◌^◌, ◌⊎◌, List, [], ◌∷◌, length, slice_get, Option, Some, None}
 use Rattle.std.specs.List.{AllByRecursion}
 use Rattle.glare_core.specs.Steps.{Among}
 use Rattle.glare_core.specs.Told.{AllDifferent}
@@ -8,7 +8,8 @@ use Rattle.endpoint_laws.specs.Laws.{IsSetup, AreCalls}
 use Rattle.endpoint_laws.specs.History.{log_of, IsHonest, nonces_in}
 use Rattle.rendezvous_world.specs.declared.journal.JournalLine.{JournalLine}
 use Rattle.rendezvous_world.specs.declared.step.Step.{Step}
-use Rattle.rendezvous_world.specs.declared.step.Step.TheVariants.{End, At, Introduce, Redirect, Open, Cancel, Close, Flow, Queue, Abandon, Finish, Deliver, Bent, Inject, Forge, Tick}
+use Rattle.rendezvous_world.specs.Deed.{Deed, Calls, deed_of}
+use Rattle.rendezvous_world.specs.Calls.{peer_in}
 use Rattle.rendezvous_world.specs.Draws.{two_numbers}
 use Rattle.rendezvous_world.specs.Seen.{EndSeen, Seen, group_secret, setup_at}
 use Rattle.rendezvous_world.specs.History.{history_of}
@@ -31,24 +32,17 @@ name_of end = end.name
 abbrev pub print_of : EndSeen → List ℕ
 print_of end = own_of end.setup
 
--- The peer that the step opens towards is one of so many ends.
+-- The end that a call names is one of so many.
+abbrev pub IsNamed : ℕ → Option ℕ → Type 0
+IsNamed count None = Unit {0}
+IsNamed count (Some peer) = peer < count
+
+abbrev pub HasPeerIn : ℕ → Deed → Type 0
+HasPeerIn count (Calls end call) = IsNamed count (peer_in call)
+HasPeerIn count deed = Unit {0}
+
 abbrev pub HasPeer : ℕ → Step → Type 0
-HasPeer count (End name max_peers max_sessions cert) = Unit {0}
-HasPeer count (At moment) = Unit {0}
-HasPeer count (Open end peer list) = peer < count
-HasPeer count (Cancel end n) = Unit {0}
-HasPeer count (Close end near) = Unit {0}
-HasPeer count (Flow end near priority metadata answers) = Unit {0}
-HasPeer count (Queue end near flow options message) = Unit {0}
-HasPeer count (Abandon end near flow seq) = Unit {0}
-HasPeer count (Finish end near flow) = Unit {0}
-HasPeer count (Introduce end) = Unit {0}
-HasPeer count (Redirect end peer list) = peer < count
-HasPeer count (Deliver number end from) = Unit {0}
-HasPeer count (Bent number place end from) = Unit {0}
-HasPeer count (Inject end from bytes) = Unit {0}
-HasPeer count (Forge end from plain) = Unit {0}
-HasPeer count (Tick end) = Unit {0}
+HasPeer count step = HasPeerIn count (deed_of step)
 
 -- The line is of one of so many ends, and its number fits into 32 bits.
 pub record IsLineIn (count : ℕ) (line : JournalLine) : Type 0 where

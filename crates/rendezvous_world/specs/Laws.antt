@@ -9,10 +9,10 @@ use Rattle.endpoint_laws.specs.Laws.{AreBytes}
 use Rattle.endpoint_laws.specs.Agreed.{IsAgreed}
 use Rattle.rendezvous_world.specs.declared.journal.JournalLine.{JournalLine}
 use Rattle.rendezvous_world.specs.declared.step.Step.{Step}
-use Rattle.rendezvous_world.specs.declared.step.Step.TheVariants.{End}
+use Rattle.rendezvous_world.specs.Deed.{Deed, NewEnd, deed_of}
 use Rattle.rendezvous_world.specs.Seen.{EndSeen, Seen, setup_at}
 use Rattle.rendezvous_world.specs.Sent.{sent_in}
-use Rattle.rendezvous_world.specs.Datagrams.{datagram_of}
+use Rattle.rendezvous_world.specs.Datagrams.{datagram_in}
 use Rattle.rendezvous_world.specs.History.{bytes_or_none, history_of}
 use Rattle.rendezvous_world.specs.Faults.{is_forged_at, step_fault}
 use Rattle.rendezvous_world.specs.Stepping.{Called, Stepped, StoppedIn, Noted}
@@ -59,9 +59,12 @@ abbrev pub empty_world : Seen
 empty_world = record { moment = 0; ends = []; lines = [] }
 
 -- A new end is given a certificate, and the datagram that a step brings is bytes.
+abbrev pub IsSizedIn : Seen → Deed → Type 0
+IsSizedIn w (NewEnd name max_peers max_sessions cert) = IsCertificate cert
+IsSizedIn w deed = AreBytes (bytes_or_none (datagram_in (sent_in w.lines) deed))
+
 abbrev pub IsSized : Seen → Step → Type 0
-IsSized w (End name max_peers max_sessions cert) = IsCertificate cert
-IsSized w step = AreBytes (bytes_or_none (datagram_of (sent_in w.lines) step))
+IsSized w step = IsSizedIn w (deed_of step)
 
 -- A step that isn't refused keeps it, whether it was done or found no memory, also where an end has
 -- noted the moment alone.

@@ -1,4 +1,6 @@
 pub mod Line
+pub mod Deed
+pub mod Calls
 pub mod Seen
 pub mod Draws
 pub mod Sent

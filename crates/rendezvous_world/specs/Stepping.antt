@@ -1,24 +1,19 @@
 -- What a step leaves.
-use Rattle.std.specs.Prelude.{ℕ, ◌≡◌, ◌≢◌, ◌-◌, ◌==◌, true, false, List, [], ◌∷◌, ◌++◌, Option, Some, None, IsSome, IfSome, is_some, slice_get, if◌then◌else◌}
+use Rattle.std.specs.Prelude.{ℕ, ◌≡◌, ◌-◌, ◌==◌, true, false, List, [], ◌∷◌, ◌++◌, Option, Some, None, is_some, slice_get, if◌then◌else◌}
 use Rattle.sha2.specs.Sha256.{sha256}
 use Rattle.endpoint_model.specs.Event.{Setup}
 use Rattle.endpoint_model.specs.State.{State, fresh, at_moment}
-use Rattle.endpoint_model.specs.InSessions.{held_row}
-use Rattle.endpoint_model.specs.Effects.{open_refusal}
-use Rattle.endpoint_model.specs.Log.{Step as StepOf, not_taken}
+use Rattle.endpoint_model.specs.Log.{Step as StepOf}
 use Rattle.rendezvous_world.specs.declared.journal.JournalLine.{JournalLine}
 use Rattle.rendezvous_world.specs.declared.journal.Refused.{Refused}
-use Rattle.rendezvous_world.specs.declared.journal.Refused.TheVariants.{Open as OpenRefused, Call as CallRefused, Row as RowRefused}
-use Rattle.endpoint_model.specs.declared.answers.OpenRefusal.TheVariants.{Memory as NoMemoryToOpen}
-use Rattle.endpoint_model.specs.declared.answers.CallRefusal.TheVariants.{Memory as NoMemoryToCall}
-use Rattle.introducer.specs.declared.refusal.RowRefusal.TheVariants.{Memory as NoMemoryForRow}
 use Rattle.endpoint_model.specs.declared.answers.Stopped.{Stopped as Stop}
 use Rattle.rendezvous_world.specs.declared.step.Step.{Step}
-use Rattle.rendezvous_world.specs.declared.step.Step.TheVariants.{End, At, Introduce, Redirect, Open, Cancel, Close, Flow, Queue, Abandon, Finish, Deliver, Bent, Inject, Forge, Tick}
 use Rattle.rendezvous_world.specs.Seen.{EndSeen, Seen, group_secret, print_at}
 use Rattle.rendezvous_world.specs.Sent.{sent_in}
 use Rattle.rendezvous_world.specs.Datagrams.{datagram_of}
-use Rattle.rendezvous_world.specs.History.{event_of}
+use Rattle.rendezvous_world.specs.Deed.{Deed, NewEnd, NewMoment, Calls, Brings, deed_of, end_of}
+use Rattle.rendezvous_world.specs.Calls.{peer_in, MayAnswer, IsAllowed}
+use Rattle.rendezvous_world.specs.History.{event_of, peer_or}
 
 -- what a new end is given
 abbrev pub new_setup : ℕ → ℕ → List ℕ → Setup
@@ -49,54 +44,17 @@ with_state (end ∷ ends) who state = if who == 0 then in_state end state ∷ en
 
 -- the end that a step calls; of others it says nothing
 abbrev pub called_by : Step → ℕ
-called_by (End name max_peers max_sessions cert) = 0
-called_by (At moment) = 0
-called_by (Open end peer list) = end
-called_by (Cancel end n) = end
-called_by (Close end near) = end
-called_by (Flow end near priority metadata answers) = end
-called_by (Queue end near flow options message) = end
-called_by (Abandon end near flow seq) = end
-called_by (Finish end near flow) = end
-called_by (Introduce end) = end
-called_by (Redirect end peer list) = end
-called_by (Deliver number end from) = end
-called_by (Bent number place end from) = end
-called_by (Inject end from bytes) = end
-called_by (Forge end from plain) = end
-called_by (Tick end) = end
+called_by step = end_of (deed_of step)
 
--- The call was done, or refused for another reason than want of memory.
-pub record IsDoneOrRefused (refused : Option Refused) : Type 0 where
-  pub opened : refused ≢ Some (OpenRefused NoMemoryToOpen)
-  pub called : refused ≢ Some (CallRefused NoMemoryToCall)
-  pub added : refused ≢ Some (RowRefused NoMemoryForRow)
+-- What the line of a step can tell of its answer: a call tells what it can answer, and a datagram is
+-- done or stopped. A new end and a new moment call no end and have no line.
+abbrev pub HasAnswer : Deed → Option Refused → Option Stop → Type 0
+HasAnswer (Calls end call) refused stopped = MayAnswer call refused stopped
+HasAnswer (Brings end from source) refused stopped = refused ≡ None
+HasAnswer deed refused stopped = ⊥
 
--- What the line of a step can tell of its answer: an open, a cancel, a close, a call on flows and a
--- row are done or refused, that an end introduces is done, and the others are done or stopped. A
--- call that is refused for want of memory has no line, and a new end and a new moment call no end
--- and have none.
 abbrev pub HasItsAnswer : Step → Option Refused → Option Stop → Type 0
-HasItsAnswer (End name max_peers max_sessions cert) refused stopped = ⊥
-HasItsAnswer (At moment) refused stopped = ⊥
-HasItsAnswer (Open end peer list) refused stopped = (stopped ≡ None) × IsDoneOrRefused refused
-HasItsAnswer (Cancel end n) refused stopped = (stopped ≡ None) × IsDoneOrRefused refused
-HasItsAnswer (Close end near) refused stopped = (stopped ≡ None) × IsDoneOrRefused refused
-HasItsAnswer (Flow end near priority metadata answers) refused stopped = (stopped ≡ None) ×
-    IsDoneOrRefused refused
-HasItsAnswer (Queue end near flow options message) refused stopped = (stopped ≡ None) ×
-    IsDoneOrRefused refused
-HasItsAnswer (Abandon end near flow seq) refused stopped = (stopped ≡ None) ×
-    IsDoneOrRefused refused
-HasItsAnswer (Finish end near flow) refused stopped = (stopped ≡ None) × IsDoneOrRefused refused
-HasItsAnswer (Introduce end) refused stopped = (refused ≡ None) × (stopped ≡ None)
-HasItsAnswer (Redirect end peer list) refused stopped = (stopped ≡ None) × IsDoneOrRefused refused
-HasItsAnswer (Deliver number end from) refused stopped = refused ≡ None
-HasItsAnswer (Bent number place end from) refused stopped = refused ≡ None
-HasItsAnswer (Inject end from bytes) refused stopped = refused ≡ None
-HasItsAnswer (Forge end from plain) refused stopped = refused ≡ None
-HasItsAnswer (Tick end) refused stopped = (refused ≡ None) ×
-    IfSome stopped (λ stop. stop ≡ not_taken)
+HasItsAnswer step refused stopped = HasAnswer (deed_of step) refused stopped
 
 -- The line tells of its answer what its step can answer.
 abbrev pub IsAnswered : JournalLine → Type 0
@@ -124,13 +82,16 @@ pub record Called (w : Seen) (number : ℕ) (step : Step) (line : JournalLine) (
   pub ends : t.ends ≡ with_state w.ends line.end state
   pub lines : t.lines ≡ w.lines ++ line ∷ []
 
+abbrev pub SteppedAs : Seen → ℕ → Step → Deed → Seen → Type 0
+SteppedAs w number step (NewEnd name max_peers max_sessions cert) t =
+    t ≡ with_end w (new_end name (new_setup max_peers max_sessions cert))
+SteppedAs w number step (NewMoment moment) t = t ≡ with_moment w moment
+SteppedAs w number step deed t = (line : JournalLine) × (is_some line.stopped ≡ false) ×
+    Called w number step line t
+
 -- The step was done, and memory was found for all of it.
 abbrev pub Stepped : Seen → ℕ → Step → Seen → Type 0
-Stepped w number (End name max_peers max_sessions cert) t =
-    t ≡ with_end w (new_end name (new_setup max_peers max_sessions cert))
-Stepped w number (At moment) t = t ≡ with_moment w moment
-Stepped w number step t = (line : JournalLine) × (is_some line.stopped ≡ false) ×
-    Called w number step line t
+Stepped w number step t = SteppedAs w number step (deed_of step) t
 
 -- A datagram or a tick found no memory; the journal has what was done.
 pub record StoppedIn (w : Seen) (number : ℕ) (step : Step) (t : Seen) : Type 0 where
@@ -138,11 +99,13 @@ pub record StoppedIn (w : Seen) (number : ℕ) (step : Step) (t : Seen) : Type 0
   pub stopped : is_some line.stopped ≡ true
   pub called : Called w number step line t
 
--- The step is an open or a close, which nothing but want of memory refuses at an end in this state.
+-- The deed is an open or a close, which nothing but want of memory refuses at an end in this state.
+abbrev pub AllowsIn : List EndSeen → State → Deed → Type 0
+AllowsIn ends s (Calls end call) = IsAllowed (print_at ends (peer_or end (peer_in call))) s call
+AllowsIn ends s deed = ⊥
+
 abbrev pub Allows : List EndSeen → State → Step → Type 0
-Allows ends s (Open end peer list) = open_refusal s (print_at ends peer) list ≡ None
-Allows ends s (Close end near) = IsSome (held_row s near)
-Allows ends s step = ⊥
+Allows ends s step = AllowsIn ends s (deed_of step)
 
 -- An open or a close found no memory: all is as before, but that the end that was called keeps the
 -- moment of the world, where it kept an earlier one.

@@ -4,7 +4,7 @@ ghost use Rattle.std.specs.Prelude.{◌≡◌, ◌<◌, ◌≤◌, ◌^◌, IfOk
 ghost use Rattle.std.specs.List.{list_any};
 ghost use Rattle.endpoint_laws.specs.Laws.{AreBytes};
 ghost use Rattle.rendezvous_world.specs.Datagrams.{nth};
-ghost use Rattle.rendezvous_world.specs.Entering.{IsBringing, IsDone, IsFetched, IsFetchedFor};
+ghost use Rattle.rendezvous_world.specs.Entering.{bringing, IsBringing, IsDone, IsFetched, IsFetchedFor};
 ghost use Rattle.rendezvous_world.specs.Faults.{is_forged_by, is_sent};
 ghost use Rattle.rendezvous_world.specs.Inside.{sent_found};
 ghost use Rattle.rendezvous_world.specs.Sent.{sent_in};
@@ -12,21 +12,13 @@ ghost use Rattle.rendezvous_world.specs.Sound.{AreBelow};
 
 use crate::forgery::{PLAIN_AT, forge};
 use crate::sent::{Letter, find};
-use crate::step::{Step, StepFault};
+use crate::step::{Source, Step, StepFault};
 use crate::world::World;
 use crypto_profile::Context;
+use rtmfp_base::limits::{PLAIN, SENT, TAKEN};
 use rtmfp_base::{Memory, Message};
 use rtmfp_forms::Address;
 use std::alloc::Global;
-
-/// The most bytes of a datagram that reaches an end.
-const MOST_BYTES: usize = 2048;
-
-/// The most bytes of a datagram that an end sends.
-const MOST_SENT: usize = 1200;
-
-/// The most bytes of a plain packet that is forged.
-const MOST_PLAIN: usize = 1164;
 
 /// A sent datagram, for an end that it is brought to.
 #[derive(Clone, Copy)]
@@ -164,11 +156,33 @@ impl World {
             Ok(datagram) => datagram,
             Err(_) => return Err(StepFault::Memory),
         };
-        self.enter(line, end, step, Some(datagram), bytes)
+        self.enter(line, end, end, step, Some(datagram), bytes)
+    }
+
+    /// Brings a datagram to an end, as it is had.
+    pub(crate) fn bring_by(
+        &mut self,
+        line: u64,
+        end: usize,
+        from: &Address,
+        source: &Source<'_>,
+        step: &Step,
+    ) -> Result<(), StepFault>
+        requires above { AreBelow self.old.lines line }
+        requires fits { line < 2 ^ 32 }
+        requires step { step.now ≡ bringing end from.now source.now }
+        ensures { IsDone self.old line step.now result self.new }
+    {
+        match source {
+            Source::Delivered(number) => self.deliver(line, step, *number, end, from),
+            Source::Turned(number, place) => self.bend(line, step, *number, *place, end, from),
+            Source::Injected(bytes) => self.inject(line, step, end, from, bytes),
+            Source::Sealed(plain) => self.forge(line, step, end, from, plain),
+        }
     }
 
     /// Brings a sent datagram to an end.
-    pub(crate) fn deliver(
+    fn deliver(
         &mut self,
         line: u64,
         step: &Step,
@@ -184,7 +198,7 @@ impl World {
         if self.lacks(end) {
             return Err(StepFault::NoEnd);
         }
-        let mut room = [0; MOST_SENT];
+        let mut room = [0; SENT];
         let length = match self.fetch_for(end, number, &mut room) {
             Fetched::Missing => return Err(StepFault::NoDatagram),
             Fetched::Forged => return Err(StepFault::Forged),
@@ -195,7 +209,7 @@ impl World {
     }
 
     /// Brings a sent datagram with one bit turned to an end.
-    pub(crate) fn bend(
+    fn bend(
         &mut self,
         line: u64,
         step: &Step,
@@ -212,7 +226,7 @@ impl World {
         if self.lacks(end) {
             return Err(StepFault::NoEnd);
         }
-        let mut room = [0; MOST_SENT];
+        let mut room = [0; SENT];
         let length = match self.fetch(number, &mut room) {
             Some(length) => length,
             None => return Err(StepFault::NoDatagram),
@@ -226,7 +240,7 @@ impl World {
     }
 
     /// Brings bytes to an end.
-    pub(crate) fn inject(
+    fn inject(
         &mut self,
         line: u64,
         step: &Step,
@@ -242,17 +256,17 @@ impl World {
         if self.lacks(end) {
             return Err(StepFault::NoEnd);
         }
-        if bytes.len() > MOST_BYTES {
+        if bytes.len() > TAKEN {
             return Err(StepFault::BadStep);
         }
-        let mut room = [0; MOST_BYTES];
+        let mut room = [0; TAKEN];
         let (datagram, _) = room.split_at_mut(bytes.len());
         datagram.copy_from_slice(bytes.bytes());
         self.bring(line, end, step, datagram)
     }
 
     /// Brings a plain packet to an end, sealed by somebody who is no end.
-    pub(crate) fn forge(
+    fn forge(
         &mut self,
         line: u64,
         step: &Step,
@@ -268,10 +282,10 @@ impl World {
         if self.lacks(end) {
             return Err(StepFault::NoEnd);
         }
-        if plain.len() > MOST_PLAIN {
+        if plain.len() > PLAIN {
             return Err(StepFault::BadStep);
         }
-        let mut room = [0; MOST_BYTES];
+        let mut room = [0; TAKEN];
         let (datagram, _) = room.split_at_mut(PLAIN_AT + plain.len());
         forge(datagram, plain.bytes());
         self.bring(line, end, step, datagram)

@@ -1,18 +1,18 @@
 //! The calls of ends that steps make.
 
-ghost use Rattle.std.specs.Prelude.{◌≡◌, ◌≢◌, ◌<◌, ◌≤◌, ◌^◌, [], false, length, Err, IfSome, IsSome, None, true};
+ghost use Rattle.std.specs.Prelude.{◌≡◌, ◌≢◌, ◌<◌, ◌≤◌, ◌^◌, [], false, length, Err, IfSome, None, true};
 ghost use Rattle.endpoint_model.specs.Effects.{open_refusal};
-ghost use Rattle.endpoint_model.specs.Event.{AddRow, Cancel as CancelCall, Close as CloseCall, Done, Introduce, OnFlows, Open as OpenCall, Receive, Tick as TickCall};
-ghost use Rattle.endpoint_model.specs.FlowCall.{Abandon as AbandonCall, Finish as FinishCall, OpenFlow, Queue as QueueCall};
-ghost use Rattle.endpoint_model.specs.InSessions.{held_row};
+ghost use Rattle.endpoint_model.specs.Event.{AddRow, Cancel as CancelCall, Done, Introduce, OnFlows, Open as OpenCall, Receive, Tick as TickCall};
+ghost use Rattle.endpoint_model.specs.FlowCall.{Queue as QueueCall};
 ghost use Rattle.endpoint_model.specs.Log.{Step as StepOf, answer_of_call, not_taken};
 ghost use Rattle.endpoint_model.specs.State.{at_moment};
+ghost use Rattle.rendezvous_world.specs.Calls.{IsDoneOrRefused, answer_to_call, answer_to_datagram, answer_to_open, answer_to_tick};
 ghost use Rattle.rendezvous_world.specs.Entering.{CallsAnEnd, IsUndone, event_by};
-ghost use Rattle.rendezvous_world.specs.History.{answer_to_call, answer_to_datagram, answer_to_open, answer_to_tick};
-ghost use Rattle.rendezvous_world.specs.Stepping.{HasItsAnswer, IsDoneOrRefused};
+ghost use Rattle.rendezvous_world.specs.Line.{refused_kept, stopped_kept};
+ghost use Rattle.rendezvous_world.specs.Stepping.{HasItsAnswer};
 
 use crate::draws::draws_of;
-use crate::journal::Refused;
+use crate::journal::{Answered, Refused};
 use crate::step::{Addresses, Step};
 use endpoint::{
     CallRefusal, Draws, Endpoint, MessageOptions, OpenRefusal, Outbox, RowRefusal, Stopped,
@@ -24,14 +24,17 @@ use rtmfp_forms::Address;
 /// What a call answered.
 #[derive(Clone, Copy)]
 pub(crate) struct Outcome {
-    /// Why it was refused.
-    pub(crate) refused: Option<Refused>,
-    /// How far it came, where it found no memory in the middle.
-    pub(crate) stopped: Option<Stopped>,
+    pub(crate) answer: Answered,
     /// It was refused for want of memory: it added nothing, and the end is as before, but that an
     /// open or a close has noted the moment.
     pub(crate) undone: bool,
 }
+
+/// That a call was done.
+const DONE: Outcome = Outcome {
+    answer: Answered::Done,
+    undone: false,
+};
 
 /// Makes the call of the step of a line at a moment. The fingerprint is that of the peer of an
 /// open or a row, and the bytes those of the datagram that the step brings.
@@ -49,8 +52,9 @@ pub(crate) fn call_end(
     requires short { length bytes.old ≤ 2048 }
     requires empty { out.old.entries ≡ [] }
     ensures event { StepOf endpoint.old (event_by print.now line moment step.now bytes.old
-        result.refused result.stopped out.new.entries) endpoint.new }
-    ensures answer { result.undone ≡ false → HasItsAnswer step.now result.refused result.stopped }
+        (refused_kept result.answer) (stopped_kept result.answer) out.new.entries) endpoint.new }
+    ensures answer { result.undone ≡ false →
+        HasItsAnswer step.now (refused_kept result.answer) (stopped_kept result.answer) }
     ensures undone { result.undone ≡ true →
         IsUndone print.now moment step.now endpoint.old endpoint.new }
 {
@@ -60,14 +64,14 @@ pub(crate) fn call_end(
         Step::At { .. } => unreachable!(),
         Step::Open { list, .. } => open(endpoint, print, list, moment, &draws, out),
         Step::Cancel { n, .. } => cancel(endpoint, *n, out),
-        Step::Close { near, .. } => close(endpoint, *near, moment, out),
+        Step::Close { near, .. } => told(endpoint.close(*near, moment, out)),
         Step::Flow {
             near,
             priority,
             metadata,
             answers,
             ..
-        } => open_flow(endpoint, *near, *priority, metadata, *answers, out),
+        } => told(endpoint.open_flow(*near, *priority, metadata.bytes(), *answers, out)),
         Step::Queue {
             near,
             flow,
@@ -80,8 +84,8 @@ pub(crate) fn call_end(
             flow,
             seq,
             ..
-        } => abandon(endpoint, *near, *flow, *seq, out),
-        Step::Finish { near, flow, .. } => finish(endpoint, *near, *flow, out),
+        } => told(endpoint.abandon(*near, *flow, *seq, out)),
+        Step::Finish { near, flow, .. } => told(endpoint.finish(*near, *flow, out)),
         Step::Introduce { .. } => introduce(endpoint, out),
         Step::Redirect { list, .. } => add_row(endpoint, print, list, out),
         Step::Deliver { from, .. } => receive(endpoint, from, moment, bytes, &draws, out),
@@ -106,24 +110,19 @@ fn open(
       moment = moment;
       call = OpenCall print.now list.now draws.now;
       answer =
-          answer_to_open result.refused out.new.entries;
+          answer_to_open (refused_kept result.answer) out.new.entries;
       entries = out.new.entries;
     }) endpoint.new }
-    ensures stopped { result.stopped ≡ None }
-    ensures answer { result.undone ≡ false → IsDoneOrRefused result.refused }
+    ensures stopped { stopped_kept result.answer ≡ None }
+    ensures answer { result.undone ≡ false → IsDoneOrRefused (refused_kept result.answer) }
     ensures refused { result.undone ≡ true → open_refusal endpoint.old print.now list.now ≡ None }
     ensures noted { result.undone ≡ true → endpoint.new ≡ at_moment endpoint.old moment }
 {
     let epd = Epd { print: *print };
     match endpoint.open(&epd, list.as_slice(), moment, draws, out) {
-        Ok(_) => Outcome {
-            refused: None,
-            stopped: None,
-            undone: false,
-        },
+        Ok(_) => DONE,
         Err(refusal) => Outcome {
-            refused: Some(Refused::Open(refusal)),
-            stopped: None,
+            answer: Answered::Refused(Refused::Open(refusal)),
             undone: found_none_to_open(refusal),
         },
     }
@@ -135,66 +134,22 @@ fn found_none_to_open(refusal: OpenRefusal) -> bool
     ensures no { result ≡ false → refusal ≢ OpenRefusal.Memory }
 {
     match refusal {
-        OpenRefusal::Candidates(_) => false,
-        OpenRefusal::Start(_) => false,
-        OpenRefusal::SessionsFull(_) => false,
         OpenRefusal::Memory => true,
+        _ => false,
     }
 }
 
-/// Gives up the attempt with this number.
-fn cancel(endpoint: &mut Endpoint, n: u64, out: &mut Outbox) -> Outcome
-    requires { out.old.entries ≡ [] }
-    ensures event { StepOf endpoint.old (record {
-      moment = 0;
-      call = CancelCall n;
-      answer = answer_to_call result.refused;
-      entries = out.new.entries;
-    }) endpoint.new }
-    ensures stopped { result.stopped ≡ None }
-    ensures answer { result.undone ≡ false → IsDoneOrRefused result.refused }
-    ensures undone { result.undone ≡ true → endpoint.new ≡ endpoint.old }
-{
-    told(endpoint.cancel(n, out))
-}
-
-/// What a call answered that gives nothing.
-fn told(answer: Result<(), CallRefusal>) -> Outcome
-    ensures answer { answer_to_call result.refused ≡ answer_of_call answer }
-    ensures stopped { result.stopped ≡ None }
-    ensures done { result.undone ≡ false → IsDoneOrRefused result.refused }
+/// What a call answered; a number that it gives its entry has as well.
+fn told<T: Drop>(answer: Result<T, CallRefusal>) -> Outcome
+    ensures answer { answer_to_call (refused_kept result.answer) ≡ answer_of_call answer }
+    ensures stopped { stopped_kept result.answer ≡ None }
+    ensures done { result.undone ≡ false → IsDoneOrRefused (refused_kept result.answer) }
     ensures undone { result.undone ≡ true → answer ≡ Err CallRefusal.Memory }
 {
     match answer {
-        Ok(()) => Outcome {
-            refused: None,
-            stopped: None,
-            undone: false,
-        },
+        Ok(_) => DONE,
         Err(refusal) => Outcome {
-            refused: Some(Refused::Call(refusal)),
-            stopped: None,
-            undone: found_none_to_call(refusal),
-        },
-    }
-}
-
-/// What a call answered that gives a number, which its entry has as well.
-fn told_number(answer: Result<u64, CallRefusal>) -> Outcome
-    ensures answer { answer_to_call result.refused ≡ answer_of_call answer }
-    ensures stopped { result.stopped ≡ None }
-    ensures done { result.undone ≡ false → IsDoneOrRefused result.refused }
-    ensures undone { result.undone ≡ true → answer ≡ Err CallRefusal.Memory }
-{
-    match answer {
-        Ok(_) => Outcome {
-            refused: None,
-            stopped: None,
-            undone: false,
-        },
-        Err(refusal) => Outcome {
-            refused: Some(Refused::Call(refusal)),
-            stopped: None,
+            answer: Answered::Refused(Refused::Call(refusal)),
             undone: found_none_to_call(refusal),
         },
     }
@@ -206,56 +161,25 @@ fn found_none_to_call(refusal: CallRefusal) -> bool
     ensures no { result ≡ false → refusal ≢ CallRefusal.Memory }
 {
     match refusal {
-        CallRefusal::NoAttempt => false,
-        CallRefusal::NoSession => false,
-        CallRefusal::NoFlow => false,
-        CallRefusal::FlowsFull(_) => false,
-        CallRefusal::WideMetadata(_) => false,
-        CallRefusal::Queue(_) => false,
-        CallRefusal::NotQueued => false,
-        CallRefusal::Finished => false,
         CallRefusal::Memory => true,
+        _ => false,
     }
 }
 
-/// Closes the session with this session ID.
-fn close(endpoint: &mut Endpoint, near: u32, moment: u64, out: &mut Outbox) -> Outcome
-    requires { out.old.entries ≡ [] }
-    ensures event { StepOf endpoint.old (record {
-      moment = moment;
-      call = CloseCall near;
-      answer = answer_to_call result.refused;
-      entries = out.new.entries;
-    }) endpoint.new }
-    ensures stopped { result.stopped ≡ None }
-    ensures answer { result.undone ≡ false → IsDoneOrRefused result.refused }
-    ensures held { result.undone ≡ true → IsSome (held_row endpoint.old near) }
-    ensures noted { result.undone ≡ true → endpoint.new ≡ at_moment endpoint.old moment }
-{
-    told(endpoint.close(near, moment, out))
-}
-
-/// Opens a flow in a session.
-fn open_flow(
-    endpoint: &mut Endpoint,
-    near: u32,
-    priority: u8,
-    metadata: &Message,
-    answers: Option<u64>,
-    out: &mut Outbox,
-) -> Outcome
+/// Gives up the attempt with this number.
+fn cancel(endpoint: &mut Endpoint, n: u64, out: &mut Outbox) -> Outcome
     requires { out.old.entries ≡ [] }
     ensures event { StepOf endpoint.old (record {
       moment = 0;
-      call = OnFlows near (OpenFlow priority metadata.now answers);
-      answer = answer_to_call result.refused;
+      call = CancelCall n;
+      answer = answer_to_call (refused_kept result.answer);
       entries = out.new.entries;
     }) endpoint.new }
-    ensures stopped { result.stopped ≡ None }
-    ensures answer { result.undone ≡ false → IsDoneOrRefused result.refused }
+    ensures stopped { stopped_kept result.answer ≡ None }
+    ensures answer { result.undone ≡ false → IsDoneOrRefused (refused_kept result.answer) }
     ensures undone { result.undone ≡ true → endpoint.new ≡ endpoint.old }
 {
-    told_number(endpoint.open_flow(near, priority, metadata.bytes(), answers, out))
+    told(endpoint.cancel(n, out))
 }
 
 /// Queues a message in a flow.
@@ -271,46 +195,14 @@ fn queue(
     ensures event { StepOf endpoint.old (record {
       moment = 0;
       call = OnFlows near (QueueCall flow message.now options);
-      answer = answer_to_call result.refused;
+      answer = answer_to_call (refused_kept result.answer);
       entries = out.new.entries;
     }) endpoint.new }
-    ensures stopped { result.stopped ≡ None }
-    ensures answer { result.undone ≡ false → IsDoneOrRefused result.refused }
+    ensures stopped { stopped_kept result.answer ≡ None }
+    ensures answer { result.undone ≡ false → IsDoneOrRefused (refused_kept result.answer) }
     ensures undone { result.undone ≡ true → endpoint.new ≡ endpoint.old }
 {
-    told_number(endpoint.queue(near, flow, message.bytes(), options, out))
-}
-
-/// Abandons a message of a flow.
-fn abandon(endpoint: &mut Endpoint, near: u32, flow: u64, seq: u64, out: &mut Outbox) -> Outcome
-    requires { out.old.entries ≡ [] }
-    ensures event { StepOf endpoint.old (record {
-      moment = 0;
-      call = OnFlows near (AbandonCall flow seq);
-      answer = answer_to_call result.refused;
-      entries = out.new.entries;
-    }) endpoint.new }
-    ensures stopped { result.stopped ≡ None }
-    ensures answer { result.undone ≡ false → IsDoneOrRefused result.refused }
-    ensures undone { result.undone ≡ true → endpoint.new ≡ endpoint.old }
-{
-    told(endpoint.abandon(near, flow, seq, out))
-}
-
-/// Finishes a flow.
-fn finish(endpoint: &mut Endpoint, near: u32, flow: u64, out: &mut Outbox) -> Outcome
-    requires { out.old.entries ≡ [] }
-    ensures event { StepOf endpoint.old (record {
-      moment = 0;
-      call = OnFlows near (FinishCall flow);
-      answer = answer_to_call result.refused;
-      entries = out.new.entries;
-    }) endpoint.new }
-    ensures stopped { result.stopped ≡ None }
-    ensures answer { result.undone ≡ false → IsDoneOrRefused result.refused }
-    ensures undone { result.undone ≡ true → endpoint.new ≡ endpoint.old }
-{
-    told(endpoint.finish(near, flow, out))
+    told(endpoint.queue(near, flow, message.bytes(), options, out))
 }
 
 /// The end introduces others from now on.
@@ -322,17 +214,13 @@ fn introduce(endpoint: &mut Endpoint, out: &mut Outbox) -> Outcome
       answer = Done;
       entries = out.new.entries;
     }) endpoint.new }
-    ensures refused { result.refused ≡ None }
-    ensures stopped { result.stopped ≡ None }
+    ensures refused { refused_kept result.answer ≡ None }
+    ensures stopped { stopped_kept result.answer ≡ None }
     ensures undone { result.undone ≡ false }
 {
     let _out = out;
     endpoint.introduce();
-    Outcome {
-        refused: None,
-        stopped: None,
-        undone: false,
-    }
+    DONE
 }
 
 /// Adds a row of addresses for the end with this fingerprint.
@@ -341,23 +229,18 @@ fn add_row(endpoint: &mut Endpoint, print: &[u8; 32], list: &Addresses, out: &mu
     ensures event { StepOf endpoint.old (record {
       moment = 0;
       call = AddRow print.now list.now;
-      answer = answer_to_call result.refused;
+      answer = answer_to_call (refused_kept result.answer);
       entries = out.new.entries;
     }) endpoint.new }
-    ensures stopped { result.stopped ≡ None }
-    ensures answer { result.undone ≡ false → IsDoneOrRefused result.refused }
+    ensures stopped { stopped_kept result.answer ≡ None }
+    ensures answer { result.undone ≡ false → IsDoneOrRefused (refused_kept result.answer) }
     ensures undone { result.undone ≡ true → endpoint.new ≡ endpoint.old }
 {
     let _out = out;
     match endpoint.add_row(*print, list.as_slice()) {
-        Ok(()) => Outcome {
-            refused: None,
-            stopped: None,
-            undone: false,
-        },
+        Ok(()) => DONE,
         Err(refusal) => Outcome {
-            refused: Some(Refused::Row(refusal)),
-            stopped: None,
+            answer: Answered::Refused(Refused::Row(refusal)),
             undone: found_none_for_row(refusal),
         },
     }
@@ -369,9 +252,8 @@ fn found_none_for_row(refusal: RowRefusal) -> bool
     ensures no { result ≡ false → refusal ≢ RowRefusal.Memory }
 {
     match refusal {
-        RowRefusal::Candidates(_) => false,
-        RowRefusal::RowsFull(_) => false,
         RowRefusal::Memory => true,
+        _ => false,
     }
 }
 
@@ -389,21 +271,16 @@ fn receive(
     ensures event { StepOf endpoint.old (record {
       moment = moment;
       call = Receive from.now bytes.old draws.now;
-      answer = answer_to_datagram result.stopped;
+      answer = answer_to_datagram (stopped_kept result.answer);
       entries = out.new.entries;
     }) endpoint.new }
-    ensures refused { result.refused ≡ None }
+    ensures refused { refused_kept result.answer ≡ None }
     ensures undone { result.undone ≡ false }
 {
     match endpoint.receive(*from, moment, bytes, draws, out) {
-        Ok(()) => Outcome {
-            refused: None,
-            stopped: None,
-            undone: false,
-        },
+        Ok(()) => DONE,
         Err(stopped) => Outcome {
-            refused: None,
-            stopped: Some(stopped),
+            answer: Answered::Stopped(stopped),
             undone: false,
         },
     }
@@ -415,22 +292,17 @@ fn tick(endpoint: &mut Endpoint, moment: u64, draws: &Draws, out: &mut Outbox) -
     ensures event { StepOf endpoint.old (record {
       moment = moment;
       call = TickCall draws.now;
-      answer = answer_to_tick result.stopped;
+      answer = answer_to_tick (stopped_kept result.answer);
       entries = out.new.entries;
     }) endpoint.new }
-    ensures refused { result.refused ≡ None }
-    ensures taken { IfSome result.stopped (λ stop. stop ≡ not_taken) }
+    ensures refused { refused_kept result.answer ≡ None }
+    ensures taken { IfSome (stopped_kept result.answer) (λ stop. stop ≡ not_taken) }
     ensures undone { result.undone ≡ false }
 {
     match endpoint.tick(moment, draws, out) {
-        Ok(()) => Outcome {
-            refused: None,
-            stopped: None,
-            undone: false,
-        },
+        Ok(()) => DONE,
         Err(_) => Outcome {
-            refused: None,
-            stopped: Some(Stopped {
+            answer: Answered::Stopped(Stopped {
                 taken: false,
                 chunks: 0,
             }),

@@ -1,13 +1,15 @@
 //! A step that calls an end, and its line in the journal.
 
 ghost use Rattle.std.specs.Prelude.{◌≡◌, ◌<◌, ◌^◌, ◌++◌, ◌∷◌, [], IfOk, OnOk, get_or, length, vec_capacity, vec_len};
+ghost use Rattle.rendezvous_world.specs.Deed.{deed_of};
 ghost use Rattle.rendezvous_world.specs.Entering.{CallsAnEnd, IsEntered, IsEntering, answered};
-ghost use Rattle.rendezvous_world.specs.Line.{IsKeptAs, IsOne, step_kept};
+ghost use Rattle.rendezvous_world.specs.History.{peer_of};
+ghost use Rattle.rendezvous_world.specs.Line.{IsKeptAs, refused_kept, step_kept, stopped_kept};
 ghost use Rattle.rendezvous_world.specs.Stepping.{called_by};
 
-use crate::calls::{Outcome, call_end};
-use crate::journal::JournalLine;
-use crate::kept::{KeptAnswer, KeptStep, in_32_bits};
+use crate::calls::call_end;
+use crate::journal::{Answered, JournalLine};
+use crate::kept::{KeptStep, in_32_bits};
 use crate::sent::count_among;
 use crate::step::{Step, StepFault};
 use crate::world::World;
@@ -100,19 +102,18 @@ fn line_of(
     moment: u64,
     step: KeptStep,
     datagram: Option<Message>,
-    outcome: &Outcome,
+    answer: Answered,
     out: Outbox,
 ) -> JournalLine
-    requires fits { line < 2 ^ 32 }
-    requires one { IsOne outcome.now.refused outcome.now.stopped }
+    requires { line < 2 ^ 32 }
     ensures { result ≡ record {
       line = line;
       end = end;
       moment = moment;
       step = step_kept end datagram step;
       datagram = datagram;
-      refused = outcome.now.refused;
-      stopped = outcome.now.stopped;
+      refused = refused_kept answer;
+      stopped = stopped_kept answer;
       out = out;
     } }
 {
@@ -122,7 +123,7 @@ fn line_of(
         moment,
         step,
         datagram,
-        answer: KeptAnswer::of(outcome.refused, outcome.stopped),
+        answer,
         out,
     }
 }
@@ -139,18 +140,20 @@ fn answered(is_stopped: bool) -> Result<(), StepFault>
 }
 
 impl World {
-    /// Makes the call of a step that nothing refuses, and enters its line in the journal. All that
-    /// can fail before the call comes before it. A call that is refused for want of memory has no
-    /// line.
+    /// Makes the call of a step that nothing refuses, with the fingerprint of the peer, and enters its
+    /// line in the journal. All that can fail before the call comes before it. A call that is refused
+    /// for want of memory has no line.
     pub(crate) fn enter(
         &mut self,
         line: u64,
         end: usize,
+        peer: usize,
         step: &Step,
         datagram: Option<Message>,
         bytes: &mut [u8],
     ) -> Result<(), StepFault>
-        requires { IsEntering self.old line end step.now datagram bytes.old }
+        requires entering { IsEntering self.old line end step.now datagram bytes.old }
+        requires named { peer_of (deed_of step.now) ≡ peer }
         ensures { IsEntered self.old line step.now result self.new }
     {
         let moment = self.moment;
@@ -160,7 +163,7 @@ impl World {
             Err(_) => return Err(StepFault::Memory),
         };
         let mut out = ready.out;
-        let print = named_at(self.named.as_slice(), step.peer()).print;
+        let print = named_at(self.named.as_slice(), peer).print;
         let there = &mut self.ends[end];
         let outcome = call_end(
             &mut there.endpoint,
@@ -174,13 +177,21 @@ impl World {
         if outcome.undone {
             return Err(StepFault::Memory);
         }
-        let is_stopped = outcome.stopped.is_some();
+        let is_stopped = outcome.answer.is_stopped();
         let count = count_among(end, out.entries());
         put(&mut self.starts, self.sent);
         self.sent += count as u128;
         note_line(&mut self.lines_of, journal.lines.len(), count);
         let out = without_spare(out);
-        let told = line_of(line, ready.end, moment, ready.step, datagram, &outcome, out);
+        let told = line_of(
+            line,
+            ready.end,
+            moment,
+            ready.step,
+            datagram,
+            outcome.answer,
+            out,
+        );
         put(&mut journal.lines, told);
         answered(is_stopped)
     }

@@ -3,6 +3,7 @@
 ghost use Rattle.std.specs.Prelude.{◌≡◌, ◌+◌, length};
 ghost use Rattle.std.specs.List.{list_any};
 ghost use Rattle.crypto_profile.specs.Keys.{keys_of};
+ghost use Rattle.endpoint_model.specs.State.{current_generation};
 ghost use Rattle.rendezvous_world.specs.Datagrams.{forged, nth};
 ghost use Rattle.rendezvous_world.specs.Seen.{group_secret};
 ghost use Rattle.rendezvous_world.specs.Faults.{is_sent};
@@ -168,9 +169,9 @@ impl World {
 
 /// The keys of the packets that nobody sent.
 fn forgers_keys() -> Keys
-    ensures { result ≡ keys_of group_secret Context.Startup }
+    ensures { result ≡ keys_of group_secret (Context.Startup current_generation) }
 {
-    Keys::of(&GROUP_SECRET, &Context::Startup)
+    Keys::of(&GROUP_SECRET, &Context::Startup { generation: 0 })
 }
 
 /// Fills a buffer, which is as long as the datagram, with one of this plain packet that nobody

@@ -1,8 +1,9 @@
 //! What was done in a run, line by line.
 
-ghost use Rattle.std.specs.Prelude.{◌≡◌, IfOk};
+ghost use Rattle.std.specs.Prelude.{◌≡◌, IfOk, is_some};
+ghost use Rattle.rendezvous_world.specs.Line.{stopped_kept};
 
-use crate::kept::{KeptAnswer, KeptStep};
+use crate::kept::KeptStep;
 use crate::step::Step;
 use endpoint::{CallRefusal, OpenRefusal, Outbox, RowRefusal, Stopped};
 use rtmfp_base::{Memory, Message};
@@ -18,6 +19,26 @@ pub enum Refused {
     Row(RowRefusal),
 }
 
+/// What the call of a line answered, beside what it gave.
+#[derive(Clone, Copy)]
+pub(crate) enum Answered {
+    Done,
+    Refused(Refused),
+    Stopped(Stopped),
+}
+
+impl Answered {
+    /// Whether the call was stopped.
+    pub(crate) fn is_stopped(&self) -> bool
+        ensures { result ≡ is_some (stopped_kept self.now) }
+    {
+        match self {
+            Answered::Stopped(_) => true,
+            _ => false,
+        }
+    }
+}
+
 /// A step that called an end: the number of its line in the script, the end, the moment of the
 /// world, the datagram that reached the end, as it was before the call, why the end refused the
 /// call, how far a datagram was gone through that found no memory, and what the call added. Of a
@@ -31,7 +52,7 @@ pub struct JournalLine {
     pub(crate) moment: u64,
     pub(crate) step: KeptStep,
     pub(crate) datagram: Option<Message>,
-    pub(crate) answer: KeptAnswer,
+    pub(crate) answer: Answered,
     pub(crate) out: Outbox,
 }
 
@@ -87,13 +108,19 @@ impl JournalLine {
     pub fn refused(&self) -> Option<Refused>
         ensures { result ≡ self.now.refused }
     {
-        self.answer.refused()
+        match self.answer {
+            Answered::Refused(refusal) => Some(refusal),
+            _ => None,
+        }
     }
 
     pub fn stopped(&self) -> Option<Stopped>
         ensures { result ≡ self.now.stopped }
     {
-        self.answer.stopped()
+        match self.answer {
+            Answered::Stopped(stop) => Some(stop),
+            _ => None,
+        }
     }
 
     pub fn out(&self) -> &Outbox

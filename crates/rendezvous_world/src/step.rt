@@ -1,7 +1,7 @@
-//! The steps of a script, and why one is refused.
+//! The steps of a script, what each does, and why one is refused.
 
 ghost use Rattle.std.specs.Prelude.{◌≡◌, IfOk};
-ghost use Rattle.rendezvous_world.specs.Entering.{peer_of};
+ghost use Rattle.rendezvous_world.specs.Entering.{IsDeed};
 
 use endpoint::MessageOptions;
 use identity::Certificate;
@@ -156,29 +156,75 @@ pub enum Step {
     },
 }
 
+/// How a datagram is had that a step brings.
+#[derive(Drop)]
+pub(crate) enum Source<'a> {
+    /// It was sent as this one, counted from 1.
+    Delivered(u64),
+    /// It was, and the lowest bit of the byte at this place is turned.
+    Turned(u64, usize),
+    /// It is these bytes.
+    Injected(&'a Message),
+    /// It is this plain packet, sealed by somebody who is no end.
+    Sealed(&'a Message),
+}
+
+/// What a step does.
+#[derive(Drop)]
+pub(crate) enum Deed<'a> {
+    NewEnd {
+        name: &'a Name,
+        max_peers: u32,
+        max_sessions: u32,
+        cert: &'a Certificate,
+    },
+    NewMoment(u64),
+    /// The end with this number makes a call, which may name a peer by its number.
+    Call(usize, Option<usize>),
+    /// A datagram reaches the end with this number from an address.
+    Bring(usize, &'a Address, Source<'a>),
+}
+
 impl Step {
-    /// The end whose fingerprint the call of the step is given; for a call that is given none, the
-    /// end that is called.
-    pub(crate) fn peer(&self) -> usize
-        ensures { result ≡ peer_of self.now }
+    /// What the step does. Steps are told apart here; what else is done with them goes by their
+    /// deeds, but that a call is made and kept by its step.
+    pub(crate) fn deed(&self) -> Deed<'_>
+        ensures { IsDeed self.now result }
     {
         match self {
-            Step::End { .. } => 0,
-            Step::At { .. } => 0,
-            Step::Open { peer, .. } => *peer,
-            Step::Cancel { end, .. } => *end,
-            Step::Close { end, .. } => *end,
-            Step::Flow { end, .. } => *end,
-            Step::Queue { end, .. } => *end,
-            Step::Abandon { end, .. } => *end,
-            Step::Finish { end, .. } => *end,
-            Step::Introduce { end } => *end,
-            Step::Redirect { peer, .. } => *peer,
-            Step::Deliver { end, .. } => *end,
-            Step::Bent { end, .. } => *end,
-            Step::Inject { end, .. } => *end,
-            Step::Forge { end, .. } => *end,
-            Step::Tick { end } => *end,
+            Step::End {
+                name,
+                max_peers,
+                max_sessions,
+                cert,
+            } => Deed::NewEnd {
+                name,
+                max_peers: *max_peers,
+                max_sessions: *max_sessions,
+                cert,
+            },
+            Step::At { moment } => Deed::NewMoment(*moment),
+            Step::Open { end, peer, .. } => Deed::Call(*end, Some(*peer)),
+            Step::Cancel { end, .. } => Deed::Call(*end, None),
+            Step::Close { end, .. } => Deed::Call(*end, None),
+            Step::Flow { end, .. } => Deed::Call(*end, None),
+            Step::Queue { end, .. } => Deed::Call(*end, None),
+            Step::Abandon { end, .. } => Deed::Call(*end, None),
+            Step::Finish { end, .. } => Deed::Call(*end, None),
+            Step::Introduce { end } => Deed::Call(*end, None),
+            Step::Redirect { end, peer, .. } => Deed::Call(*end, Some(*peer)),
+            Step::Deliver { number, end, from } => {
+                Deed::Bring(*end, from, Source::Delivered(*number))
+            }
+            Step::Bent {
+                number,
+                place,
+                end,
+                from,
+            } => Deed::Bring(*end, from, Source::Turned(*number, *place)),
+            Step::Inject { end, from, bytes } => Deed::Bring(*end, from, Source::Injected(bytes)),
+            Step::Forge { end, from, plain } => Deed::Bring(*end, from, Source::Sealed(plain)),
+            Step::Tick { end } => Deed::Call(*end, None),
         }
     }
 }

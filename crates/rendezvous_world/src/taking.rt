@@ -4,30 +4,27 @@ ghost use Rattle.std.specs.Prelude.{◌≡◌, ◌<◌, ◌^◌, ◌||◌, lengt
 ghost use Rattle.std.specs.List.{list_any};
 ghost use Rattle.identity.specs.Certificates.{IsCertificate};
 ghost use Rattle.sha2.specs.Sha256.{sha256};
-ghost use Rattle.rendezvous_world.specs.Entering.{IsDone, IsOnFlows};
-ghost use Rattle.rendezvous_world.specs.Faults.{is_missing, is_outside};
+ghost use Rattle.rendezvous_world.specs.Deed.{deed_of};
+ghost use Rattle.rendezvous_world.specs.Entering.{IsCallOf, IsDone};
+ghost use Rattle.rendezvous_world.specs.Faults.{is_missing, is_outside, lacks_peer};
+ghost use Rattle.rendezvous_world.specs.History.{peer_or};
 ghost use Rattle.rendezvous_world.specs.Inside.{named_of};
 ghost use Rattle.rendezvous_world.specs.Sound.{AreBelow};
-ghost use Rattle.rendezvous_world.specs.Stepping.{called_by};
 ghost use Rattle.rtmfp_text.specs.Names.{is_like as is_like_named};
 
 use crate::end::End;
 use crate::entering::put;
 use crate::forgery::GROUP_SECRET;
-use crate::step::{Addresses, Step, StepFault};
+use crate::step::{Step, StepFault};
 use crate::world::World;
 use endpoint::{Config, Endpoint};
 use identity::Certificate;
+use rtmfp_base::limits::{PEERS, SESSIONS};
 use rtmfp_text::{Name, Named};
 use std::alloc::Global;
 
 /// The most ends of a world (own).
 const MOST_ENDS: usize = 1024;
-
-/// The most peers that an end may know, and the most attempts and sessions that it may have (own).
-const MOST_PEERS: u32 = 1_048_576;
-
-const MOST_SESSIONS: u32 = 65_536;
 
 /// Whether a limit is outside its own limits.
 fn is_outside(most: u32, count: u32) -> bool
@@ -46,6 +43,16 @@ fn certified_print(cert: &Certificate) -> [u8; 32]
     cert.print()
 }
 
+/// The number of the peer that a call names, or of the end itself.
+fn peer_or(end: usize, peer: Option<usize>) -> usize
+    ensures { result ≡ peer_or end peer }
+{
+    match peer {
+        None => end,
+        Some(peer) => peer,
+    }
+}
+
 impl World {
     /// Whether a new end is outside its limits, or like another.
     fn is_bad_end(&self, name: &Name, print: &[u8; 32], max_peers: u32, max_sessions: u32) -> bool
@@ -55,8 +62,8 @@ impl World {
     {
         self.named().has_like(name, print)
             || self.count() >= MOST_ENDS
-            || is_outside(MOST_PEERS, max_peers)
-            || is_outside(MOST_SESSIONS, max_sessions)
+            || is_outside(PEERS, max_peers)
+            || is_outside(SESSIONS, max_sessions)
     }
 
     /// How many ends there are.
@@ -120,106 +127,23 @@ impl World {
         Ok(())
     }
 
-    /// Lets an end open an attempt towards another.
-    pub(crate) fn open(
+    /// Lets an end make the call of a step, which may name a peer.
+    pub(crate) fn call(
         &mut self,
         line: u64,
-        step: &Step,
         end: usize,
-        peer: usize,
-        list: &Addresses,
+        peer: Option<usize>,
+        step: &Step,
     ) -> Result<(), StepFault>
         requires above { AreBelow self.old.lines line }
         requires fits { line < 2 ^ 32 }
-        requires step { step.now ≡ Step.Open end peer list.now }
-        ensures { IsDone self.old line (Step.Open end peer list.now) result self.new }
-    {
-        if self.lacks_one(end, peer) {
-            return Err(StepFault::NoEnd);
-        }
-        self.enter(line, end, step, None, &mut [])
-    }
-
-    /// Lets an end give up an attempt.
-    pub(crate) fn cancel(&mut self, line: u64, end: usize, n: u64) -> Result<(), StepFault>
-        requires above { AreBelow self.old.lines line }
-        requires fits { line < 2 ^ 32 }
-        ensures { IsDone self.old line (Step.Cancel end n) result self.new }
-    {
-        if self.lacks(end) {
-            return Err(StepFault::NoEnd);
-        }
-        self.enter(line, end, &Step::Cancel { end, n }, None, &mut [])
-    }
-
-    /// Lets an end close a session.
-    pub(crate) fn close(&mut self, line: u64, end: usize, near: u32) -> Result<(), StepFault>
-        requires above { AreBelow self.old.lines line }
-        requires fits { line < 2 ^ 32 }
-        ensures { IsDone self.old line (Step.Close end near) result self.new }
-    {
-        if self.lacks(end) {
-            return Err(StepFault::NoEnd);
-        }
-        self.enter(line, end, &Step::Close { end, near }, None, &mut [])
-    }
-
-    /// Lets an end make a call on the flows of one of its sessions.
-    pub(crate) fn call_flows(&mut self, line: u64, step: &Step, end: usize) -> Result<(), StepFault>
-        requires above { AreBelow self.old.lines line }
-        requires fits { line < 2 ^ 32 }
-        requires flows { IsOnFlows step.now }
-        requires called { called_by step.now ≡ end }
+        requires deed { IsCallOf end peer (deed_of step.now) }
         ensures { IsDone self.old line step.now result self.new }
     {
-        if self.lacks(end) {
-            return Err(StepFault::NoEnd);
-        }
-        self.enter(line, end, step, None, &mut [])
-    }
-
-    /// Lets an end introduce others from now on.
-    pub(crate) fn introduce(&mut self, line: u64, end: usize) -> Result<(), StepFault>
-        requires above { AreBelow self.old.lines line }
-        requires fits { line < 2 ^ 32 }
-        ensures { IsDone self.old line (Step.Introduce end) result self.new }
-    {
-        if self.lacks(end) {
-            return Err(StepFault::NoEnd);
-        }
-        self.enter(line, end, &Step::Introduce { end }, None, &mut [])
-    }
-
-    /// Lets an end have a row of addresses for another.
-    pub(crate) fn redirect(
-        &mut self,
-        line: u64,
-        step: &Step,
-        end: usize,
-        peer: usize,
-        list: &Addresses,
-    ) -> Result<(), StepFault>
-        requires above { AreBelow self.old.lines line }
-        requires fits { line < 2 ^ 32 }
-        requires step { step.now ≡ Step.Redirect end peer list.now }
-        ensures { IsDone self.old line (Step.Redirect end peer list.now) result self.new }
-    {
         if self.lacks_one(end, peer) {
             return Err(StepFault::NoEnd);
         }
-        self.enter(line, end, step, None, &mut [])
-    }
-
-    /// Lets an end do what is due.
-    pub(crate) fn tick(&mut self, line: u64, end: usize) -> Result<(), StepFault>
-        requires above { AreBelow self.old.lines line }
-        requires fits { line < 2 ^ 32 }
-        ensures { IsDone self.old line (Step.Tick end) result self.new }
-    {
-        if self.lacks(end) {
-            return Err(StepFault::NoEnd);
-        }
-        self.enter(line, end, &Step::Tick { end }, None, &mut [])
+        self.enter(line, end, peer_or(end, peer), step, None, &mut [])
     }
 
     /// Whether there is no end with this number.
@@ -229,11 +153,14 @@ impl World {
         self.count() <= end
     }
 
-    /// Whether there is no end with one of these numbers.
-    fn lacks_one(&self, end: usize, peer: usize) -> bool
-        ensures { result ≡ (is_missing self.now end || is_missing self.now peer) }
+    /// Whether there is no end with this number, or none with that of the peer that is named.
+    fn lacks_one(&self, end: usize, peer: Option<usize>) -> bool
+        ensures { result ≡ (lacks_peer self.now peer || is_missing self.now end) }
     {
-        self.lacks(end) || self.lacks(peer)
+        match peer {
+            None => self.lacks(end),
+            Some(peer) => self.lacks(peer) || self.lacks(end),
+        }
     }
 
     /// The world's allocator.

@@ -7,7 +7,7 @@ ghost use Rattle.rendezvous_world.specs.Seen.{state_at};
 use crate::end::End;
 use crate::journal::Journal;
 use crate::keyed::Keyed;
-use crate::step::{Step, StepFault};
+use crate::step::{Deed, Step, StepFault};
 use endpoint::Endpoint;
 use rtmfp_forms::Address;
 use rtmfp_text::Directory;
@@ -57,7 +57,7 @@ impl Model for World {
 }
 
 impl World {
-    ghost use Rattle.std.specs.Prelude.{◌≡◌, ◌⊎◌, ◌<◌, ◌^◌, ◌-◌, [], IfErr, IfNone, IfSome, IsSome, OnErr, OnOk, length, map, min, option_copied, Err};
+    ghost use Rattle.std.specs.Prelude.{◌≡◌, ◌⊎◌, ◌<◌, ◌^◌, ◌-◌, [], IfErr, IfNone, IfSome, OnErr, OnOk, length, map, min, option_copied, Err};
     ghost use Rattle.rendezvous_world.specs.Datagrams.{nth};
     ghost use Rattle.rendezvous_world.specs.Entering.{IsDone};
     ghost use Rattle.rendezvous_world.specs.Faults.{step_fault};
@@ -129,39 +129,22 @@ impl World {
         let _moment = &self.moment;
     }
 
-    /// Takes one step, by its kind.
+    /// Takes one step, by what it does.
     fn take_step(&mut self, line: u64, step: &Step) -> Result<(), StepFault>
         requires above { AreBelow self.old.lines line }
         requires fits { line < 2 ^ 32 }
         ensures { IsDone self.old line step.now result self.new }
     {
-        match step {
-            Step::End {
+        match step.deed() {
+            Deed::NewEnd {
                 name,
                 max_peers,
                 max_sessions,
                 cert,
-            } => self.add_end(line, name, *max_peers, *max_sessions, cert),
-            Step::At { moment } => self.set_moment(line, *moment),
-            Step::Open { end, peer, list } => self.open(line, step, *end, *peer, list),
-            Step::Cancel { end, n } => self.cancel(line, *end, *n),
-            Step::Close { end, near } => self.close(line, *end, *near),
-            Step::Flow { end, .. } => self.call_flows(line, step, *end),
-            Step::Queue { end, .. } => self.call_flows(line, step, *end),
-            Step::Abandon { end, .. } => self.call_flows(line, step, *end),
-            Step::Finish { end, .. } => self.call_flows(line, step, *end),
-            Step::Introduce { end } => self.introduce(line, *end),
-            Step::Redirect { end, peer, list } => self.redirect(line, step, *end, *peer, list),
-            Step::Deliver { number, end, from } => self.deliver(line, step, *number, *end, from),
-            Step::Bent {
-                number,
-                place,
-                end,
-                from,
-            } => self.bend(line, step, *number, *place, *end, from),
-            Step::Inject { end, from, bytes } => self.inject(line, step, *end, from, bytes),
-            Step::Forge { end, from, plain } => self.forge(line, step, *end, from, plain),
-            Step::Tick { end } => self.tick(line, *end),
+            } => self.add_end(line, name, max_peers, max_sessions, cert),
+            Deed::NewMoment(moment) => self.set_moment(line, moment),
+            Deed::Call(end, peer) => self.call(line, end, peer, step),
+            Deed::Bring(end, from, source) => self.bring_by(line, end, from, &source, step),
         }
     }
 

@@ -1,5 +1,5 @@
 use Rattle.std.proofs.Common.{◌<◌, Bool, Err, length, sym, ap, ◌∙◌, subst}
-use Rattle.glare_core.specs.Calls.{where_true}
+use Rattle.rtmfp_base.specs.Reasons.{where_true}
 use Rattle.rendezvous_world.specs.declared.step.StepFault.TheVariants.{Forged}
 use Rattle.rendezvous_world.specs.Seen.{Seen}
 use Rattle.rendezvous_world.specs.Entering.{IsBringing, IsDone}

@@ -7,7 +7,7 @@ use Rattle.rendezvous_world.proofs.world.World.forge.Goals as goal
 
 pub bring-requires : goal.bring-requires
 bring-requires c =
-    let few : length c.args.plain.now ≤ 1164 = omega (arith, c.len.ensures, c.if-len-gt-MOST_PLAIN.false) in
+    let few : length c.args.plain.now ≤ 1164 = omega (arith, c.len.ensures, c.if-len-gt-PLAIN.false) in
     let small : length c.forge.new.buffer ≤ 2048 = omega (arith, few, c.len-2.ensures, c.forge.auto.buffer, c.split_at_mut-datagram.ensures.front_len) in
     subst (λ (s : Step). IsBringing c.args.self.now c.args.line c.args.end s c.forge.new.buffer) (sym c.requires.step)
     (bringing_forge c.args.self.now c.args.line c.args.end c.args.from.now c.forge.new.buffer c.requires.above c.requires.fits (sym c.lacks.ensures ∙ c.if-lacks.false) small
