@@ -2,7 +2,8 @@
 ghost use Rattle.std.specs.Prelude.{◌≡◌, ◌+◌, ◌-◌, ◌<◌, ◌≤◌, ◌^◌, length, IfOk};
 ghost use Rattle.rtmfp_cli.specs.Doing.{IsNext, ShownAs, Tells, limit_of};
 
-use rtmfp_play::{LINE_LIMIT, Playing, Said, play_line};
+use rtmfp_base::limits::LINE;
+use rtmfp_play::{Playing, Said, play_line};
 use rtmfp_show::{LIMIT, show_line};
 use rtmfp_text::Text;
 use std::alloc::{AllocError, Global};
@@ -23,7 +24,7 @@ impl Doing {
     {
         match self {
             Doing::Showing => LIMIT,
-            Doing::Playing(_) => LINE_LIMIT,
+            Doing::Playing(_) => LINE,
         }
     }
 

@@ -9,7 +9,7 @@ use Rattle.rtmfp_host.specs.declared.link.Given.TheVariants.{Datagram, Quiet}
 use Rattle.endpoint_model.specs.declared.config.Draws.{Draws}
 use Rattle.endpoint_model.specs.declared.entry.Entry.{Entry}
 use Rattle.endpoint_model.specs.declared.answers.OpenRefusal.TheVariants.{Candidates, Start, SessionsFull, Memory as NoMemoryToOpen}
-use Rattle.endpoint_model.specs.declared.answers.CallRefusal.TheVariants.{NoAttempt, NoSession, NoFlow, FlowsFull, WideMetadata, Queue as NoPlace, NotQueued, Finished, Memory as NoMemory}
+use Rattle.session_flows.specs.declared.refusal.CallRefusal.TheVariants.{NoAttempt, NoSession, NoFlow, FlowsFull, WideMetadata, Queue as NoPlace, NotQueued, Finished, Memory as NoMemory}
 use Rattle.endpoint_model.specs.Event.{Setup, Call, Open, Receive, Tick, OnFlows, Answer, Began, Done, NotOpened, Refused, NotAdded, Stopped, OutOfMemory, Event}
 use Rattle.endpoint_model.specs.FlowCall.{FlowCall, OpenFlow, Queue}
 use Rattle.endpoint_model.specs.State.{State}

@@ -10,6 +10,7 @@ ghost use Rattle.rtmfp_play.specs.Generating.{HandsOver, RunEnds, Summarizes, Ta
 use crate::play::sent_so_far;
 use identity::Certificate;
 use rendezvous_world::{Addresses, Step, StepFault, World};
+use rtmfp_base::limits::STEPS;
 use rtmfp_forms::Address;
 use rtmfp_host::{Sink, Wrote};
 use rtmfp_lines::Status;
@@ -19,9 +20,6 @@ use std::alloc::{AllocError, Global};
 
 /// How many ends there are.
 const ENDS: u64 = 8;
-
-/// The most steps of a run.
-pub const MOST_STEPS: u64 = 100_000;
 
 /// What each number of the sequence is multiplied by, and what is added.
 const MULTIPLIER: u64 = 6_364_136_223_846_793_005;
@@ -33,7 +31,7 @@ const PAUSE: u64 = 500;
 
 /// Does so many generated steps, and writes their summary.
 pub fn generate<K: Sink>(alloc: Global, seed: u64, steps: u64, sink: &mut K) -> Status
-    requires { steps ≤ MOST_STEPS }
+    requires { steps ≤ STEPS }
     ensures { GeneratedEnds seed steps result
         (K.seen sink.old) (K.seen sink.new) }
 {
@@ -65,7 +63,7 @@ fn begin(world: &mut World) -> Result<(), Status>
 
 /// Does so many generated steps.
 fn go(alloc: Global, world: &mut World, seed: u64, steps: u64) -> Result<(), Status>
-    requires few { steps ≤ MOST_STEPS }
+    requires few { steps ≤ STEPS }
     requires begun { Begun 8 world.old }
     requires below { AreBelow world.old.lines 9 }
     ensures ok { OnOk result (Generates seed steps world.new) }

@@ -7,7 +7,6 @@ mod play;
 mod playing;
 mod said;
 
-pub use generated::{MOST_STEPS, generate};
-pub use play::LINE_LIMIT;
+pub use generated::generate;
 pub use playing::{Playing, play_line};
 pub use said::Said;

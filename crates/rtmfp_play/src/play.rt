@@ -11,6 +11,7 @@ ghost use Rattle.rtmfp_play.specs.Playing.{PlayedAs, StaysAs, SteppedAs};
 use crate::said::Said;
 use rendezvous_world::{Addresses, JournalLine, MessageOptions, Refused, Step, StepFault, World};
 use rtmfp_base::Message;
+use rtmfp_base::limits::LINE;
 use rtmfp_forms::Address;
 use rtmfp_report::{
     GroupKeys, push_call_refusal, push_entries, push_open_refusal, push_row_refusal,
@@ -18,9 +19,6 @@ use rtmfp_report::{
 use rtmfp_script::{Content, Said as LineSaid, ScriptLine, read_line};
 use rtmfp_text::{Directory, Name, Named, Text};
 use std::alloc::{AllocError, Global};
-
-/// The longest line of a script, in bytes without its LF.
-pub const LINE_LIMIT: usize = 2_097_664;
 
 /// Does a line of a script in a world, and makes the text of its report by the keys of the group.
 /// `scratch` holds a datagram meanwhile, and its memory is used again.
@@ -34,7 +32,7 @@ pub(crate) fn play_in(
     text: &mut Text,
 ) -> Result<Said, AllocError>
     requires keys { keys.old ≡ group_secret }
-    requires short { length line.now ≤ LINE_LIMIT }
+    requires short { length line.now ≤ LINE }
     requires above { AreBelow world.old.lines number }
     requires fits { number < 2 ^ 32 }
     ensures played { IfOk result (λ said. PlayedAs said world.old number line.now world.new

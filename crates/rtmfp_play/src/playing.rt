@@ -4,9 +4,10 @@ ghost use Rattle.std.specs.Prelude.{◌≡◌, ◌+◌, ◌<◌, ◌≤◌, ◌^
 ghost use Rattle.rendezvous_world.specs.Sound.{AreBelow};
 ghost use Rattle.rtmfp_play.specs.Playing.{PlayedAs, StaysAs};
 
-use crate::play::{LINE_LIMIT, play_in};
+use crate::play::play_in;
 use crate::said::Said;
 use rendezvous_world::World;
+use rtmfp_base::limits::LINE;
 use rtmfp_report::GroupKeys;
 use rtmfp_text::Text;
 use std::alloc::{AllocError, Global};
@@ -67,7 +68,7 @@ pub fn play_line(
     line: &[u8],
     text: &mut Text,
 ) -> Result<Said, AllocError>
-    requires short { length line.now ≤ LINE_LIMIT }
+    requires short { length line.now ≤ LINE }
     requires above { AreBelow playing.old.lines number }
     requires fits { number < 2 ^ 32 }
     ensures played { IfOk result (λ said. PlayedAs said playing.old number line.now playing.new

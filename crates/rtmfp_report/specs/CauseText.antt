@@ -1,7 +1,7 @@
 -- The names of the causes for which datagrams and chunks are discarded.
 use Rattle.std.specs.Prelude.{ℕ, List, [], ◌∷◌, codes}
-use Rattle.startup.specs.declared.cause.Cause.{Cause}
-use Rattle.startup.specs.declared.cause.Cause.TheVariants.{Short, UnknownSession, BadTag, Repeated, BadPacket, UnknownChunk, Malformed, WrongPlace, NotSelected, NoAttempt, WrongPeer, WrongState, BadCookie, BadSignature, WrongResponder, OwnCertificate, Stale, Glare, PeersFull, SessionsFull, SecondKeying, UnknownFlow, BeyondBuffer, AfterFinal, AckBeyond, CandidatesFull, Fragment, FlowsFull, Wide}
+use Rattle.rtmfp_base.specs.declared.cause.Cause.{Cause}
+use Rattle.rtmfp_base.specs.declared.cause.Cause.TheVariants.{Short, UnknownSession, BadTag, Repeated, BadPacket, UnknownChunk, Malformed, WrongPlace, NotSelected, NoAttempt, WrongPeer, WrongState, BadCookie, BadSignature, WrongResponder, OwnCertificate, Stale, Glare, PeersFull, SessionsFull, SecondKeying, UnknownFlow, BeyondBuffer, AfterFinal, AckBeyond, CandidatesFull, Fragment, FlowsFull, Wide}
 use Rattle.rtmfp_text.specs.Words.{field_text, number_field_text}
 
 -- the name of a cause, and its value where it has one: a chunk type in two hexadecimal digits, any

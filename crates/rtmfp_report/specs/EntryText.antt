@@ -1,6 +1,6 @@
 -- The lines of what ends did.
 use Rattle.std.specs.Prelude.{ℕ, ◌+◌, List, [], ◌∷◌, ◌++◌, Option, Some, None, codes, length}
-use Rattle.startup.specs.declared.cause.Cause.{Cause}
+use Rattle.rtmfp_base.specs.declared.cause.Cause.{Cause}
 use Rattle.endpoint_model.specs.declared.entry.Entry.{Entry}
 use Rattle.endpoint_model.specs.declared.entry.Entry.TheVariants.{Fact as FactEntry, Closed, Moved, FlowOpened, Queued, Finished, Abandoned, Handed, Discard, Out}
 use Rattle.endpoint_model.specs.Views.{Sending, out_in}

@@ -14,5 +14,5 @@ AreUnder secret kept = (slot : ℕ) (row : Option KeptKey) → slice_get kept sl
     IsUnder secret row
 
 pub record HasKeys (secret startup : List ℕ) (kept : List (Option KeptKey)) : Type 0 where
-  pub startup_key : startup ≡ (keys_of secret Startup).enc
+  pub startup_key : startup ≡ (keys_of secret (Startup 0)).enc
   pub kept_keys : AreUnder secret kept

@@ -4,8 +4,8 @@ use Rattle.glare_core.specs.declared.answers.StartRefusal.{StartRefusal}
 use Rattle.glare_core.specs.declared.answers.StartRefusal.TheVariants.{Opening, Open, PeersFull, AttemptsSpent, OwnPrint, Memory as StartMemory}
 use Rattle.endpoint_model.specs.declared.answers.OpenRefusal.{OpenRefusal}
 use Rattle.endpoint_model.specs.declared.answers.OpenRefusal.TheVariants.{Candidates, Start, SessionsFull, Memory as OpenMemory}
-use Rattle.endpoint_model.specs.declared.answers.CallRefusal.{CallRefusal}
-use Rattle.endpoint_model.specs.declared.answers.CallRefusal.TheVariants.{NoAttempt, NoSession, NoFlow, FlowsFull, WideMetadata, Queue, NotQueued, Finished, Memory as CallMemory}
+use Rattle.session_flows.specs.declared.refusal.CallRefusal.{CallRefusal}
+use Rattle.session_flows.specs.declared.refusal.CallRefusal.TheVariants.{NoAttempt, NoSession, NoFlow, FlowsFull, WideMetadata, Queue, NotQueued, Finished, Memory as CallMemory}
 use Rattle.flow_send.specs.declared.outcome.QueueRefusal.{QueueRefusal}
 use Rattle.flow_send.specs.declared.outcome.QueueRefusal.TheVariants.{TooLong, Backlog, Finished as QueuedNoMore, SequenceSpent, Memory as QueueMemory}
 use Rattle.introducer.specs.declared.refusal.RowRefusal.{RowRefusal}

@@ -2,8 +2,8 @@
 ghost use Rattle.std.specs.Prelude.{◌≡◌, ◌++◌, OnOk};
 ghost use Rattle.rtmfp_report.specs.CauseText.{cause_text};
 
+use rtmfp_base::Cause;
 use rtmfp_text::Text;
-use startup::Cause;
 use std::alloc::AllocError;
 
 /// Adds the name of a cause, and its value where it has one.

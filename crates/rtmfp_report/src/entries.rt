@@ -8,9 +8,9 @@ use crate::group_keys::GroupKeys;
 use crate::lines::push_head;
 use crate::sent::push_sent;
 use endpoint::Entry;
+use rtmfp_base::Cause;
 use rtmfp_forms::Address;
 use rtmfp_text::{Directory, Name, Text, push_address};
-use startup::Cause;
 use std::alloc::AllocError;
 
 /// Adds the lines of what the end with this name did in a line of the script, one for each entry,

@@ -57,7 +57,7 @@ impl GroupKeys {
         let secret = HmacKey::of(secret);
         GroupKeys {
             alloc,
-            startup: stream_key(&secret, &Context::Startup),
+            startup: stream_key(&secret, &Context::Startup { generation: 0 }),
             secret,
             kept: Vec::new(alloc),
         }
@@ -141,7 +141,7 @@ impl GroupKeys {
         ensures plain { drop 32 part.new ≡ plain_of (keys_of self.now context.now) part.old }
     {
         match context {
-            Context::Startup => decipher_in_place(&self.startup, part),
+            Context::Startup { .. } => decipher_in_place(&self.startup, part),
             Context::Session { .. } => match self.kept_key(context) {
                 Some(key) => decipher_in_place(key, part),
                 None => decipher_in_place(&stream_key(&self.secret, context), part),
@@ -210,7 +210,7 @@ fn is_kept(row: &Option<KeptKey>, context: &Context) -> bool {
 /// The slot of a session's context; none of that of startup.
 fn slot_of(context: &Context) -> Option<usize> {
     match context {
-        Context::Startup => None,
+        Context::Startup { .. } => None,
         Context::Session {
             sid_i,
             sid_r,

@@ -202,6 +202,7 @@ fn to_initiator(alloc: Global) -> Result<Context, Fail> {
 
 fn in_session(alloc: Global, to_responder: bool) -> Result<Context, Fail> {
     Ok(Context::Session {
+        generation: 0,
         ni: draws(3).nonce,
         nr: draws(6).nonce,
         fp_i: epd_of(alloc, "caller")?.print,
@@ -494,7 +495,7 @@ fn context_name(end: &Endpoint, datagram: &[u8]) -> &'static str {
         return "too long";
     }
     match end.opens_in(datagram) {
-        Some(Context::Startup) => "startup",
+        Some(Context::Startup { .. }) => "startup",
         Some(Context::Session { .. }) => "session",
         None => "none",
     }
@@ -509,7 +510,13 @@ fn made(alloc: Global, row: &str, index: usize) -> Result<Vec<u8>, Fail> {
         let context = to_responder(alloc)?;
         return sealed(alloc, &context, 6, u64::from(value), plain.as_slice());
     }
-    sealed(alloc, &Context::Startup, value, 1, plain.as_slice())
+    sealed(
+        alloc,
+        &Context::Startup { generation: 0 },
+        value,
+        1,
+        plain.as_slice(),
+    )
 }
 
 /// A caller and an answerer, the last datagram, one that is kept, and where the datagrams of the

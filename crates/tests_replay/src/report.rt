@@ -6,13 +6,12 @@ use crypto_profile::{Context, Keys, seal_in_place};
 use endpoint::{CallRefusal, Entry, OpenRefusal, QueueRefusal};
 use glare_core::{Fact, Joined, StartRefusal, Why};
 use introducer::RowRefusal;
-use rtmfp_base::Message;
+use rtmfp_base::{Cause, Message};
 use rtmfp_forms::Address;
 use rtmfp_report::{
     GroupKeys, push_call_refusal, push_entries, push_open_refusal, push_row_refusal,
 };
 use rtmfp_text::{Directory, Name, Named, Text};
-use startup::Cause;
 use std::alloc::Global;
 use std::test::Fail;
 
@@ -182,7 +181,7 @@ fn why_lines(alloc: Global) -> Result<Text, Fail> {
 fn out(alloc: Global, plain: &[u8; 7]) -> Result<Entry, Fail> {
     let mut part = [0; 39];
     part[32..].copy_from_slice(plain);
-    let keys = Keys::of(&SECRET, &Context::Startup);
+    let keys = Keys::of(&SECRET, &Context::Startup { generation: 0 });
     seal_in_place(&keys, 3, [9; 16], &mut part);
     let mut datagram = [0; 43];
     datagram[4..].copy_from_slice(&part);
@@ -194,7 +193,7 @@ fn sent(alloc: Global, datagram: &[u8]) -> Result<Entry, Fail> {
         Ok(datagram) => Ok(Entry::Out {
             to: Address::v4([10, 0, 0, 2], 1935),
             datagram,
-            context: Context::Startup,
+            context: Context::Startup { generation: 0 },
         }),
         Err(_) => Err(Fail::from("memory")),
     }

@@ -88,6 +88,7 @@ pub(crate) fn secret() -> [u8; 32] {
 
 fn session(to_responder: bool) -> Context {
     Context::Session {
+        generation: 0,
         ni: [1; 16],
         nr: [2; 16],
         fp_i: [3; 32],
@@ -132,7 +133,7 @@ fn put_all_keys(alloc: Global, lines: &mut String) -> Result<(), Fail> {
         alloc,
         "startup-enc",
         "startup-mac",
-        &Context::Startup,
+        &Context::Startup { generation: 0 },
         lines,
     )?;
     put(alloc, "sign", &sign_key(&secret()), lines)?;

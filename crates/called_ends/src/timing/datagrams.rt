@@ -61,7 +61,12 @@ fn seal(context: &Context, sid: u32, count: u64, datagram: &mut [u8]) {
 /// Seals a datagram of the startup.
 fn seal_startup(number: u32, bytes: &mut Vec<u8>) {
     let datagram = bytes.as_mut_slice();
-    seal(&Context::Startup, 0, u64::from(number), datagram);
+    seal(
+        &Context::Startup { generation: 0 },
+        0,
+        u64::from(number),
+        datagram,
+    );
 }
 
 /// The context of packets to the end with number 0, in its session with the end with this number.
@@ -72,6 +77,7 @@ fn session(number: u32) -> Context {
     let fp_i = print_of(number);
     let fp_r = print_of(0);
     Context::Session {
+        generation: 0,
         ni: nonce,
         nr: nonce,
         fp_i,
