@@ -56,9 +56,6 @@ due_room slots moment n due k d is = due k d (sym (entry_in_room slots n k) ∙ 
 pub late_room : (slots : Slots) (moment n : ℕ) → NoneIsDue slots moment → NoneIsDue (with_room slots n) moment
 late_room slots moment n late k d is = late k d (sym (entry_in_room slots n k) ∙ is)
 
-pub due_then : (slots : Slots) (before after : ℕ) → before ≤ after → AllAreDue slots before → AllAreDue slots after
-due_then slots before after l due k d is = let was = due k d is in omega (arith, was, l)
-
 pub entries_fewer : (slots : Slots) (slot : ℕ) (d : Deadline) → entry_of slots slot ≡ Some d → entries_in (deadline_cleared slots slot) + 1 ≡ entries_in slots
 entries_fewer [] slot d is = absurd (none-some d is)
 entries_fewer (None ∷ slots) zero d is = absurd (none-some d is)
@@ -141,9 +138,6 @@ module _ (l r : Slots) (split : IsSplit l r) where
   pub split_moved : (e : Entry) → Stands l e → IsSplit (deadline_cleared l e.slot) (deadline_set r e.slot e.at e.near)
   split_moved e stands = changed e.slot None (Some (record { at = e.at; near = e.near })) (λ d no. absurd (none-some d no)) (λ c d no _. none-some c no)
       (subst IsNamedApart (sym (merged_moved e stands) ∙ merged_set l r e.slot None (Some (record { at = e.at; near = e.near }))) split.apart)
-
-  pub moved_has_room : (e : Entry) → Stands l e → HasRoom r e.slot
-  moved_has_room e stands = split.inside e.slot (deadline_of e) stands
 
   -- the first of the one has more room, the other not yet
   pub merged_wider : (n : ℕ) → merged (with_room l n) r ≡ merged l r

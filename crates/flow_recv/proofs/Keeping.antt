@@ -502,13 +502,6 @@ kept_unlisted es fs n k o e f =
     let r = kept_without false es fs [] [] n k o e refl in
     (r.0, r.1 ∙ first.1, ap (λ ds. lookup (is_key n) ds) k.keyed ∙ (lookup_keyed n xs ∙ first.0))
 
--- keys that aren't those of the whole runs don't matter
-pub kept_anyway : (i : Bool) (es : List (ℕ × Run)) (ks ls : List ℕ) → i ≡ false → IsKept i es ks → IsKept false es ls
-kept_anyway i es ks ls f k = record { order = k.order; keyed = k.keyed; whole = λ t. absurd (Rattle.std.proofs.lemmas.Bool.false≢true t) }
-
-pub kept_again : (i : Bool) (es : List (ℕ × Run)) (ks ls : List ℕ) → i ≡ false → IsKept false es ks → IsKept i es ls
-kept_again i es ks ls f k = record { order = k.order; keyed = k.keyed; whole = λ t. absurd (Rattle.std.proofs.lemmas.Bool.false≢true (sym f ∙ t)) }
-
 pub no_keys : (ks : List ℕ) → (0 < length ks → false ≡ true) → ks ≡ []
 no_keys [] h = refl
 no_keys (k ∷ ks) h = absurd (Rattle.std.proofs.lemmas.Bool.false≢true (h (omega arith)))
