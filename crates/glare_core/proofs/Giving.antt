@@ -15,6 +15,7 @@ use Rattle.glare_core.specs.declared.answers.StartRefusal.{StartRefusal}
 use Rattle.glare_core.specs.declared.answers.StartRefusal.TheVariants.{OwnPrint, AttemptsSpent, PeersFull}
 use Rattle.glare_core.specs.declared.answers.HearRefusal.TheVariants.{Stale, Glare, PeersFull as NoRow, SessionsFull}
 use Rattle.glare_core.specs.declared.answers.Keying.{Keying}
+use Rattle.glare_core.specs.declared.answers.Heard.{Heard}
 use Rattle.glare_core.specs.declared.answers.Heard.TheVariants.{Birth}
 use Rattle.glare_core.specs.declared.answers.HearRefusal.{HearRefusal}
 use Rattle.glare_core.specs.Standing.{starts_in, held, seen, count}
@@ -208,6 +209,13 @@ pub gave_heard : (l : Ledger) (keying : Keying) (near : ℕ) (nr : List ℕ) (fr
     Gave l (heard_facts (heard l keying near nr)) (heard_noted l (heard l keying near nr))
 gave_heard l keying near nr free other none = gave_if_heard l keying near nr free (again_of (held_with l keying.peer) keying) other none
 
+-- what was noted is what the Keying gives
+pub gave_as_heard : (old new : Ledger) (keying : Keying) (near : ℕ) (nr : List ℕ) (free : Bool) (answer : Heard) → new ≡ heard_noted old answer → answer ≡ heard old keying near nr →
+    old.own ≢ keying.peer → hear_refusal old keying free ≡ None → Gave old (heard_facts answer) new
+gave_as_heard old new keying near nr free answer noted_is is other none =
+    subst (λ l. Gave old (heard_facts answer) l) (sym noted_is)
+    (subst (λ h. Gave old (heard_facts h) (heard_noted old h)) (sym is) (gave_heard old keying near nr free other none))
+
 -- From the fields in which a ledger is kept.
 pub same_held : (own : List ℕ) (max_peers started : ℕ) (rows : PeerRows) (old : Ledger) → record { own = own; max_peers = max_peers; started = started; rows = rows } ≡ old →
     (peer : List ℕ) → (row_in rows peer).held ≡ held_with old peer
@@ -250,20 +258,20 @@ module _ (own : List ℕ) (max_peers started : ℕ) (before after : PeerRows) (o
       ap (λ n. record { own = own; max_peers = max_peers; started = n; rows = rows_after born (rows_after end before) }) same
 
   -- a birth
-  pub gave_birth_kept : (keying : Keying) (near : ℕ) (nr : List ℕ) (free : Bool) (ended : Option Fact) (h : Option Held) →
+  pub birth_noted : (keying : Keying) (near : ℕ) (nr : List ℕ) (ended : Option Fact) (h : Option Held) →
       let born : Fact = Born (record { peer = keying.peer; n = keying.n; near = near; far = keying.far; ni = keying.ni; nr = nr; k = started }) in
-      after ≡ rows_after born (rows_after_if ended before) → IfSome ended (IsOf keying.peer h) → h ≡ held_with old keying.peer → ended ≡ way_made keying.peer h →
-      old.own ≢ keying.peer → birth_refusal old keying free ≡ None →
-      Gave old (heard_facts (Birth ended born)) (record { own = own; max_peers = max_peers; started = started; rows = after })
-  gave_birth_kept keying near nr free ended h left of held_is ended_is =
+      after ≡ rows_after born (rows_after_if ended before) → IfSome ended (IsOf keying.peer h) →
+      record { own = own; max_peers = max_peers; started = started; rows = after } ≡ heard_noted old (Birth ended born)
+  birth_noted keying near nr ended h left of =
       let born : Fact = Born (record { peer = keying.peer; n = keying.n; near = near; far = keying.far; ni = keying.ni; nr = nr; k = started }) in
-      let new : Ledger = record { own = own; max_peers = max_peers; started = started; rows = after } in
-      let l : Ledger = record { own = own; max_peers = max_peers; started = started; rows = before } in
-      let same : new ≡ heard_noted l (Birth ended born) = ap (λ (rows : PeerRows). record { own = own; max_peers = max_peers; started = started; rows = rows }) left ∙ sym (both_noted ended born keying.peer h of refl) in
-      let way : ended ≡ way_made keying.peer (held_with l keying.peer) = ended_is ∙ ap (way_made keying.peer) (held_is ∙ sym (ap (λ (o : Ledger). held_with o keying.peer) is)) in
-      subst (λ o. o.own ≢ keying.peer → birth_refusal o keying free ≡ None → Gave o (heard_facts (Birth ended born)) new) is (λ other none.
-      subst (λ m. Gave l (heard_facts (Birth ended born)) m) (sym same)
-      (subst (λ e. Gave l (heard_facts (Birth e born)) (heard_noted l (Birth e born))) (sym way) (gave_if_heard l keying near nr free None other none)))
+      ap (λ (rows : PeerRows). record { own = own; max_peers = max_peers; started = started; rows = rows }) left ∙ sym (both_noted ended born keying.peer h of refl) ∙ ap (λ (o : Ledger). heard_noted o (Birth ended born)) is
+
+  pub birth_is_heard : (keying : Keying) (near : ℕ) (nr : List ℕ) (ended : Option Fact) (h : Option Held) → h ≡ held_with old keying.peer → ended ≡ way_made keying.peer h →
+      again_of (held_with old keying.peer) keying ≡ None →
+      Birth ended (Born (record { peer = keying.peer; n = keying.n; near = near; far = keying.far; ni = keying.ni; nr = nr; k = started })) ≡ heard old keying near nr
+  birth_is_heard keying near nr ended h held_is ended_is fresh =
+      (λ i. Birth ((ended_is ∙ ap (way_made keying.peer) held_is) i) (born_fact (is i) keying near nr))
+      ∙ sym (ap (λ o. again_or o (Birth (way_made keying.peer (held_with old keying.peer)) (born_fact old keying near nr))) fresh)
 
 -- There is room for the row of a peer that has none.
 room_of : (known : Bool) (count max_peers : ℕ) → (not known && nat_eq count max_peers) ≡ false → count ≤ max_peers → IsRoom known count max_peers

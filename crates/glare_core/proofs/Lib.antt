@@ -13,6 +13,7 @@ pub mod Maps
 pub mod Tables
 pub mod Accounts
 pub mod Giving
+pub mod Judging
 pub mod Witness
 pub mod Counter
 pub mod PerEnd

@@ -13,6 +13,9 @@ use Rattle.glare_core.specs.declared.facts.Joined.{Joined}
 use Rattle.glare_core.specs.declared.answers.StartRefusal.{StartRefusal}
 use Rattle.glare_core.specs.declared.answers.StartRefusal.TheVariants.{OwnPrint, Opening as AttemptHeld, Open as SessionHeld, AttemptsSpent, PeersFull as NoRowToStart}
 use Rattle.glare_core.specs.declared.answers.Keying.{Keying}
+use Rattle.glare_core.specs.declared.answers.Way.{Way}
+use Rattle.glare_core.specs.declared.answers.Judged.{Judged}
+use Rattle.glare_core.specs.declared.answers.Judged.TheVariants.{Again as IsAgain, Birth as IsBirth}
 use Rattle.glare_core.specs.declared.answers.Heard.{Heard}
 use Rattle.glare_core.specs.declared.answers.Heard.TheVariants.{Again, Birth}
 use Rattle.glare_core.specs.declared.answers.HearRefusal.{HearRefusal}
@@ -90,13 +93,25 @@ abbrev pub hear_refusal : Ledger → Keying → Bool → Option HearRefusal
 hear_refusal l keying free = if is_some (again_of (held_with l keying.peer) keying) then None
     else birth_refusal l keying free
 
--- the held session that was born of it, where a Keying isn't refused
-abbrev pub unless_refused : Option Joined → Option HearRefusal → Result (Option Joined) HearRefusal
-unless_refused session None = Ok session
-unless_refused session (Some refusal) = Err refusal
+-- what is known of the peer of a session that would be born
+abbrev pub way_of : Ledger → List ℕ → Way
+way_of l peer = record { known = knows l peer; held = held_with l peer }
 
-abbrev pub judged : Ledger → Keying → Bool → Result (Option Joined) HearRefusal
-judged l keying free = unless_refused (session_again (held_with l keying.peer) keying)
+-- it is the Keying of this session, or one would be born in this way
+abbrev pub again_or_way : Option Joined → Way → Judged
+again_or_way None way = IsBirth way
+again_or_way (Some j) way = IsAgain j
+
+-- what was found, where a Keying isn't refused
+abbrev pub unless_refused : Judged → Option HearRefusal → Result Judged HearRefusal
+unless_refused found None = Ok found
+unless_refused found (Some refusal) = Err refusal
+
+-- what hearing a Keying would be, or why it is refused, but for want of memory
+abbrev pub judged : Ledger → Keying → Bool → Result Judged HearRefusal
+judged l keying free =
+    unless_refused
+    (again_or_way (session_again (held_with l keying.peer) keying) (way_of l keying.peer))
     (hear_refusal l keying free)
 
 -- the fact that makes way for a session, where something is held

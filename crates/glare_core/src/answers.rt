@@ -1,6 +1,6 @@
 //! What the calls on an end's peers take and answer.
 
-use crate::facts::Fact;
+use crate::facts::{Fact, Held, Joined};
 
 /// Why no attempt starts. Where several stand, the answer is the first of `OwnPrint`, `Opening`,
 /// `Open`, `AttemptsSpent`, `PeersFull`, `Memory`.
@@ -31,6 +31,24 @@ pub struct Keying {
     pub ni: [u8; 16],
     /// Its session ID for the session.
     pub far: u32,
+}
+
+/// What is known of the peer of a session that would be born.
+#[derive(Clone, Copy, Debug, PartialEq, Eq)]
+pub struct Way {
+    /// Whether the peer has a row.
+    pub known: bool,
+    /// What is held with the peer, and makes way for the session.
+    pub held: Option<Held>,
+}
+
+/// What hearing a keying would be that isn't refused.
+#[derive(Clone, Copy, Debug, PartialEq, Eq)]
+pub enum Judged {
+    /// The held session was born of this very keying.
+    Again(Joined),
+    /// A session is born.
+    Birth(Way),
 }
 
 /// What became of a keying.

@@ -12,6 +12,6 @@ mod peers;
 mod print;
 mod rows;
 
-pub use answers::{HearRefusal, Heard, Keying, StartRefusal};
+pub use answers::{HearRefusal, Heard, Judged, Keying, StartRefusal, Way};
 pub use facts::{Fact, Held, Joined, Why};
 pub use peers::Peers;

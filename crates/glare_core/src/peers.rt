@@ -1,23 +1,24 @@
 //! What one end holds with its peers, and what it has counted.
 
-ghost use Rattle.std.specs.Prelude.{not, ◌&&◌, ◌==◌, ◌≤◌, ◌≡◌, ◌≢◌, ◌+◌, ℕ, List, [], ◌∷◌, length, false, IfOk, IfErr, IfSome, IfNone, OnErr, Ok, Err, is_some, option_to_list};
+ghost use Rattle.std.specs.Prelude.{Bool, not, ◌&&◌, ◌==◌, ◌≤◌, ◌≡◌, ◌≢◌, ◌+◌, ℕ, List, [], ◌∷◌, length, false, IfOk, IfErr, IfSome, IfNone, OnErr, Ok, Err, is_some, option_to_list};
 ghost use Rattle.std.specs.List.{list_any};
 ghost use Rattle.std.specs.Option.{option_copied};
 ghost use Rattle.std.specs.Str.{bytes_eq};
 ghost use Rattle.glare_core.specs.declared.facts.Fact.{Fact};
+ghost use Rattle.glare_core.specs.declared.answers.Judged.TheVariants.{Birth};
 ghost use Rattle.glare_core.specs.Standing.{held, seen, count, peers_in};
 ghost use Rattle.glare_core.specs.Ledger.{held_with, floor_of, knows, row_count, new_ledger, noted, noted_if};
 ghost use Rattle.rtmfp_base.specs.Reasons.{where_true};
 ghost use Rattle.glare_core.specs.Calls.{start_refusal, started_fact, birth_refusal, hear_refusal, judged, heard, heard_facts, heard_noted, opened_fact, confirmed_fact, ended_fact, MayEnd};
 ghost use Rattle.glare_core.specs.Account.{StandsFor, Gave};
 
-use crate::answers::{HearRefusal, Heard, Keying, StartRefusal};
+use crate::answers::{HearRefusal, Heard, Judged, Keying, StartRefusal, Way};
 use crate::facts::{Fact, Held, Joined, Why};
 use crate::given::{
     again, confirmed_fact, ended_fact, glare, near_of, opened_fact, session_again, way_made,
 };
 use crate::rows::{Rows, Seat};
-use std::alloc::Global;
+use std::alloc::{AllocError, Global};
 use std::marker::Model;
 
 /// What an end holds with its peers: at most one attempt or session with each. A call takes constant
@@ -186,19 +187,62 @@ impl Peers {
         self.birth_refusal(keying, &seat, free)
     }
 
-    /// The held session that was born of this very keying, or None where one would be born; else why
-    /// `hear` would refuse it, but for want of memory. The row of the peer is looked up once. It
+    /// What hearing this keying would be: it is that of the held session, or a session is born; else
+    /// why `hear` would refuse it, but for want of memory. The row of the peer is looked up once. It
     /// changes nothing and takes no memory.
-    pub fn judge(&self, keying: &Keying, free: bool) -> Result<Option<Joined>, HearRefusal>
+    pub fn judge(&self, keying: &Keying, free: bool) -> Result<Judged, HearRefusal>
         ensures { result ≡ judged self.now keying.now free }
     {
         let seat = self.rows.seat(&keying.peer);
         if let Some(session) = session_again(&seat.held, keying) {
-            return Ok(Some(session));
+            return Ok(Judged::Again(session));
         }
         match self.birth_refusal(keying, &seat, free) {
             Some(refusal) => Err(refusal),
-            None => Ok(None),
+            None => Ok(Judged::Birth(Way {
+                known: seat.known,
+                held: seat.held,
+            })),
+        }
+    }
+
+    /// Bears the session of a keying of a peer that isn't this end, which was found to be a birth
+    /// in this way; its near id and responder nonce are given. It gives the fact that ended what
+    /// was held with the peer, and the fact of the session.
+    ///
+    /// It takes memory only for the row of a peer that has none; where there is none, all is as
+    /// before. The row isn't looked up again.
+    pub fn bear(
+        &mut self,
+        keying: &Keying,
+        way: &Way,
+        near: u32,
+        nr: [u8; 16],
+    ) -> Result<(Option<Fact>, Fact), AllocError>
+        requires other { self.old.own ≢ keying.now.peer }
+        requires judged { (free : Bool) × (judged self.old keying.now free ≡ Ok (Birth way.now)) }
+        ensures ok { IfOk result
+            (λ facts. (Heard.Birth facts.0 facts.1 ≡ heard self.old keying.now near nr) ×
+            (self.new ≡ heard_noted self.old (Heard.Birth facts.0 facts.1))) }
+        ensures memory { OnErr result (knows self.old keying.now.peer ≡ false) }
+        ensures err { OnErr result (self.new ≡ self.old) }
+        ensures own { self.new.own ≡ self.old.own }
+        ensures gave { IfOk result
+            (λ facts. Gave self.old (heard_facts (Heard.Birth facts.0 facts.1)) self.new) }
+    {
+        let born = Fact::Born(Joined {
+            peer: keying.peer,
+            n: keying.n,
+            near,
+            far: keying.far,
+            ni: keying.ni,
+            nr,
+            k: self.started,
+        });
+        let ended = way_made(&keying.peer, &way.held);
+        match self.rows.note_after(way.known, &ended, &born) {
+            Ok(()) => Ok((ended, born)),
+            Err(refusal) => Err(refusal),
         }
     }
 
@@ -228,27 +272,13 @@ impl Peers {
         ensures own { self.new.own ≡ self.old.own }
         ensures gave { IfOk result (λ answer. Gave self.old (heard_facts answer) self.new) }
     {
-        let seat = self.rows.seat(&keying.peer);
-        if let Some(id) = again(&seat.held, keying) {
-            return Ok(Heard::Again(id));
-        }
-        match self.birth_refusal(keying, &seat, free) {
-            Some(refusal) => return Err(refusal),
-            None => {}
-        }
-        let born = Fact::Born(Joined {
-            peer: keying.peer,
-            n: keying.n,
-            near,
-            far: keying.far,
-            ni: keying.ni,
-            nr,
-            k: self.started,
-        });
-        let ended = way_made(&keying.peer, &seat.held);
-        match self.rows.note_after(seat.known, &ended, &born) {
-            Ok(()) => Ok(Heard::Birth { ended, born }),
-            Err(_) => Err(HearRefusal::Memory),
+        match self.judge(keying, free) {
+            Ok(Judged::Again(session)) => Ok(Heard::Again(session.near)),
+            Ok(Judged::Birth(way)) => match self.bear(keying, &way, near, nr) {
+                Ok((ended, born)) => Ok(Heard::Birth { ended, born }),
+                Err(_) => Err(HearRefusal::Memory),
+            },
+            Err(refusal) => Err(refusal),
         }
     }
 
