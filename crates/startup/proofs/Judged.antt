@@ -1,5 +1,6 @@
 -- What a keying that was found to be heard, and how, gives and leaves.
-use Rattle.std.proofs.Common.{ℕ, List, [], ◌∷◌, ◌≡◌, Bool, true, false, ◌&&◌, not, Option, Some, None, is_some, is_none, Result, Ok, Err, IfOk, IfErr, refl, sym, ap, ◌∙◌, if◌then◌else◌, nat_le}
+use Rattle.std.proofs.Common.{ℕ, List, [], ◌∷◌, ◌≡◌, true, false, not, Option, Some, None, is_none, Result, Ok, Err, IfOk, IfErr, refl, sym, ap, ◌∙◌}
+use Rattle.std.specs.Str.{bytes_eq}
 use Rattle.sha2.specs.Sha256.{sha256}
 use Rattle.rtmfp_forms.specs.Address.{AddressParts}
 use Rattle.cookies.specs.declared.CookieTest.{CookieTest}
@@ -7,21 +8,25 @@ use Rattle.cookies.specs.declared.CookieTest.TheVariants.{Bad, Moved, Expired, C
 use Rattle.cookies.specs.Cookie.{cookie_test}
 use Rattle.glare_core.specs.declared.facts.Joined.{Joined}
 use Rattle.glare_core.specs.declared.answers.Keying.{Keying}
-use Rattle.glare_core.specs.declared.answers.HearRefusal.{HearRefusal}
-use Rattle.glare_core.specs.declared.answers.HearRefusal.TheVariants.{Stale, PeersFull, SessionsFull}
-use Rattle.glare_core.specs.Ledger.{Ledger, held_with, floor_of, row_count, knows}
+use Rattle.glare_core.specs.declared.answers.Way.{Way}
+use Rattle.glare_core.specs.declared.answers.Judged.{Judged}
+use Rattle.glare_core.specs.declared.answers.Judged.TheVariants.{Birth as IsBirth}
+use Rattle.glare_core.specs.declared.facts.Held.{Held}
+use Rattle.glare_core.specs.declared.facts.Held.TheVariants.{Opening, HalfOpen, KeptAsResponder, KeptAsInitiator}
+use Rattle.glare_core.specs.Ledger.{held_with, knows}
 use Rattle.rtmfp_base.specs.Reasons.{where_true, first_that_stands}
-use Rattle.glare_core.specs.Calls.{again_of, peers_full, glare_of, birth_refusal, hear_refusal}
+use Rattle.glare_core.specs.Calls.{hear_refusal, session_again, way_of, again_or_way, unless_refused, judged}
 use Rattle.rtmfp_base.specs.declared.cause.Cause.{Cause}
-use Rattle.rtmfp_base.specs.declared.cause.Cause.TheVariants.{BadSignature}
+use Rattle.rtmfp_base.specs.declared.cause.Cause.TheVariants.{BadSignature, WrongResponder, OwnCertificate}
 use Rattle.startup.specs.declared.answer.Keyed.{Keyed}
 use Rattle.startup.specs.declared.answer.Keyed.TheVariants as keyed
 use Rattle.startup.specs.declared.judging.Hearing.TheVariants.{Change, Again, Birth}
 use Rattle.startup.specs.State.{StartupState}
 use Rattle.startup.specs.Packets.{is_signed}
 use Rattle.startup.specs.Attempts.{wide}
-use Rattle.startup.specs.Keyings.{InitiatorKeying, cookie_cause, named_cause, keying_of, repeated_session, initiator_cause, change_answer, session_answer, again_or_birth, after_again_or_birth, keyed_with, after_keyed_with, needs_row_with}
-use Rattle.startup.specs.Judging.{unless_cause, again_or_new, hearing, judged_initiator}
+use Rattle.startup.specs.Keyings.{InitiatorKeying, is_own, heard_cause, cookie_cause, named_cause, keying_of, repeated_session, initiator_cause, change_answer, session_answer, again_or_birth, after_again_or_birth, keyed_with, after_keyed_with, needs_row_with}
+use Rattle.startup.specs.Judging.{unless_cause, heard_as, hearing, judged_initiator}
+use Rattle.glare_core.proofs.Judging.{unrefused}
 use Rattle.startup.proofs.Uncaused.{IsHeard, no_cause_is_heard}
 
 -- ---- what was found, where no cause stands
@@ -45,26 +50,25 @@ current_judged s payload from now full read signed narrow current =
     sym ((λ i. unless_cause (hearing s read (current i)) (first_that_stands (where_true (not (signed i)) BadSignature ∷ narrow i ∷ cookie_cause (current i) (named_cause s read full) ∷ [])))
     ∙ ap (unless_cause (hearing s read Current)) (lone (named_cause s read full)))
 
--- ---- a keying that isn't refused isn't where there is room, either
+-- ---- the session that a keying is again of
 
-last_free : (a b c : Option HearRefusal) (x : HearRefusal) (none free : Bool) → first_that_stands (a ∷ b ∷ c ∷ where_true (none && not free) x ∷ []) ≡ None →
-    first_that_stands (a ∷ b ∷ c ∷ where_true (none && not true) x ∷ []) ≡ None
-last_free None None None x true free e = refl
-last_free None None None x false free e = refl
-last_free (Some y) b c x none free e = absurd (cc)
-last_free None (Some y) c x none free e = absurd (cc)
-last_free None None (Some y) x none free e = absurd (cc)
+same_session : (thing : Option Held) (keying : Keying) → session_again thing keying ≡ repeated_session thing keying
+same_session None keying = refl
+same_session (Some (Opening n near ni)) keying = refl
+same_session (Some (HalfOpen j)) keying = refl
+same_session (Some (KeptAsResponder j)) keying = refl
+same_session (Some (KeptAsInitiator j)) keying = refl
 
-chosen_free : (again : Bool) (o p : Option HearRefusal) → (o ≡ None → p ≡ None) → (if again then None else o) ≡ None → (if again then None else p) ≡ None
-chosen_free true o p go e = refl
-chosen_free false o p go e = go e
-
-pub heard_free : (l : Ledger) (keying : Keying) (free : Bool) → hear_refusal l keying free ≡ None → hear_refusal l keying true ≡ None
-heard_free l keying free e =
-    let thing = held_with l keying.peer in
-    chosen_free (is_some (again_of thing keying)) (birth_refusal l keying free) (birth_refusal l keying true)
-    (last_free (where_true (nat_le keying.n (floor_of l keying.peer)) (Stale (floor_of l keying.peer))) (glare_of l.own keying.peer thing)
-    (where_true (peers_full l keying.peer) (PeersFull (row_count l))) SessionsFull (is_none thing) free) e
+-- what the ledger judges of a keying with a good cookie is what hearing it would be
+pub judged_ok : (s : StartupState) (read : InitiatorKeying) (full : Option ℕ) (found : Judged) →
+    bytes_eq read.part.responder (sha256 s.cert) ≡ true → is_own s read.cert ≡ false → judged s.ledger (keying_of read) (is_none full) ≡ Ok found →
+    Ok (heard_as (keying_of read) found) ≡ unless_cause (hearing s read Current) (named_cause s read full)
+judged_ok s read full found named other e =
+    let thing : Option Held = held_with s.ledger (sha256 read.cert) in
+    let way : Way = way_of s.ledger (sha256 read.cert) in
+    let is = unrefused (again_or_way (session_again thing (keying_of read)) way) found (hear_refusal s.ledger (keying_of read) (is_none full)) e in
+    let same : again_or_way (repeated_session thing (keying_of read)) way ≡ found = sym (ap (λ o. again_or_way o way) (same_session thing (keying_of read))) ∙ is.1 in
+    sym (λ i. unless_cause (heard_as (keying_of read) (same i)) (first_that_stands (where_true (not (named i)) WrongResponder ∷ where_true (other i) OwnCertificate ∷ heard_cause full (is.0 i) ∷ [])))
 
 -- ---- the three ways
 
@@ -72,11 +76,14 @@ module _ (s : StartupState) (from : AddressParts) (now : ℕ) (near : ℕ) (nr :
   abbrev pub repeated : Option Joined
   repeated = repeated_session (held_with s.ledger (sha256 read.cert)) (keying_of read)
 
+  abbrev way_there : Way
+  way_there = way_of s.ledger (sha256 read.cert)
+
   pub record GivesAndLeaves (test : CookieTest) (answer : Keyed) (after : StartupState) : Type 0 where
     pub gives : keyed_with s from now near nr read test ≡ answer
     pub leaves : after_keyed_with s near nr read test ≡ after
 
-  not_change : (o : Option Joined) → again_or_new (keying_of read) o ≡ Change → ⊥
+  not_change : (o : Option Joined) → heard_as (keying_of read) (again_or_way o way_there) ≡ Change → ⊥
   not_change None e = cc
   not_change (Some j) e = cc
 
@@ -86,7 +93,7 @@ module _ (s : StartupState) (from : AddressParts) (now : ℕ) (near : ℕ) (nr :
   change_gives Moved e = record { gives = refl; leaves = refl }
   change_gives Expired e = record { gives = refl; leaves = refl }
 
-  held_again : (o : Option Joined) (j : Joined) → again_or_new (keying_of read) o ≡ Again j → o ≡ Some j
+  held_again : (o : Option Joined) (j : Joined) → heard_as (keying_of read) (again_or_way o way_there) ≡ Again j → o ≡ Some j
   held_again None j e = absurd (cc)
   held_again (Some k) j e = cc
 
@@ -98,26 +105,27 @@ module _ (s : StartupState) (from : AddressParts) (now : ℕ) (near : ℕ) (nr :
   again_gives Moved j e = absurd (cc)
   again_gives Expired j e = absurd (cc)
 
-  pub record IsBorn (test : CookieTest) (keying : Keying) : Type 0 where
+  pub record IsBorn (test : CookieTest) (keying : Keying) (way : Way) : Type 0 where
     pub current : test ≡ Current
     pub keying_is : keying_of read ≡ keying
+    pub way_is : way_there ≡ way
     pub fresh : repeated ≡ None
 
-  born_new : (o : Option Joined) (keying : Keying) → again_or_new (keying_of read) o ≡ Birth keying → (o ≡ None) × (keying_of read ≡ keying)
-  born_new None keying e = (refl, cc)
-  born_new (Some k) keying e = absurd (cc)
+  born_new : (o : Option Joined) (keying : Keying) (way : Way) → heard_as (keying_of read) (again_or_way o way_there) ≡ Birth keying way → (o ≡ None) × (keying_of read ≡ keying) × (way_there ≡ way)
+  born_new None keying way e = (refl, cc, cc)
+  born_new (Some k) keying way e = absurd (cc)
 
-  pub birth_is : (test : CookieTest) (keying : Keying) → hearing s read test ≡ Birth keying → IsBorn test keying
-  birth_is Current keying e =
-      let is = born_new repeated keying e in
-      record { current = refl; keying_is = is.1; fresh = is.0 }
-  birth_is Bad keying e = absurd (cc)
-  birth_is Moved keying e = absurd (cc)
-  birth_is Expired keying e = absurd (cc)
+  pub birth_is : (test : CookieTest) (keying : Keying) (way : Way) → hearing s read test ≡ Birth keying way → IsBorn test keying way
+  birth_is Current keying way e =
+      let is = born_new repeated keying way e in
+      record { current = refl; keying_is = is.1; way_is = is.2; fresh = is.0 }
+  birth_is Bad keying way e = absurd (cc)
+  birth_is Moved keying way e = absurd (cc)
+  birth_is Expired keying way e = absurd (cc)
 
-  pub birth_gives : (test : CookieTest) (keying : Keying) → IsBorn test keying →
+  pub birth_gives : (test : CookieTest) (keying : Keying) (way : Way) → IsBorn test keying way →
       GivesAndLeaves test (again_or_birth s keying from near nr None) (after_again_or_birth s keying near nr None)
-  birth_gives test keying is =
+  birth_gives test keying way is =
       record {
         gives = ap (keyed_with s from now near nr read) is.current ∙ ap (again_or_birth s (keying_of read) from near nr) is.fresh ∙ ap (λ (k : Keying). again_or_birth s k from near nr None) is.keying_is;
         leaves = ap (after_keyed_with s near nr read) is.current ∙ ap (after_again_or_birth s (keying_of read) near nr) is.fresh ∙ ap (λ (k : Keying). after_again_or_birth s k near nr None) is.keying_is;
@@ -137,26 +145,27 @@ module _ (s : StartupState) (payload : List ℕ) (from : AddressParts) (now : �
       (is_found (hearing s read (cookie_test s.cookie_secret read.cookie from now)) (Again j) (initiator_cause s payload from now full read) judged)
 
   -- its session can be born
-  pub record Bears (near : ℕ) (nr : List ℕ) (keying : Keying) : Type 0 where
+  pub record Bears (near : ℕ) (nr : List ℕ) (keying : Keying) (way : Way) : Type 0 where
     pub other : sha256 s.cert ≡ keying.peer → ⊥
-    pub heard : hear_refusal s.ledger keying true ≡ None
+    pub judged_so : judged s.ledger keying (is_none full) ≡ Ok (IsBirth way)
     pub fresh : repeated_session (held_with s.ledger keying.peer) keying ≡ None
     pub gives : GivesAndLeaves s from now near nr read (cookie_test s.cookie_secret read.cookie from now)
         (again_or_birth s keying from near nr None) (after_again_or_birth s keying near nr None)
     pub row : needs_row_with s read (cookie_test s.cookie_secret read.cookie from now) ≡ not (knows s.ledger keying.peer)
 
-  pub birth_so : (near : ℕ) (nr : List ℕ) (keying : Keying) → judged_initiator s payload from now full read ≡ Ok (Birth keying) → Bears near nr keying
-  birth_so near nr keying judged =
+  pub birth_so : (near : ℕ) (nr : List ℕ) (keying : Keying) (way : Way) → judged_initiator s payload from now full read ≡ Ok (Birth keying way) → Bears near nr keying way
+  birth_so near nr keying way found =
       let t : CookieTest = cookie_test s.cookie_secret read.cookie from now in
-      let none : initiator_cause s payload from now full read ≡ None = uncaused (hearing s read t) (Birth keying) (initiator_cause s payload from now full read) judged in
-      let is : IsBorn s from now near nr read t keying =
-      birth_is s from now near nr read t keying (is_found (hearing s read t) (Birth keying) (initiator_cause s payload from now full read) judged) in
+      let none : initiator_cause s payload from now full read ≡ None = uncaused (hearing s read t) (Birth keying way) (initiator_cause s payload from now full read) found in
+      let is : IsBorn s from now near nr read t keying way =
+      birth_is s from now near nr read t keying way (is_found (hearing s read t) (Birth keying way) (initiator_cause s payload from now full read) found) in
       let heard : IsHeard s full read = no_cause_is_heard s payload from now full read none is.current in
+      let new : session_again (held_with s.ledger (sha256 read.cert)) (keying_of read) ≡ None = same_session (held_with s.ledger (sha256 read.cert)) (keying_of read) ∙ is.fresh in
       record {
         other = λ same. heard.other (same ∙ sym (ap (λ (k : Keying). k.peer) is.keying_is));
-        heard = ap (λ (k : Keying). hear_refusal s.ledger k true) (sym is.keying_is) ∙ heard_free s.ledger (keying_of read) (is_none full) heard.heard;
+        judged_so = ap (λ (k : Keying). judged s.ledger k (is_none full)) (sym is.keying_is) ∙ (λ i. unless_refused (again_or_way (new i) (is.way_is i)) (heard.heard i));
         fresh = ap (λ (k : Keying). repeated_session (held_with s.ledger k.peer) k) (sym is.keying_is) ∙ is.fresh;
-        gives = birth_gives s from now near nr read t keying is;
+        gives = birth_gives s from now near nr read t keying way is;
         row = ap (needs_row_with s read) is.current ∙ ap (λ (k : Keying). not (knows s.ledger k.peer)) is.keying_is;
       }
 

@@ -290,11 +290,11 @@ way_of peer (Some (HalfOpen j)) = refl
 way_of peer (Some (KeptAsResponder j)) = refl
 way_of peer (Some (KeptAsInitiator j)) = refl
 
-pub gone_is_opening : (s : StartupState) (keying : Keying) (near : ℕ) (nr : List ℕ) (ended : Option Fact) (born : Fact) (answer : Heard)
-    → repeated_session (held_with s.ledger keying.peer) keying ≡ None → answer ≡ heard s.ledger keying near nr → answer ≡ Birth ended born
+pub gone_is_opening : (s : StartupState) (keying : Keying) (near : ℕ) (nr : List ℕ) (ended : Option Fact) (born : Fact)
+    → repeated_session (held_with s.ledger keying.peer) keying ≡ None → Birth ended born ≡ heard s.ledger keying near nr
     → attempt_gone ended ≡ opening_id (held_with s.ledger keying.peer)
-gone_is_opening s keying near nr ended born answer fresh is birth =
+gone_is_opening s keying near nr ended born fresh is =
     let same : Birth ended born ≡ Birth (way_made keying.peer (held_with s.ledger keying.peer)) (born_fact s.ledger keying near nr) =
-    sym birth ∙ is ∙ birth_heard s.ledger keying near nr (not_repeated (held_with s.ledger keying.peer) keying fresh) in
+    is ∙ birth_heard s.ledger keying near nr (not_repeated (held_with s.ledger keying.peer) keying fresh) in
     let ends : ended ≡ way_made keying.peer (held_with s.ledger keying.peer) = cc in
     ap attempt_gone ends ∙ way_of keying.peer (held_with s.ledger keying.peer)

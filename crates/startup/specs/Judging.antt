@@ -7,9 +7,11 @@ use Rattle.rtmfp_forms.specs.Address.{AddressParts}
 use Rattle.cookies.specs.declared.CookieTest.{CookieTest}
 use Rattle.cookies.specs.declared.CookieTest.TheVariants.{Bad, Moved, Expired, Current}
 use Rattle.cookies.specs.Cookie.{cookie_test}
-use Rattle.glare_core.specs.declared.facts.Joined.{Joined}
 use Rattle.glare_core.specs.declared.answers.Keying.{Keying}
+use Rattle.glare_core.specs.declared.answers.Judged.{Judged}
+use Rattle.glare_core.specs.declared.answers.Judged.TheVariants.{Again as IsAgain, Birth as IsBirth}
 use Rattle.glare_core.specs.Ledger.{held_with}
+use Rattle.glare_core.specs.Calls.{way_of, again_or_way}
 use Rattle.rtmfp_base.specs.declared.cause.Cause.{Cause}
 use Rattle.startup.specs.declared.judging.Hearing.{Hearing}
 use Rattle.startup.specs.declared.judging.Hearing.TheVariants.{Change, Again, Birth}
@@ -24,15 +26,17 @@ abbrev pub unless_cause : {A : Type 0} → A → Option Cause → Result A Cause
 unless_cause found None = Ok found
 unless_cause found (Some cause) = Err cause
 
--- its session is held, or would be born
-abbrev pub again_or_new : Keying → Option Joined → Hearing
-again_or_new keying None = Birth keying
-again_or_new keying (Some j) = Again j
+-- the same by what the ledger judges: its session is held, or would be born
+abbrev pub heard_as : Keying → Judged → Hearing
+heard_as keying (IsAgain j) = Again j
+heard_as keying (IsBirth way) = Birth keying way
 
 -- what hearing an initiator's keying would be, by the test of its cookie
 abbrev pub hearing : StartupState → InitiatorKeying → CookieTest → Hearing
-hearing s keying Current = again_or_new (keying_of keying)
-    (repeated_session (held_with s.ledger (sha256 keying.cert)) (keying_of keying))
+hearing s keying Current =
+    heard_as (keying_of keying)
+    (again_or_way (repeated_session (held_with s.ledger (sha256 keying.cert)) (keying_of keying))
+    (way_of s.ledger (sha256 keying.cert)))
 hearing s keying Bad = Change
 hearing s keying Moved = Change
 hearing s keying Expired = Change

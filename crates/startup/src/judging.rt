@@ -13,7 +13,7 @@ ghost use Rattle.startup.specs.Keyings.{needs_row, keyed_facts, iikeying_cause};
 ghost use Rattle.startup.specs.Keyings.{is_in_hello, attempt_cause, responder_cause, opening_cause};
 ghost use Rattle.startup.specs.Keyings.{rikeying_cause, opened, after_opening};
 ghost use Rattle.startup.specs.Packets.{is_signed};
-ghost use Rattle.startup.specs.Judging.{unless_cause, again_or_new, hearing, judged_initiator};
+ghost use Rattle.startup.specs.Judging.{unless_cause, heard_as, hearing, judged_initiator};
 ghost use Rattle.startup.specs.Read.{initiator_of, responder_of};
 ghost use Rattle.startup.specs.State.{peer_of_attempt};
 
@@ -21,14 +21,13 @@ use crate::aim::Aim;
 use crate::answer::{KeyRefusal, Keyed};
 use crate::attempt::{Attempt, Stage};
 use crate::choosing::wide;
-use crate::indexed::IndexedAttempts;
 use crate::parts::is_signed;
 use crate::reading::{
     InitiatorFields, ResponderFields, read_initiator_keying, read_responder_keying,
 };
 use crate::startup::Startup;
 use cookies::CookieTest;
-use glare_core::{Fact, HearRefusal, Joined, Keying};
+use glare_core::{Fact, HearRefusal, Joined, Judged, Keying, Way};
 use identity::Certificate;
 use rtmfp_base::Cause;
 use rtmfp_forms::Address;
@@ -40,8 +39,8 @@ pub enum Hearing {
     Change,
     /// It is the keying of this held session: the responder's keying is sent again.
     Again(Joined),
-    /// Its session is born.
-    Birth(Keying),
+    /// Its session is born, in this way.
+    Birth(Keying, Way),
 }
 
 /// What a keying says to the ledger.
@@ -70,13 +69,13 @@ fn heard_cause(full: Option<u32>, refusal: HearRefusal) -> Cause
     }
 }
 
-/// What hearing a keying would be, where this session was born of it, or none was.
-fn again_or_new(keying: Keying, repeated: Option<Joined>) -> Hearing
-    ensures { result ≡ again_or_new keying repeated }
+/// What hearing a keying would be, by what the ledger judges.
+fn heard_as(keying: Keying, judged: Judged) -> Hearing
+    ensures { result ≡ heard_as keying judged }
 {
-    match repeated {
-        Some(session) => Hearing::Again(session),
-        None => Hearing::Birth(keying),
+    match judged {
+        Judged::Again(session) => Hearing::Again(session),
+        Judged::Birth(way) => Hearing::Birth(keying, way),
     }
 }
 
@@ -106,22 +105,14 @@ fn unopened_cause(attempt: &Attempt, fields: &ResponderFields<'_>) -> Option<Cau
     None
 }
 
-/// The peer of the attempt with this near id, or why a responder's keying doesn't open it.
-fn opened_peer(
-    attempts: &IndexedAttempts,
-    near: u32,
-    fields: &ResponderFields<'_>,
-) -> Result<[u8; 32], Cause>
-    ensures peer { IfOk result (λ peer. peer_of_attempt (get attempts.now.attempts near)
-        ≡ Some peer) }
-    ensures none { IfOk result (λ _. attempt_cause (responder_of fields.now)
-        (get attempts.now.attempts near) ≡ None) }
+/// The peer of this attempt, or why a responder's keying doesn't open it.
+fn opened_peer(attempt: &Attempt, fields: &ResponderFields<'_>) -> Result<[u8; 32], Cause>
+    ensures peer { IfOk result (λ peer. peer_of_attempt (Some attempt.now) ≡ Some peer) }
+    ensures none { IfOk result (λ _. attempt_cause (responder_of fields.now) (Some attempt.now)
+        ≡ None) }
     ensures refused { IfErr result (λ cause. attempt_cause (responder_of fields.now)
-        (get attempts.now.attempts near) ≡ Some cause) }
+        (Some attempt.now) ≡ Some cause) }
 {
-    let Some(attempt) = attempts.get(near) else {
-        return Err(Cause::NoAttempt);
-    };
     match unopened_cause(attempt, fields) {
         Some(cause) => Err(cause),
         None => match &attempt.aim {
@@ -159,7 +150,7 @@ impl Startup {
             return Err(Cause::OwnCertificate);
         }
         match self.peers.judge(&keying, full.is_none()) {
-            Ok(repeated) => Ok(again_or_new(keying, repeated)),
+            Ok(judged) => Ok(heard_as(keying, judged)),
             Err(refusal) => Err(heard_cause(full, refusal)),
         }
     }
@@ -220,7 +211,7 @@ impl Startup {
         match hearing {
             Hearing::Change => Ok(Keyed::Change(self.change_answer(fields, from, moment))),
             Hearing::Again(session) => Ok(Keyed::Again(self.session_answer(session, from))),
-            Hearing::Birth(keying) => self.bear(keying, from, near, nr),
+            Hearing::Birth(keying, way) => self.bear(keying, way, from, near, nr),
         }
     }
 
@@ -262,7 +253,10 @@ impl Startup {
         if !self.has_signed(fields.payload, fields.sign) {
             return Err(Cause::BadSignature);
         }
-        opened_peer(&self.attempts, near, fields)
+        match self.attempts.get(near) {
+            Some(attempt) => opened_peer(attempt, fields),
+            None => Err(Cause::NoAttempt),
+        }
     }
 
     /// The peer whose attempt with this near id a responder's keying opens, or why the keying is
@@ -284,12 +278,7 @@ impl Startup {
         if !self.has_signed(fields.payload, fields.sign) {
             return Err(Cause::BadSignature);
         }
-        match unopened_cause(attempt, fields) {
-            Some(cause) => Err(cause),
-            None => match &attempt.aim {
-                Aim::AtPeer { peer, .. } => Ok(*peer),
-            },
-        }
+        opened_peer(attempt, fields)
     }
 
     /// Opens the session of the attempt with this near id, which is one with this peer; the attempt

@@ -1,12 +1,13 @@
 //! The keyings that bear and open sessions, and the hellos that an end answers (RFC 7016 section
 //! 3.5.1).
 
-ghost use Rattle.std.specs.Prelude.{[], ◌∷◌, ◌≡◌, ◌≢◌, ◌≤◌, length, true, false, IfOk, IfErr};
+ghost use Rattle.std.specs.Prelude.{Bool, [], ◌∷◌, ◌≡◌, ◌≢◌, ◌≤◌, length, true, false, IfOk, IfErr};
 ghost use Rattle.std.specs.Prelude.{IfSome, IfNone, IsOkAnd, IsTrue, OnErr, Ok, Err, Some, None};
 ghost use Rattle.sha2.specs.Sha256.{sha256};
+ghost use Rattle.glare_core.specs.declared.answers.Judged.TheVariants.{Birth as IsBirth};
 ghost use Rattle.glare_core.specs.Ledger.{held_with, knows};
 ghost use Rattle.glare_core.specs.Account.{Gave};
-ghost use Rattle.glare_core.specs.Calls.{hear_refusal};
+ghost use Rattle.glare_core.specs.Calls.{judged};
 ghost use Rattle.startup.specs.Keyings.{selects, initiator_hello_cause, initiator_hello_answer};
 ghost use Rattle.startup.specs.Keyings.{iikeying_cause, change_answer, session_answer};
 ghost use Rattle.startup.specs.Keyings.{repeated_session, again_or_birth, after_again_or_birth};
@@ -20,7 +21,7 @@ use crate::packets::{cookiechange_packet, rhello_packet, rikeying_packet};
 use crate::reading::{InitiatorFields, read_initiator_keying, read_responder_keying};
 use crate::rows::forget;
 use crate::startup::Startup;
-use glare_core::{Fact, Heard, Joined, Keying, Why};
+use glare_core::{Fact, Joined, Keying, Way, Why};
 use identity::Epd;
 use rtmfp_base::Cause;
 use rtmfp_forms::Address;
@@ -134,16 +135,18 @@ impl Startup {
         }
     }
 
-    /// Bears the session of a keying.
+    /// Bears the session of a keying, which was found to be a birth in this way.
     pub(crate) fn bear(
         &mut self,
         keying: &Keying,
+        way: &Way,
         from: &Address,
         near: u32,
         nr: [u8; 16],
     ) -> Result<Keyed, KeyRefusal>
         requires other { sha256 self.old.cert ≢ keying.now.peer }
-        requires heard { hear_refusal self.old.ledger keying.now true ≡ None }
+        requires judged { (free : Bool) × (judged self.old.ledger keying.now free
+            ≡ Ok (IsBirth way.now)) }
         requires fresh { repeated_session (held_with self.old.ledger keying.now.peer) keying.now
             ≡ None }
         ensures ok { IfOk result
@@ -164,8 +167,8 @@ impl Startup {
             k: self.peers.started(),
         };
         let answer = self.session_answer(&session, from);
-        match self.peers.hear(keying, near, nr, true) {
-            Ok(Heard::Birth { ended, born }) => {
+        match self.peers.bear(keying, way, near, nr) {
+            Ok((ended, born)) => {
                 let attempt = attempt_gone(&ended);
                 forget(&mut self.attempts, attempt);
                 Ok(Keyed::Birth {
@@ -174,7 +177,6 @@ impl Startup {
                     answer,
                 })
             }
-            Ok(Heard::Again(_)) => unreachable!(),
             Err(_) => Err(KeyRefusal::Memory),
         }
     }

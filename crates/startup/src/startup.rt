@@ -18,7 +18,8 @@ pub struct Startup {
     pub(crate) cert: Certificate,
     /// The fingerprint of the certificate.
     pub(crate) print: [u8; 32],
-    pub(crate) secret: [u8; 32],
+    /// The secret of the group, hashed once. No other place of an end has it.
+    pub(crate) secret: HmacKey,
     /// The key that signs keyings, hashed once.
     pub(crate) sign: HmacKey,
     pub(crate) cookies: CookieMaker,
@@ -61,12 +62,19 @@ impl Startup {
         Startup {
             cert,
             print,
-            secret,
+            secret: HmacKey::of(&secret),
             sign: HmacKey::of(&sign_key(&secret)),
             cookies: CookieMaker::new(cookie_secret),
             peers: Peers::new(alloc, print, max_peers, 0),
             attempts: IndexedAttempts::new(alloc),
         }
+    }
+
+    /// The secret of the group.
+    pub fn secret(&self) -> &HmacKey
+        ensures { result.now ≡ self.now.secret }
+    {
+        &self.secret
     }
 
     /// What is held with each peer.

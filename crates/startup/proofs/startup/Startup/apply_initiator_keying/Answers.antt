@@ -1,4 +1,4 @@
-use Rattle.std.proofs.Common.{◌≡◌, not, sym, ap, ◌∙◌, false, Ok, Some, None, IsTrue}
+use Rattle.std.proofs.Common.{◌≡◌, not, is_none, sym, ap, ◌∙◌, false, Ok, Some, None, IsTrue}
 use Rattle.glare_core.specs.Ledger.{knows}
 use Rattle.startup.specs.declared.answer.Keyed.{Keyed}
 use Rattle.startup.specs.declared.answer.Keyed.TheVariants as keyed
@@ -12,19 +12,19 @@ use Rattle.startup.proofs.startup.Startup.apply_initiator_keying.Goals as goal
 
 pub bear-requires-clause-other : goal.bear-requires-clause-other
 bear-requires-clause-other c =
-    let bears = birth_so c.args.self.now c.args.fields.now.payload.now c.args.from.now c.args.moment c.requires.judged.0 (initiator_of c.args.fields.now) c.args.near c.args.nr c.in-Birth.keying
+    let bears = birth_so c.args.self.now c.args.fields.now.payload.now c.args.from.now c.args.moment c.requires.judged.0 (initiator_of c.args.fields.now) c.args.near c.args.nr c.in-Birth.keying c.in-Birth.way
     (c.requires.judged.1 ∙ ap (λ (h : Hearing). Ok h) c.in-Birth.is) in
     bears.other
 
-pub bear-requires-clause-heard : goal.bear-requires-clause-heard
-bear-requires-clause-heard c =
-    let bears = birth_so c.args.self.now c.args.fields.now.payload.now c.args.from.now c.args.moment c.requires.judged.0 (initiator_of c.args.fields.now) c.args.near c.args.nr c.in-Birth.keying
+pub bear-requires-clause-judged : goal.bear-requires-clause-judged
+bear-requires-clause-judged c =
+    let bears = birth_so c.args.self.now c.args.fields.now.payload.now c.args.from.now c.args.moment c.requires.judged.0 (initiator_of c.args.fields.now) c.args.near c.args.nr c.in-Birth.keying c.in-Birth.way
     (c.requires.judged.1 ∙ ap (λ (h : Hearing). Ok h) c.in-Birth.is) in
-    bears.heard
+    (is_none c.requires.judged.0, bears.judged_so)
 
 pub bear-requires-clause-fresh : goal.bear-requires-clause-fresh
 bear-requires-clause-fresh c =
-    let bears = birth_so c.args.self.now c.args.fields.now.payload.now c.args.from.now c.args.moment c.requires.judged.0 (initiator_of c.args.fields.now) c.args.near c.args.nr c.in-Birth.keying
+    let bears = birth_so c.args.self.now c.args.fields.now.payload.now c.args.from.now c.args.moment c.requires.judged.0 (initiator_of c.args.fields.now) c.args.near c.args.nr c.in-Birth.keying c.in-Birth.way
     (c.requires.judged.1 ∙ ap (λ (h : Hearing). Ok h) c.in-Birth.is) in
     bears.fresh
 
@@ -46,7 +46,7 @@ returns-in-Again-clause-ok c =
 
 pub returns-in-Birth-clause-ok : goal.returns-in-Birth-clause-ok
 returns-in-Birth-clause-ok c =
-    let bears = birth_so c.args.self.now c.args.fields.now.payload.now c.args.from.now c.args.moment c.requires.judged.0 (initiator_of c.args.fields.now) c.args.near c.args.nr c.in-Birth.keying
+    let bears = birth_so c.args.self.now c.args.fields.now.payload.now c.args.from.now c.args.moment c.requires.judged.0 (initiator_of c.args.fields.now) c.args.near c.args.nr c.in-Birth.keying c.in-Birth.way
     (c.requires.judged.1 ∙ ap (λ (h : Hearing). Ok h) c.in-Birth.is) in
     if_ok (λ (answer : Keyed). (answer ≡ again_or_birth c.args.self.now c.in-Birth.keying c.args.from.now c.args.near c.args.nr None) ×
     (c.bear.new.self ≡ after_again_or_birth c.args.self.now c.in-Birth.keying c.args.near c.args.nr None))
@@ -59,7 +59,7 @@ returns-in-Birth-clause-ok c =
 
 pub returns-in-Birth-clause-memory : goal.returns-in-Birth-clause-memory
 returns-in-Birth-clause-memory c =
-    let bears = birth_so c.args.self.now c.args.fields.now.payload.now c.args.from.now c.args.moment c.requires.judged.0 (initiator_of c.args.fields.now) c.args.near c.args.nr c.in-Birth.keying
+    let bears = birth_so c.args.self.now c.args.fields.now.payload.now c.args.from.now c.args.moment c.requires.judged.0 (initiator_of c.args.fields.now) c.args.near c.args.nr c.in-Birth.keying c.in-Birth.way
     (c.requires.judged.1 ∙ ap (λ (h : Hearing). Ok h) c.in-Birth.is) in
     if_err (λ (refusal : KeyRefusal). (refusal ≡ Memory) × (knows c.args.self.now.ledger c.in-Birth.keying.peer ≡ false))
     (λ (refusal : KeyRefusal). (refusal ≡ Memory) × IsTrue (needs_row c.args.self.now c.args.fields.now.payload.now c.args.from.now c.args.moment))

@@ -1,4 +1,4 @@
-use Rattle.std.proofs.Common.{ℕ, ◌≡◌, sym, ap, ◌∙◌, None}
+use Rattle.std.proofs.Common.{ℕ, ◌≡◌, ap, ◌∙◌, None}
 use Rattle.glare_core.specs.declared.facts.Joined.{Joined}
 use Rattle.glare_core.specs.declared.answers.Heard.TheVariants.{Birth}
 use Rattle.glare_core.specs.declared.answers.Keying.{Keying}
@@ -17,32 +17,32 @@ invariant_of-self c =
     let fresh : repeated_session (held_with s.ledger keying.peer) keying ≡ None =
     ap (λ (t : StartupState). repeated_session (held_with t.ledger keying.peer) keying) c.self.view_is ∙ c.requires.fresh in
     let gone : c.attempt_gone-attempt.result ≡ opening_id (held_with s.ledger keying.peer) =
-    c.attempt_gone-attempt.ensures ∙ gone_is_opening s keying c.args.near c.args.nr c.in-Ok-Birth.ended c.in-Ok-Birth.born c.in-Ok-Birth.field-0 fresh c.in-Ok-Birth.ensures.ok.0 c.in-Ok-Birth.field-0-is in
+    c.attempt_gone-attempt.ensures ∙ gone_is_opening s keying c.args.near c.args.nr c.in-Ok.ended c.in-Ok.born fresh c.in-Ok.ensures.ok.0 in
     record {
       print_is = c.self.invariant.print_is;
       sign_is = c.self.invariant.sign_is;
-      sound = born_is_kept_sound s keying c.args.near c.args.nr c.in-Ok-Birth.field-0 c.hear.new.self c.forget.new.attempts.attempts
-          c.self.invariant.sound fresh c.in-Ok-Birth.ensures.ok.0 c.in-Ok-Birth.ensures.ok.1 (c.forget.ensures ∙ ap (without s.attempts) gone);
+      sound = born_is_kept_sound s keying c.args.near c.args.nr (Birth c.in-Ok.ended c.in-Ok.born) c.bear.new.self c.forget.new.attempts.attempts
+          c.self.invariant.sound fresh c.in-Ok.ensures.ok.0 c.in-Ok.ensures.ok.1 (c.forget.ensures ∙ ap (without s.attempts) gone);
     }
 
-pub returns-in-Ok-Birth-clause-ok : goal.returns-in-Ok-Birth-clause-ok
-returns-in-Ok-Birth-clause-ok c =
+pub returns-in-Ok-clause-ok : goal.returns-in-Ok-clause-ok
+returns-in-Ok-clause-ok c =
     let keying : Keying = c.args.keying.now in
     let ledger_is : c.self.inside.peers ≡ c.args.self.now.ledger = ap (λ (t : StartupState). t.ledger) c.self.view_is in
     let attempts_are : c.self.inside.attempts.attempts ≡ c.args.self.now.attempts = ap (λ (t : StartupState). t.attempts) c.self.view_is in
-    let heard_is : Birth c.in-Ok-Birth.ended c.in-Ok-Birth.born ≡ heard c.args.self.now.ledger keying c.args.near c.args.nr =
-    sym c.in-Ok-Birth.field-0-is ∙ c.in-Ok-Birth.ensures.ok.0 ∙ ap (λ (l : Ledger). heard l keying c.args.near c.args.nr) ledger_is in
-    let noted_is : c.hear.new.self ≡ heard_noted c.args.self.now.ledger (heard c.args.self.now.ledger keying c.args.near c.args.nr) =
-    c.in-Ok-Birth.ensures.ok.1 ∙ (λ i. heard_noted (ledger_is i) ((c.in-Ok-Birth.field-0-is ∙ heard_is) i)) in
+    let heard_is : Birth c.in-Ok.ended c.in-Ok.born ≡ heard c.args.self.now.ledger keying c.args.near c.args.nr =
+    c.in-Ok.ensures.ok.0 ∙ ap (λ (l : Ledger). heard l keying c.args.near c.args.nr) ledger_is in
+    let noted_is : c.bear.new.self ≡ heard_noted c.args.self.now.ledger (heard c.args.self.now.ledger keying c.args.near c.args.nr) =
+    c.in-Ok.ensures.ok.1 ∙ (λ i. heard_noted (ledger_is i) (heard_is i)) in
     let gone : c.attempt_gone-attempt.result ≡ opening_id (held_with c.args.self.now.ledger keying.peer) =
     c.attempt_gone-attempt.ensures
-    ∙ gone_is_opening c.args.self.now keying c.args.near c.args.nr c.in-Ok-Birth.ended c.in-Ok-Birth.born c.in-Ok-Birth.field-0 c.requires.fresh (c.in-Ok-Birth.field-0-is ∙ heard_is) c.in-Ok-Birth.field-0-is in
+    ∙ gone_is_opening c.args.self.now keying c.args.near c.args.nr c.in-Ok.ended c.in-Ok.born c.requires.fresh heard_is in
     let left_is : c.forget.new.attempts.attempts ≡ without c.args.self.now.attempts (opening_id (held_with c.args.self.now.ledger keying.peer)) =
     c.forget.ensures ∙ (λ i. without (attempts_are i) (gone i)) in
     let count : c.started.result ≡ c.args.self.now.ledger.started = c.started.ensures.started ∙ ap (λ (l : Ledger). l.started) ledger_is in
     let session : ℕ → Joined = λ k. record { peer = keying.peer; n = keying.n; near = c.args.near; far = keying.far; ni = keying.ni; nr = c.args.nr; k = k } in
     let told : c.session_answer-answer.result ≡ session_answer c.args.self.now (born_session c.args.self.now.ledger keying c.args.near c.args.nr) c.args.from.now =
     c.session_answer-answer.ensures ∙ ap (λ k. session_answer c.args.self.now (session k) c.args.from.now) count in (
-      born_is_birth c.args.self.now keying c.args.from.now c.args.near c.args.nr c.in-Ok-Birth.ended c.in-Ok-Birth.born c.session_answer-answer.result c.requires.fresh heard_is told,
+      born_is_birth c.args.self.now keying c.args.from.now c.args.near c.args.nr c.in-Ok.ended c.in-Ok.born c.session_answer-answer.result c.requires.fresh heard_is told,
       λ i. record (c.self.view_is i) { ledger = noted_is i; attempts = left_is i },
     )

@@ -3,8 +3,8 @@ use Rattle.startup.proofs.Sound.{new_is_sound}
 use Rattle.startup.proofs.startup.Startup.new.Goals as goal
 
 pub invariant_of-result : goal.invariant_of-result
-invariant_of-result c = rw (c.new-2.ensures.ledger, c.new-3.ensures) (record {
+invariant_of-result c = rw (c.of.ensures, c.new-2.ensures.ledger, c.new-3.ensures) (record {
   print_is = c.print-print.ensures;
-  sign_is = c.of.ensures ∙ c.sign_key.ensures;
+  sign_is = c.of-2.ensures ∙ c.sign_key.ensures;
   sound = rw (c.print-print.ensures) (new_is_sound _ _ _ _);
 })
