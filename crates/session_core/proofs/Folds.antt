@@ -153,15 +153,6 @@ role_once s call =
     stays (λ (t : SessionState). t.role)
     (record { stage = λ s x. refl; since = λ s x. refl; close_sent = λ s x. refl; keepalive = λ s x. refl; window = λ s x. refl; sealed = λ s x. refl }) s call
 
-secret_once : (s : SessionState) (call : Call) → (after_call s call).secret ≡ s.secret
-secret_once s (TakeStamps head moment) = refl
-secret_once s (MoveTo address) = refl
-secret_once s (Acknowledge bytes) = refl
-secret_once s (Lose by_time) = refl
-secret_once s call =
-    stays (λ (t : SessionState). t.secret)
-    (record { stage = λ s x. refl; since = λ s x. refl; close_sent = λ s x. refl; keepalive = λ s x. refl; window = λ s x. refl; sealed = λ s x. refl }) s call
-
 generation_once : (s : SessionState) (call : Call) → (after_call s call).generation ≡ s.generation
 generation_once s (TakeStamps head moment) = refl
 generation_once s (MoveTo address) = refl
@@ -171,11 +162,30 @@ generation_once s call =
     stays (λ (t : SessionState). t.generation)
     (record { stage = λ s x. refl; since = λ s x. refl; close_sent = λ s x. refl; keepalive = λ s x. refl; window = λ s x. refl; sealed = λ s x. refl }) s call
 
+inward_once : (s : SessionState) (call : Call) → (after_call s call).inward ≡ s.inward
+inward_once s (TakeStamps head moment) = refl
+inward_once s (MoveTo address) = refl
+inward_once s (Acknowledge bytes) = refl
+inward_once s (Lose by_time) = refl
+inward_once s call =
+    stays (λ (t : SessionState). t.inward)
+    (record { stage = λ s x. refl; since = λ s x. refl; close_sent = λ s x. refl; keepalive = λ s x. refl; window = λ s x. refl; sealed = λ s x. refl }) s call
+
+outward_once : (s : SessionState) (call : Call) → (after_call s call).outward ≡ s.outward
+outward_once s (TakeStamps head moment) = refl
+outward_once s (MoveTo address) = refl
+outward_once s (Acknowledge bytes) = refl
+outward_once s (Lose by_time) = refl
+outward_once s call =
+    stays (λ (t : SessionState). t.outward)
+    (record { stage = λ s x. refl; since = λ s x. refl; close_sent = λ s x. refl; keepalive = λ s x. refl; window = λ s x. refl; sealed = λ s x. refl }) s call
+
 pub ends_stay : EndsStay
 ends_stay s calls = (
   kept_by_calls (λ (t : SessionState). t.joined) joined_once s calls,
   kept_by_calls (λ (t : SessionState). t.own) own_once s calls,
   kept_by_calls (λ (t : SessionState). t.role) role_once s calls,
-  kept_by_calls (λ (t : SessionState). t.secret) secret_once s calls,
   kept_by_calls (λ (t : SessionState). t.generation) generation_once s calls,
+  kept_by_calls (λ (t : SessionState). t.inward) inward_once s calls,
+  kept_by_calls (λ (t : SessionState). t.outward) outward_once s calls,
 )

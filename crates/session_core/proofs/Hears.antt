@@ -1,20 +1,18 @@
 -- What a session hears, by the whole list of the numbers that it took, and what opens in it.
-use Rattle.std.proofs.Common.{◌≡◌, ◌↔◌, ℕ, List, Bool, true, false, ◌&&◌, if◌then◌else◌, take, replicate, Option, Some, None, refl, sym, ap, ◌∙◌}
+use Rattle.std.proofs.Common.{◌≡◌, ◌↔◌, ℕ, List, Bool, true, false, ◌&&◌, if◌then◌else◌, length, take, drop, replicate, Option, Some, None, refl, sym, ap, ◌∙◌, arith, length-take, length-drop}
 use Rattle.std.specs.Bool.{IsTrue}
 use Rattle.std.specs.Option.{is_none}
 use Rattle.std.proofs.lemmas.Slice.Eq.{bytes_eq-Decides}
 use Rattle.crypto_profile.specs.declared.sealing.SealFault.{SealFault}
+use Rattle.crypto_profile.specs.Keys.{Keys}
 use Rattle.crypto_profile.specs.Window.{window_answer, window_after, window_of}
 use Rattle.crypto_profile.specs.Taken.{answer, taken_after}
 use Rattle.crypto_profile.specs.Opening.{open_refusal, plain_of}
-use Rattle.crypto_profile.specs.Sealing.{number_of, NumberFits, Opens}
+use Rattle.crypto_profile.specs.Sealing.{number_of}
 use Rattle.crypto_profile.proofs.WindowLaws.{window_stands}
-use Rattle.crypto_profile.proofs.Opened.{opens_by_its_tag}
-use Rattle.glare_core.specs.declared.facts.Joined.{Joined}
-use Rattle.session_core.specs.declared.stage.Role.{Role}
-use Rattle.session_core.specs.declared.stage.Role.TheVariants.{Initiator, Responder}
-use Rattle.session_core.specs.Session.{SessionState, context_between, context_of}
-use Rattle.session_core.specs.Hearing.{answered, count_of, HearsByTaken, inward_keys, is_new, is_session_number, opens_in, OpensSomePlain, OpensThisPlain, unheard_by}
+use Rattle.crypto_profile.proofs.Opened.{opened_was_sealed, sealed_opens}
+use Rattle.session_core.specs.Session.{SessionState}
+use Rattle.session_core.specs.Hearing.{answered, count_of, HearsByTaken, is_new, is_session_number, opens_in, OpensBy, OpensSomePlain, OpensThisPlain, unheard_by}
 
 window_hearing : (b : Bool) (s : SessionState) (taken : List ℕ) (n : ℕ) → window_after s.window n ≡ window_of (taken_after taken n) → s.window ≡ window_of taken
     → (if b then (record s { window = window_after s.window n }) else s).window ≡ window_of (if b then taken_after taken n else taken)
@@ -32,11 +30,6 @@ hears_by_taken s taken part e =
 
 -- ---- opening
 
-fits : (g : ℕ) (j : Joined) (own : List ℕ) (role : Role) (outward : Bool) (number : List ℕ)
-    → (take 8 number ≡ replicate 8 0) ↔ NumberFits (context_between g j own role outward) number
-fits g j own Initiator outward number = ((λ e. e), (λ e. e))
-fits g j own Responder outward number = ((λ e. e), (λ e. e))
-
 both_true : (refusal : Option SealFault) (zeros : Bool) → (is_none refusal && zeros) ≡ true → (refusal ≡ None) × (zeros ≡ true)
 both_true None true h = (refl, refl)
 both_true None false h = absurd (cc)
@@ -45,26 +38,32 @@ both_true (Some why) zeros h = absurd (cc)
 true_both : (refusal : Option SealFault) (zeros : Bool) → refusal ≡ None → zeros ≡ true → (is_none refusal && zeros) ≡ true
 true_both refusal zeros p q = ap (λ r. is_none r && zeros) p ∙ q
 
+-- what was sealed by these keys opens by them, and gives this plain packet
+by_its_tag : (keys : Keys) (sid : ℕ) (part plain : List ℕ) → OpensBy keys sid part plain → (open_refusal keys sid part ≡ None) × (plain ≡ plain_of keys part)
+by_its_tag keys sid part plain opens =
+    let size : length (number_of part) ≡ 16 = omega (arith, opens.0, length-take 16 (drop 16 part), length-drop 16 part) in
+    let told = sealed_opens keys sid (number_of part) plain size in (
+      ap (open_refusal keys sid) opens.1 ∙ told.0,
+      sym (ap (plain_of keys) opens.1 ∙ told.1),
+    )
+
 pub opens_some_plain : OpensSomePlain
 opens_some_plain s part =
     let number : List ℕ = number_of part in
-    let refusal : Option SealFault = open_refusal (inward_keys s) s.joined.near part in
-    let zeros = bytes_eq-Decides (take 8 number) (replicate 8 0) in
-    let fit = fits s.generation s.joined s.own s.role false number in (
+    let refusal : Option SealFault = open_refusal s.inward s.joined.near part in
+    let zeros = bytes_eq-Decides (take 8 number) (replicate 8 0) in (
       (λ h.
           let test = both_true refusal (is_session_number number) h in
-          let plain : List ℕ = plain_of (inward_keys s) part in
-          (plain, (opens_by_its_tag s.secret (context_of s false) s.joined.near part plain).1 (test.0, fit.0 (zeros.0 test.1), refl))),
-      (λ found.
-          let told = (opens_by_its_tag s.secret (context_of s false) s.joined.near part found.0).0 found.1 in
-          true_both refusal (is_session_number number) told.0 (zeros.1 (fit.1 told.1))),
+          let was = opened_was_sealed s.inward s.joined.near part test.0 in
+          (plain_of s.inward part, (was.0, was.1, zeros.0 test.1))),
+      (λ found. true_both refusal (is_session_number number) (by_its_tag s.inward s.joined.near part found.0 found.1).0 (zeros.1 found.1.2)),
     )
 
 pub opens_this_plain : OpensThisPlain
-opens_this_plain s part plain h = ((opens_by_its_tag s.secret (context_of s false) s.joined.near part plain).0 h).2
+opens_this_plain s part plain opens = (by_its_tag s.inward s.joined.near part plain opens).1
 
 -- an answer that is the test says exactly that
 pub opens_exactly : (s : SessionState) (part : List ℕ) (answer : Bool) → answer ≡ opens_in s part
-    → IsTrue answer ↔ ((plain : List ℕ) × Opens s.secret (context_of s false) s.joined.near part plain)
+    → IsTrue answer ↔ ((plain : List ℕ) × OpensBy s.inward s.joined.near part plain)
 opens_exactly s part answer e =
     ((λ h. (opens_some_plain s part).0 (sym e ∙ h)), (λ found. e ∙ (opens_some_plain s part).1 found))

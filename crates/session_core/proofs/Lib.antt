@@ -1,4 +1,5 @@
 pub mod Hears
+pub mod Keyed
 pub mod Seals
 pub mod Meets
 pub mod Courses

@@ -10,9 +10,9 @@ use Rattle.crypto_profile.proofs.Opened.{sealed_opens, sealed_carries}
 use Rattle.glare_core.specs.declared.facts.Joined.{Joined}
 use Rattle.session_core.specs.declared.stage.Role.{Role}
 use Rattle.session_core.specs.declared.stage.Role.TheVariants.{Initiator, Responder}
-use Rattle.session_core.specs.Session.{context_between, context_of}
+use Rattle.session_core.specs.Session.{context_between}
 use Rattle.session_core.specs.Sealed.{number_bytes, sealed_part}
-use Rattle.session_core.specs.Hearing.{inward_keys, is_session_number, opens_under}
+use Rattle.session_core.specs.Hearing.{is_session_number, opens_under}
 use Rattle.session_core.specs.Meeting.{other_role, ContextsMeet, SealedOpensThere}
 
 not-not : (b : Bool) → not (not b) ≡ b
@@ -46,8 +46,8 @@ count_back n h = from_be_bytes-to_be_bytes_8 n h
 
 pub sealed_opens_there : SealedOpensThere
 sealed_opens_there a b plain e more =
-    let keys : Keys = keys_of a.secret (context_of a true) in
-    let same_keys : keys ≡ inward_keys b = ap (λ c. keys_of a.secret c) (contexts_meet a b true e) ∙ ap (λ g. keys_of g (context_of b false)) e.secret in
+    let keys : Keys = a.outward in
+    let same_keys : keys ≡ b.inward = e.keyed.away ∙ ap (keys_of e.secret) (contexts_meet a b true e) ∙ sym e.keyed_there.towards in
     let number : List ℕ = number_bytes (a.sealed + 1) in
     let part : List ℕ = sealed_part a plain in
     let long : length number ≡ 16 = number_long (a.sealed + 1) in

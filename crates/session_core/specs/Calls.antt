@@ -197,9 +197,9 @@ abbrev pub CourseIsByTheTable : Type 0
 CourseIsByTheTable = (s : SessionState) (calls : List Call) →
     course_of (after_calls s calls) ≡ folded course_step (course_of s) calls
 
--- what no call changes: who the ends are, and the secret with its generation
+-- what no call changes: who the ends are, and the keys with the generation of their secret
 abbrev pub EndsStay : Type 0
 EndsStay = (s : SessionState) (calls : List Call)
     → ((after_calls s calls).joined ≡ s.joined) × ((after_calls s calls).own ≡ s.own) ×
-    ((after_calls s calls).role ≡ s.role) × ((after_calls s calls).secret ≡ s.secret) ×
-    ((after_calls s calls).generation ≡ s.generation)
+    ((after_calls s calls).role ≡ s.role) × ((after_calls s calls).generation ≡ s.generation) ×
+    ((after_calls s calls).inward ≡ s.inward) × ((after_calls s calls).outward ≡ s.outward)

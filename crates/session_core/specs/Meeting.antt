@@ -3,18 +3,20 @@ use Rattle.std.specs.Prelude.{◌≡◌, ℕ, ◌+◌, ◌-◌, ◌^◌, ◌<◌
 use Rattle.crypto_profile.specs.Opening.{plain_of}
 use Rattle.session_core.specs.declared.stage.Role.{Role}
 use Rattle.session_core.specs.declared.stage.Role.TheVariants.{Initiator, Responder}
-use Rattle.session_core.specs.Session.{SessionState, context_of}
+use Rattle.session_core.specs.Session.{SessionState, IsKeyed, context_of}
 use Rattle.session_core.specs.Sealed.{sealed_part}
-use Rattle.session_core.specs.Hearing.{count_of, inward_keys, opens_in}
+use Rattle.session_core.specs.Hearing.{count_of, opens_in}
 
 abbrev pub other_role : Role → Role
 other_role Initiator = Responder
 other_role Responder = Initiator
 
--- these are the two ends of one session: they have its secret of one generation, its nonces, and
--- each other's fingerprints and session IDs
+-- these are the two ends of one session: their keys are those of one secret, and they have its
+-- generation, its nonces, and each other's fingerprints and session IDs
 pub record AreEnds (a b : SessionState) : Type 0 where
-  pub secret : a.secret ≡ b.secret
+  pub secret : List ℕ
+  pub keyed : IsKeyed secret a
+  pub keyed_there : IsKeyed secret b
   pub generation : a.generation ≡ b.generation
   pub ni : a.joined.ni ≡ b.joined.ni
   pub nr : a.joined.nr ≡ b.joined.nr
@@ -35,5 +37,5 @@ ContextsMeet = (a b : SessionState) (outward : Bool) → AreEnds a b →
 abbrev pub SealedOpensThere : Type 0
 SealedOpensThere = (a b : SessionState) (plain : List ℕ) → AreEnds a b → a.sealed < 2 ^ 64 - 1
     → (opens_in b (sealed_part a plain) ≡ true) ×
-    (plain_of (inward_keys b) (sealed_part a plain) ≡ plain) ×
+    (plain_of b.inward (sealed_part a plain) ≡ plain) ×
     (count_of (sealed_part a plain) ≡ a.sealed + 1)

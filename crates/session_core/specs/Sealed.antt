@@ -1,8 +1,8 @@
 -- Packets of a session sealed.
-use Rattle.std.specs.Prelude.{ℕ, ◌+◌, ◌-◌, ◌^◌, ◌==◌, List, ◌++◌, length, take, drop, replicate, Bool, true, Option, None, Some, if◌then◌else◌}
+use Rattle.std.specs.Prelude.{ℕ, ◌+◌, ◌-◌, ◌^◌, ◌==◌, List, ◌++◌, length, take, drop, replicate, Bool, Option, None, Some, if◌then◌else◌}
 use Rattle.std.specs.Int.{w64, to_be_bytes}
-use Rattle.crypto_profile.specs.Sealing.{sealed_in}
-use Rattle.session_core.specs.Session.{SessionState, context_of}
+use Rattle.crypto_profile.specs.Sealing.{sealed}
+use Rattle.session_core.specs.Session.{SessionState}
 
 -- the number of a session's packet, by its count: 8 zero bytes and 8 bytes of the count
 abbrev pub number_bytes : ℕ → List ℕ
@@ -10,8 +10,7 @@ number_bytes count = replicate 8 0 ++ to_be_bytes w64 count
 
 -- the sealed part of a session's next packet
 abbrev pub sealed_part : SessionState → List ℕ → List ℕ
-sealed_part s plain = sealed_in s.secret (context_of s true) s.joined.far
-    (number_bytes (s.sealed + 1)) plain
+sealed_part s plain = sealed s.outward s.joined.far (number_bytes (s.sealed + 1)) plain
 
 -- all counts are used
 abbrev pub is_spent : SessionState → Bool

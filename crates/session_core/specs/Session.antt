@@ -25,9 +25,11 @@ pub record SessionState : Type 0 where
   -- the own fingerprint
   pub own : List ℕ
   pub role : Role
-  -- the group secret, and its generation
-  pub secret : List ℕ
+  -- the generation of the group secret that it was begun under
   pub generation : ℕ
+  -- the keys of packets towards this end, and of those away from it
+  pub inward : Keys
+  pub outward : Keys
   -- where datagrams of the session are sent
   pub address : AddressParts
   pub stage : Stage
@@ -61,11 +63,10 @@ context_between generation j own Responder outward =
 abbrev pub context_of : SessionState → Bool → Context
 context_of s outward = context_between s.generation s.joined s.own s.role outward
 
--- the keys of both directions are those of their contexts
-pub record IsKeyed (secret : List ℕ) (generation : ℕ) (own : List ℕ) (joined : Joined) (role : Role)
-    (inward outward : Keys) : Type 0 where
-  pub towards : inward ≡ keys_of secret (context_between generation joined own role false)
-  pub away : outward ≡ keys_of secret (context_between generation joined own role true)
+-- the keys of both directions are those of this group secret in their contexts
+pub record IsKeyed (secret : List ℕ) (s : SessionState) : Type 0 where
+  pub towards : s.inward ≡ keys_of secret (context_of s false)
+  pub away : s.outward ≡ keys_of secret (context_of s true)
 
 -- ---- a new session
 
@@ -74,14 +75,15 @@ abbrev pub first_stage : Role → Stage
 first_stage Initiator = Open
 first_stage Responder = Opening
 
--- under a group secret of a generation
+-- under a group secret of a generation, of which it keeps its keys alone
 abbrev pub new_session_under : ℕ → Joined → List ℕ → Role → AddressParts → List ℕ → ℕ → SessionState
 new_session_under generation joined own role address secret begun = record {
   joined = joined;
   own = own;
   role = role;
-  secret = secret;
   generation = generation;
+  inward = keys_of secret (context_between generation joined own role false);
+  outward = keys_of secret (context_between generation joined own role true);
   address = address;
   stage = first_stage role;
   since = begun;

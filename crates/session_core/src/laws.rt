@@ -4,7 +4,7 @@
 ghost use Rattle.session_core.specs.Calls.{AddressIsTheLast, CourseIsByTheTable, EndsStay, StampIsTheLast, TakenIsTheLast, TripIsByTheSamples, WindowIsByAcksAndLosses};
 ghost use Rattle.session_core.specs.Deadline.{IsDueByDeadline};
 ghost use Rattle.session_core.specs.Meeting.{ContextsMeet, SealedOpensThere};
-ghost use Rattle.session_core.specs.Hearing.{HearsByTaken, OpensSomePlain, OpensThisPlain};
+ghost use Rattle.session_core.specs.Hearing.{HearsByTaken, OpensInItsContext, OpensSomePlain, OpensThisPlain};
 
 /// A session hears each sealed part as the whole list of the numbers that it took says.
 pub fn a_session_hears_by_what_it_took()
@@ -12,10 +12,11 @@ pub fn a_session_hears_by_what_it_took()
 {}
 
 /// A sealed part opens in a session exactly where it is the sealed part of some plain packet, and
-/// of one alone.
+/// of one alone: by the session's keys, and so under their secret in the session's context.
 pub fn what_opens_was_sealed_in_its_context()
     ensures some { OpensSomePlain }
     ensures one { OpensThisPlain }
+    ensures context { OpensInItsContext }
 {}
 
 /// The context away from one end of a session is that towards the other.

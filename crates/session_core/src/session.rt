@@ -1,8 +1,6 @@
 //! One end of a session.
 
 ghost use Rattle.std.specs.Prelude.{◌≡◌, ◌↔◌, ◌+◌, ◌<◌, ◌^◌, IsTrue, List, ℕ, false, true, is_none, ◌≤◌, length, IfSome};
-ghost use Rattle.crypto_profile.specs.Keys.{keys_of};
-ghost use Rattle.crypto_profile.specs.Sealing.{Opens};
 ghost use Rattle.rtmfp_base.specs.Reasons.{where_true};
 ghost use Rattle.session_core.specs.Session.{SessionState, context_between, context_of, first_stage, new_session, new_session_under, is_opening, confirmed, mode_of, head_at, with_stamps, moved_to};
 ghost use Rattle.session_core.specs.Closing.{is_held, is_near_close, closed_near, asked_to_close, close_answered, first_due, after_due, needs_keepalive, kept_alive, with_acknowledged, with_loss};
@@ -11,7 +9,7 @@ ghost use Rattle.session_core.specs.Congestion.{IsCongestion};
 ghost use Rattle.session_core.specs.Trips.{resend_time};
 ghost use Rattle.session_core.specs.Sealed.{is_spent, seal_answer, after_seal, sealed_into, sealed_part};
 ghost use Rattle.session_core.specs.Sealed.{with_part};
-ghost use Rattle.session_core.specs.Hearing.{counted, opens_in, unheard, heard_answer, after_heard, opened};
+ghost use Rattle.session_core.specs.Hearing.{counted, opens_in, unheard, heard_answer, after_heard, opened, OpensBy};
 
 use crate::congestion::{Congestion, first_congestion, grown, shrunk};
 use crate::hearing::{Unheard, count_of, has_session_number, opens_under};
@@ -48,13 +46,12 @@ const ID_LEN: usize = 4;
 
 /// One end of a session: its values, its stage, what it has sealed and taken.
 ///
-/// The keys of both directions are made once. Contracts see the group secret and the contexts.
+/// It keeps the keys of both directions, which are made once, and not the group secret.
 #[derive(Drop)]
 pub struct Session {
     joined: Joined,
     own: [u8; 32],
     role: Role,
-    secret: [u8; 32],
     generation: u64,
     inward: Keys,
     outward: Keys,
@@ -73,7 +70,7 @@ pub struct Session {
 
 impl Model for Session {
     ghost use Rattle.session_core.specs.Congestion.{IsCongestion};
-    ghost use Rattle.session_core.specs.Session.{SessionState, IsKeyed};
+    ghost use Rattle.session_core.specs.Session.{SessionState};
 
     ghost Value = { SessionState };
 
@@ -81,8 +78,9 @@ impl Model for Session {
       joined = s.joined;
       own = s.own;
       role = s.role;
-      secret = s.secret;
       generation = s.generation;
+      inward = s.inward;
+      outward = s.outward;
       address = s.address;
       stage = s.stage;
       since = s.since;
@@ -97,8 +95,7 @@ impl Model for Session {
       congestion = s.congestion;
     } };
 
-    ghost invariant = { λ s. IsKeyed s.secret s.generation s.own s.joined s.role s.inward s.outward ×
-        IsCongestion s.congestion };
+    ghost invariant = { λ s. IsCongestion s.congestion };
 }
 
 /// The context of packets of a generation, away from an end or towards it.
@@ -169,8 +166,8 @@ impl Session {
         Session::under(joined, own, role, address, &HmacKey::of(secret), 0, moment)
     }
 
-    /// The same under a group secret of this generation, which was hashed before. The session stays
-    /// in its generation (own).
+    /// The same under a group secret of this generation, which was hashed before. The session keeps
+    /// its keys, and stays in its generation (own).
     pub fn under(
         joined: &Joined,
         own: &[u8; 32],
@@ -187,7 +184,6 @@ impl Session {
             joined: *joined,
             own: *own,
             role,
-            secret: *secret.bytes(),
             generation,
             inward: Keys::under(
                 secret,
@@ -247,7 +243,7 @@ impl Session {
     /// The key of the keystream of packets away from this end, by which they are deciphered and
     /// none is verified.
     pub fn stream_key(&self) -> &StreamKey
-        ensures { result.now ≡ (keys_of self.now.secret (context_of self.now true)).enc }
+        ensures { result.now ≡ self.now.outward.enc }
     {
         self.outward.stream()
     }
@@ -259,20 +255,12 @@ impl Session {
         self.generation
     }
 
-    /// The group secret.
-    pub fn secret(&self) -> &[u8; 32]
-        ensures { result.now ≡ self.now.secret }
-    {
-        &self.secret
-    }
-
-    /// Whether a sealed part opens in the context towards this end, also where its number was taken
+    /// Whether a sealed part opens by the keys towards this end, also where its number was taken
     /// before. It changes nothing.
     pub fn opens(&self, sealed: &[u8]) -> bool
         ensures value { result ≡ opens_in self.now sealed.now }
         ensures exact { IsTrue result ↔ ((plain : List ℕ) ×
-            Opens self.now.secret (context_of self.now false) self.now.joined.near sealed.now
-            plain) }
+            OpensBy self.now.inward self.now.joined.near sealed.now plain) }
     {
         opens_under(&self.inward, self.joined.near, sealed)
     }

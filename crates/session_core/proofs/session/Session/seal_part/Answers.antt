@@ -10,8 +10,9 @@ returns-clause-sealed c =
       joined = c.self.inside.joined;
       own = c.self.inside.own;
       role = c.self.inside.role;
-      secret = c.self.inside.secret;
       generation = c.self.inside.generation;
+      inward = c.self.inside.inward;
+      outward = c.self.inside.outward;
       address = c.self.inside.address;
       stage = c.self.inside.stage;
       since = c.self.inside.since;
@@ -25,6 +26,6 @@ returns-clause-sealed c =
       congestion = c.self.inside.congestion;
     } in
     c.seal_into.ensures
-    ∙ sealed_next s c.self.inside.outward c.number_of_count-number.result c.bytes.result.now c.args.packet.now
-    c.self.invariant.0.away c.number_of_count-number.ensures c.bytes.ensures.bytes
+    ∙ sealed_next s c.number_of_count-number.result c.bytes.result.now c.args.packet.now
+    c.number_of_count-number.ensures c.bytes.ensures.bytes
     ∙ ap (λ st. sealed_part st c.args.packet.now) c.self.view_is
