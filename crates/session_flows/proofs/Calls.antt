@@ -1,13 +1,13 @@
 -- What the calls on sending flows leave and state.
 use Rattle.std.proofs.Common.{◌≡◌, ℕ, ◌<◌, Bool, true, false, cond, List, [], ◌∷◌, Option, Some, None, Result, Ok, Err, MatchOption, length, get_or, refl, sym, ap, ◌∙◌, subst}
-use Rattle.std.specs.Prelude.{slice_get, slice_set, IfOk, IsOk, OnOk, OnErr, IfErr, ◌↔◌}
+use Rattle.std.specs.Prelude.{slice_get, slice_set, IfOk, IsOk, OnOk, IfErr, ◌↔◌}
 use Rattle.std.specs.Option.{option_map}
 use Rattle.std.proofs.lemmas.Option.{slice_get_read}
 use Rattle.flow_send.specs.declared.waiting.MessageOptions.{MessageOptions}
 use Rattle.flow_send.specs.declared.outcome.QueueRefusal.{QueueRefusal}
 use Rattle.flow_send.specs.declared.outcome.QueueRefusal.TheVariants as sender
 use Rattle.flow_send.specs.declared.outcome.NotQueued.{NotQueued as NotQueuedHere}
-use Rattle.flow_send.specs.Sender.{Sender, next_of, queued, waits, abandoned, finish_by}
+use Rattle.flow_send.specs.Sender.{next_of, queued, waits, abandoned, finish_by}
 use Rattle.flow_send.specs.Flow.{Flow, with_sender, next_message, queue_refusal, is_finished}
 use Rattle.session_flows.specs.declared.refusal.CallRefusal.TheVariants as refusal
 use Rattle.session_flows.specs.Keeping.{FlowsState, with_sending, with_flow, sending_at, Stated, Queued, Abandoned, Finished, Did}
@@ -53,10 +53,6 @@ queue_refuses s id size f r there h =
 pub if_ok : {A E : Type 0} (r : Result A E) (P : Type 0) → P → IfOk r (λ (x : A). P)
 if_ok (Ok x) P h = h
 if_ok (Err e) P h = tt
-
-pub id_kept : {A E : Type 0} (r : Result A E) (f g : Flow) (s : Sender) → OnOk r (g ≡ with_sender f s) → OnErr r (g ≡ f) → g.id ≡ f.id
-id_kept (Ok x) f g s ok err = ap (λ (y : Flow). y.id) ok
-id_kept (Err e) f g s ok err = ap (λ (y : Flow). y.id) err
 
 -- ---- a message is abandoned
 

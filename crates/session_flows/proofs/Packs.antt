@@ -1,9 +1,7 @@
 -- Which flow sends, by its index, and what a packet takes.
 use Prim.Native.Nat.{zero, suc}
-use Rattle.std.proofs.Common.{◌≡◌, ℕ, ◌+◌, ◌-◌, ◌<◌, ◌≤◌, ◌^◌, Bool, true, false, cond, nat_lt, nat_le, min, List, [], ◌∷◌, Option, Some, None, length, drop, get_or, refl, sym, ap, ◌∙◌, subst, arith, inl, inr}
+use Rattle.std.proofs.Common.{◌≡◌, ℕ, ◌+◌, ◌-◌, ◌<◌, ◌≤◌, ◌^◌, Bool, true, false, cond, nat_lt, nat_le, min, List, [], ◌∷◌, Option, Some, None, refl, sym, ap, ◌∙◌, subst, arith, inl, inr}
 use Rattle.std.specs.Prelude.{slice_get, slice_set, is_none}
-use Rattle.std.proofs.lemmas.List.{drop_more, drop_all}
-use Rattle.std.proofs.lemmas.Option.{slice_get_read}
 use Rattle.std.proofs.lemmas.Bool.{cases_lt, lt-ltb, le-ltb, lt-leb, le-leb}
 use Rattle.rtmfp_data_chunks.specs.Runs.{Chunk}
 use Rattle.flow_send.specs.declared.outcome.NoChunk.{NoChunk}
@@ -12,55 +10,12 @@ use Rattle.flow_send.specs.Choice.{Choice, choice_bytes, chunk_for}
 use Rattle.flow_send.specs.Flow.{Flow, chunk_refusal_of, if_room, data_length, chunk_options}
 use Rattle.session_flows.specs.declared.pace.Pace.{Pace}
 use Rattle.session_flows.specs.declared.pace.Marks.{Marks}
-use Rattle.session_flows.specs.Packing.{may_send, chosen, before_other, first_to_send, session_flight, IsNextFrom, Packed, Packing, packed_by, flow_packed, put_back, packed, packing_with, packed_of, packed_once, packs, packs_on, Goes}
+use Rattle.session_flows.specs.Packing.{may_send, chosen, before_other, first_to_send, session_flight, Packed, Packing, packed_by, flow_packed, put_back, packed, packing_with, packed_of, packed_once, packs, packs_on, Goes}
 
 -- ---- the flow that sends
 
 some_same : {x y : Flow} → ◌≡◌ {A = Option Flow} (Some x) (Some y) → x ≡ y
 some_same e = cc
-
--- what is read twice is one
-pub same_item : (fs : List Flow) (at : ℕ) (x y : Flow) → at < length fs → get_or fs at x ≡ x → get_or fs at y ≡ y → x ≡ y
-same_item fs at x y within a b = some_same (sym (slice_get_read fs (length fs) at x refl within (sym a)) ∙ slice_get_read fs (length fs) at y refl within (sym b))
-
--- one more flow in front
-step : (pace : Pace) (fs : List Flow) (at : ℕ) (x : Flow) → at < length fs → get_or fs at x ≡ x →
-    first_to_send pace (drop at fs) ≡ cond (may_send pace x) (Some (before_other x (first_to_send pace (drop (at + 1) fs)))) (first_to_send pace (drop (at + 1) fs))
-step pace fs at x within is =
-    ap (λ (l : List Flow). first_to_send pace l) (drop_more fs at x within)
-    ∙ ap (λ (y : Flow). first_to_send pace (y ∷ drop (at + 1) fs)) is
-
-sends : (pace : Pace) (fs : List Flow) (at : ℕ) (x : Flow) (o : Option Flow) → at < length fs → get_or fs at x ≡ x → may_send pace x ≡ true → first_to_send pace (drop (at + 1) fs) ≡ o →
-    first_to_send pace (drop at fs) ≡ Some (before_other x o)
-sends pace fs at x o within is so e =
-    step pace fs at x within is ∙ ap (λ (b : Bool). cond b (Some (before_other x (first_to_send pace (drop (at + 1) fs)))) (first_to_send pace (drop (at + 1) fs))) so
-    ∙ ap (λ (p : Option Flow). Some (before_other x p)) e
-
--- none after it sends
-pub sends_alone : (pace : Pace) (fs : List Flow) (at : ℕ) (x : Flow) → at < length fs → get_or fs at x ≡ x → may_send pace x ≡ true → IsNextFrom pace fs (at + 1) None → IsNextFrom pace fs at (Some at)
-sends_alone pace fs at x within is so h = (sends pace fs at x None within is so h ∙ sym (slice_get_read fs (length fs) at x refl within (sym is)), within)
-
--- another one has a higher priority, or not
-pub sends_behind : (pace : Pace) (fs : List Flow) (at i : ℕ) (x y : Flow) → at < length fs → get_or fs at x ≡ x → get_or fs i y ≡ y → may_send pace x ≡ true → x.priority < y.priority →
-    IsNextFrom pace fs (at + 1) (Some i) → IsNextFrom pace fs at (Some i)
-sends_behind pace fs at i x y within is other so less h =
-    let there : slice_get fs i ≡ Some y = slice_get_read fs (length fs) i y refl h.1 (sym other) in (
-      sends pace fs at x (Some y) within is so (h.0 ∙ there)
-          ∙ ap (λ (b : Bool). Some (cond b y x)) (lt-ltb x.priority y.priority less) ∙ sym there,
-      h.1,
-    )
-
-pub sends_before : (pace : Pace) (fs : List Flow) (at i : ℕ) (x y : Flow) → at < length fs → get_or fs at x ≡ x → get_or fs i y ≡ y → may_send pace x ≡ true → y.priority ≤ x.priority →
-    IsNextFrom pace fs (at + 1) (Some i) → IsNextFrom pace fs at (Some at)
-sends_before pace fs at i x y within is other so less h =
-    let there : slice_get fs i ≡ Some y = slice_get_read fs (length fs) i y refl h.1 (sym other) in (
-      sends pace fs at x (Some y) within is so (h.0 ∙ there)
-          ∙ ap (λ (b : Bool). Some (cond b y x)) (le-ltb x.priority y.priority less) ∙ sym (slice_get_read fs (length fs) at x refl within (sym is)),
-      within,
-    )
-
-pub none_beyond : (pace : Pace) (fs : List Flow) (n : ℕ) → length fs ≤ n → IsNextFrom pace fs n None
-none_beyond pace fs n le = ap (λ (l : List Flow). first_to_send pace l) (drop_all n fs le)
 
 -- ---- refusals with a sum that stands still at its type's end
 
@@ -104,16 +59,9 @@ same_goes window flight bytes few =
       | inr most ↦ le-leb (min flight (2 ^ 64 - 1) + bytes) window (omega arith) ∙ sym (le-leb (flight + bytes) window most)
     ]
 
--- ---- what is in flight
-
-pub flight_done : (fs : List Flow) (sum i most : ℕ) → length fs ≤ i → sum ≤ most → min (sum + session_flight (drop i fs)) most ≡ min (session_flight fs) most → sum ≡ min (session_flight fs) most
-flight_done fs sum i most le within h =
-    let none : session_flight (drop i fs) ≡ 0 = ap (λ (l : List Flow). session_flight l) (drop_all i fs le) in
-    omega arith
-
 -- ---- one more chunk
 
-set_back : (fs : List Flow) (at : ℕ) (x : Flow) → slice_get fs at ≡ Some x → slice_set fs at x ≡ fs
+pub set_back : (fs : List Flow) (at : ℕ) (x : Flow) → slice_get fs at ≡ Some x → slice_set fs at x ≡ fs
 set_back [] at x h = refl
 set_back (y ∷ later) zero x h = cc
 set_back (y ∷ later) (suc at) x h = ap (λ (l : List Flow). y ∷ l) (set_back later at x h)

@@ -70,6 +70,14 @@ room_by : (n size priority : ℕ) (b : Bool) → nat_le 256 n ≡ b →
 room_by n size priority true e h = absurd cc
 room_by n size priority false e h = grind (arith, nat_tests)
 
+low_by : (n size priority : ℕ) (b : Bool) → cond b (Some (FlowsFull 256)) (cond (nat_lt 64 size || nat_lt 7 priority) (Some (WideMetadata size)) None) ≡ None → priority ≤ 7
+low_by n size priority true h = absurd cc
+low_by n size priority false h = grind (arith, nat_tests, h)
+
+-- and its priority is at most 7
+pub priority_low : (s : FlowsState) (size priority : ℕ) → open_refusal s size priority ≡ None → priority ≤ 7
+priority_low s size priority h = low_by (length s.sending) size priority (nat_le 256 (length s.sending)) h
+
 pub room_left : (s : FlowsState) (size priority : ℕ) → open_refusal s size priority ≡ None → length s.sending < 256
 room_left s size priority h = room_by (length s.sending) size priority (nat_le 256 (length s.sending)) refl h
 

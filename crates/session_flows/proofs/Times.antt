@@ -41,7 +41,7 @@ within_by n len at false e h = absurd cc
 pub pos_within : (p : Flow → Bool) (fs : List Flow) (at : ℕ) → position p fs ≡ Some at → at < length fs
 pos_within p fs at h = within_by (position_or_len p fs) (length fs) at (nat_lt (position_or_len p fs) (length fs)) refl h
 
-none_found : (p : Flow → Bool) (fs : List Flow) → position p fs ≡ None → find p fs ≡ None
+pub none_found : (p : Flow → Bool) (fs : List Flow) → position p fs ≡ None → find p fs ≡ None
 none_found p fs h = find_at p fs ∙ slice_get_past fs (position_or_len p fs) (none_by (position_or_len p fs) (length fs) (nat_lt (position_or_len p fs) (length fs)) refl h)
 
 found_at : (p : Flow → Bool) (fs : List Flow) (at : ℕ) → position p fs ≡ Some at → find p fs ≡ slice_get fs at

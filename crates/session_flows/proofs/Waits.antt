@@ -25,7 +25,7 @@ use Rattle.session_flows.proofs.Within.{sum_set, in_place}
 
 -- ---- what goes
 
-sent_waits : (moment : ℕ) (o : Choice) (s : Sender) → (sent_after moment o s).waiting ≡ s.waiting
+pub sent_waits : (moment : ℕ) (o : Choice) (s : Sender) → (sent_after moment o s).waiting ≡ s.waiting
 sent_waits moment Nothing s = refl
 sent_waits moment Notify s = refl
 sent_waits moment (Send n r) s = refl

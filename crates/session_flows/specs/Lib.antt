@@ -9,6 +9,9 @@ pub mod Judged
 pub mod Owing
 pub mod Timing
 pub mod Packing
+pub mod Turns
+pub mod Bound
+pub mod Kept
 pub mod Edges
 pub mod Laws
 pub mod Waiting

@@ -136,10 +136,12 @@ impl Flows {
             return Err(Cause::UnknownFlow);
         };
         let sender = &mut self.sending[at];
+        let before = sender.flight();
         let acked = match sender.take_ack(blocks, upto, spans) {
             Ok(acked) => acked,
             Err(AckFault::AckBeyond(number)) => return Err(Cause::AckBeyond(number)),
         };
+        self.kept.settle(before, sender);
         tell(session, acked);
         Ok(())
     }
@@ -184,8 +186,11 @@ impl Flows {
         if abandoned.reserve(sender.waiting() as usize).is_err() {
             return Err(AllocError);
         }
+        let before = sender.flight();
         abandon_all(sender, abandoned);
-        Ok(sender.finish())
+        let last = sender.finish();
+        self.kept.settle(before, sender);
+        Ok(last)
     }
 }
 

@@ -10,6 +10,7 @@ ghost use Rattle.session_flows.specs.Calling.{finishing, queue_refusal_of, queue
 ghost use Rattle.session_flows.specs.Calling.{abandon_answer, finish_answer};
 ghost use Rattle.session_flows.specs.Laws.{IsSound};
 
+use crate::kept::Kept;
 use crate::refusal::CallRefusal;
 use crate::taking::TakingFlow;
 use flow_send::{FlowSender, MessageOptions, NotQueued, QueueRefusal};
@@ -24,18 +25,19 @@ pub struct Flows {
     pub(crate) alloc: Global,
     pub(crate) sending: Vec<FlowSender>,
     pub(crate) taking: Vec<TakingFlow>,
+    pub(crate) kept: Kept,
 }
 
 impl Model for Flows {
     ghost use Rattle.session_flows.specs.Keeping.{FlowsState};
-    ghost use Rattle.session_flows.specs.Laws.{IsSound};
+    ghost use Rattle.session_flows.specs.Kept.{IsWhole};
 
     ghost Value = { FlowsState };
 
     ghost view = { λ f. record { sending = f.sending.items; taking = f.taking.items } };
 
-    ghost invariant = { λ f. IsSound
-        (record { sending = f.sending.items; taking = f.taking.items }) };
+    ghost invariant = { λ f. IsWhole
+        (record { sending = f.sending.items; taking = f.taking.items }) f.kept };
 }
 
 impl Flows {
@@ -47,6 +49,7 @@ impl Flows {
             alloc,
             sending: Vec::new(alloc),
             taking: Vec::new(alloc),
+            kept: Kept::new(),
         }
     }
 
@@ -143,7 +146,11 @@ impl Flows {
             return Err(CallRefusal::NoFlow);
         };
         let sender = &mut self.sending[at];
-        queue_answer(sender.queue(message, options))
+        let before = sender.flight();
+        let queued = sender.queue(message, options);
+        self.kept.note(options);
+        self.kept.settle(before, sender);
+        queue_answer(queued)
     }
 
     /// Why `abandon` would refuse.
@@ -172,7 +179,10 @@ impl Flows {
             return Err(CallRefusal::NoFlow);
         };
         let sender = &mut self.sending[at];
-        abandon_answer(sender.abandon(seq))
+        let before = sender.flight();
+        let abandoned = sender.abandon(seq);
+        self.kept.settle(before, sender);
+        abandon_answer(abandoned)
     }
 
     /// Why `finish` would refuse.
@@ -201,7 +211,10 @@ impl Flows {
             return Err(CallRefusal::NoFlow);
         };
         let sender = &mut self.sending[at];
-        finish_answer(sender.finish())
+        let before = sender.flight();
+        let last = sender.finish();
+        self.kept.settle(before, sender);
+        finish_answer(last)
     }
 }
 

@@ -8,12 +8,14 @@
 #![tactic(auto)]
 
 mod acks;
+mod bound;
 mod chunks;
 pub mod edges;
 mod flows;
 mod handing;
 mod judged;
 mod judging;
+mod kept;
 pub mod laws;
 mod pace;
 mod packing;
@@ -21,6 +23,7 @@ mod refusal;
 mod taking;
 mod timing;
 mod told;
+mod turns;
 
 pub use flows::Flows;
 pub use judged::JudgedData;

@@ -15,8 +15,10 @@ ghost use Rattle.session_flows.specs.Packing.{filled, goes, is_data_due, Goes, I
 ghost use Rattle.session_flows.specs.Packing.{left_to_send};
 ghost use Rattle.session_flows.specs.Waiting.{waiting_in};
 ghost use Rattle.session_flows.specs.Laws.{AreNumbered};
+ghost use Rattle.session_flows.specs.Kept.{IsKept};
 
 use crate::flows::Flows;
+use crate::kept::{IDS, Kept, may_send};
 use crate::pace::{Before, Marks, Pace};
 use flow_send::{FlowSender, NoChunk};
 use rtmfp_data_chunks::{DataView, UserData, write_data};
@@ -32,7 +34,7 @@ impl Flows {
     pub fn is_data_due(&self, session: &Session, moment: u64) -> bool
         ensures { result ≡ is_data_due session.now self.now moment }
     {
-        session.stage() == Stage::Open && goes(pace_of(session, moment), &self.sending)
+        session.stage() == Stage::Open && goes(pace_of(session, moment), &self.kept, &self.sending)
     }
 
     /// Packs chunks into a packet that was begun, one after another, until none goes any more: of
@@ -55,7 +57,12 @@ impl Flows {
         ensures full { is_none (packed_once (pace_of session.now moment)
             (filled (pace_of session.now moment) self.old.sending out.old)) ≡ true }
     {
-        fill(pace_of(session, moment), &mut self.sending, out);
+        fill(
+            pace_of(session, moment),
+            &mut self.kept,
+            &mut self.sending,
+            out,
+        );
     }
 }
 
@@ -71,76 +78,34 @@ fn pace_of(session: &Session, moment: u64) -> Pace
     }
 }
 
-/// Whether a flow has something to send that its own limit allows.
-fn may_send(pace: Pace, sender: &FlowSender) -> bool
-    ensures { result ≡ may_send pace sender.now }
-{
-    let offer = sender.offers(
-        true,
-        usize::MAX,
-        0,
-        u64::MAX,
-        pace.moment,
-        pace.resend_after,
-    );
-    match offer {
-        Err(NoChunk::Nothing) => false,
-        _ => true,
-    }
-}
-
 /// The index of the flow that sends.
-fn first_to_send(pace: Pace, sending: &[FlowSender]) -> Option<usize>
+fn first_to_send(pace: Pace, kept: &Kept, sending: &[FlowSender]) -> Option<usize>
+    requires numbered { AreNumbered 0 sending.now }
+    requires few { length sending.now ≤ 256 }
+    requires kept { IsKept sending.now kept.now }
     ensures { IsNextFrom pace sending.now 0 result }
 {
-    let mut best = None;
-    let mut at = sending.len();
-    while at > 0 {
-        at -= 1;
-        best = better(pace, sending, at, best);
-    }
-    best
-}
-
-/// The index of the flow that sends, of one and of those after it.
-fn better(pace: Pace, sending: &[FlowSender], at: usize, later: Option<usize>) -> Option<usize>
-    requires at { at < length sending.now }
-    requires later { IsNextFrom pace sending.now (at + 1) later }
-    ensures { IsNextFrom pace sending.now at result }
-{
-    if !may_send(pace, &sending[at]) {
-        return later;
-    }
-    match later {
-        Some(other) => {
-            if sending[at].priority() < sending[other].priority() {
-                Some(other)
-            } else {
-                Some(at)
-            }
+    let mut from = 0;
+    while let Some(turn) = kept.first_from(from) {
+        let at = turn % IDS;
+        if may_send(pace, &sending[at]) {
+            return Some(at);
         }
-        None => Some(at),
+        from = turn + 1;
     }
-}
-
-/// The bytes in flight of all flows, or 2 ^ 64 - 1 where they are more.
-fn session_flight(sending: &[FlowSender]) -> u64
-    ensures { result ≡ min (session_flight sending.now) (2 ^ 64 - 1) }
-{
-    let mut sum = 0u64;
-    for sender in sending {
-        sum = sum.saturating_add(sender.flight());
-    }
-    sum
+    None
 }
 
 /// Whether a chunk goes, in a packet with room.
-fn goes(pace: Pace, sending: &[FlowSender]) -> bool
-    requires { pace.window ≤ 1048576 }
+fn goes(pace: Pace, kept: &Kept, sending: &[FlowSender]) -> bool
+    requires numbered { AreNumbered 0 sending.now }
+    requires few { length sending.now ≤ 256 }
+    requires kept { IsKept sending.now kept.now }
+    requires window { pace.window ≤ 1048576 }
     ensures { result ≡ goes pace sending.now }
 {
-    match first_to_send(pace, sending) {
-        Some(at) => goes_of(pace, session_flight(sending), &sending[at]),
+    match first_to_send(pace, kept, sending) {
+        Some(at) => goes_of(pace, kept.flight(), &sending[at]),
         None => false,
     }
 }
@@ -165,9 +130,10 @@ fn goes_of(pace: Pace, flight: u64, sender: &FlowSender) -> bool
 }
 
 /// Packs chunks until none goes any more.
-fn fill(pace: Pace, sending: &mut [FlowSender], out: &mut Outgoing)
+fn fill(pace: Pace, kept: &mut Kept, sending: &mut [FlowSender], out: &mut Outgoing)
     requires numbered { AreNumbered 0 sending.old }
     requires few { length sending.old ≤ 256 }
+    requires kept { IsKept sending.old kept.old }
     requires window { pace.window ≤ 1048576 }
     ensures flows { sending.new ≡ (filled pace sending.old out.old).sending }
     ensures packet { out.new ≡ (filled pace sending.old out.old).packet }
@@ -175,13 +141,14 @@ fn fill(pace: Pace, sending: &mut [FlowSender], out: &mut Outgoing)
     ensures falls { goes pace sending.old ≡ true → length out.old ≤ 51 → 0 < pace.resend_after →
         left_to_send pace sending.new < left_to_send pace sending.old }
     ensures numbered { AreNumbered 0 sending.new }
+    ensures kept { IsKept sending.new kept.new }
 {
     let mut marks = Marks {
         before: None,
         begun: [false; 256],
     };
     for _ in 0..MOST_CHUNKS {
-        if !pack_once(pace, sending, &mut marks, out) {
+        if !pack_once(pace, kept, sending, &mut marks, out) {
             return;
         }
     }
@@ -190,9 +157,16 @@ fn fill(pace: Pace, sending: &mut [FlowSender], out: &mut Outgoing)
 }
 
 /// Packs one chunk more, where one goes.
-fn pack_once(pace: Pace, sending: &mut [FlowSender], marks: &mut Marks, out: &mut Outgoing) -> bool
+fn pack_once(
+    pace: Pace,
+    kept: &mut Kept,
+    sending: &mut [FlowSender],
+    marks: &mut Marks,
+    out: &mut Outgoing,
+) -> bool
     requires numbered { AreNumbered 0 sending.old }
     requires few { length sending.old ≤ 256 }
+    requires kept { IsKept sending.old kept.old }
     requires window { pace.window ≤ 1048576 }
     ensures goes { Goes (packed_once pace (packing_with sending.old out.old marks.old)) result
         (packing_with sending.old out.old marks.old)
@@ -200,12 +174,17 @@ fn pack_once(pace: Pace, sending: &mut [FlowSender], marks: &mut Marks, out: &mu
     ensures numbered { AreNumbered 0 sending.new }
     ensures longer { result ≡ true → length out.old < length out.new }
     ensures due { goes pace sending.old ≡ true → length out.old ≤ 51 → result ≡ true }
+    ensures kept { IsKept sending.new kept.new }
 {
-    let Some(at) = first_to_send(pace, sending) else {
+    let Some(at) = first_to_send(pace, kept, sending) else {
         return false;
     };
-    let flight = session_flight(sending);
-    pack_flow(pace, &mut sending[at], flight, marks, out)
+    let flight = kept.flight();
+    let sender = &mut sending[at];
+    let before = sender.flight();
+    let goes = pack_flow(pace, sender, flight, marks, out);
+    kept.settle(before, sender);
+    goes
 }
 
 /// Packs the next chunk of a flow, where it goes and so many bytes of the session are in flight.
@@ -220,6 +199,8 @@ fn pack_flow(
     ensures goes { Goes (flow_packed pace flight (packed sender.old out.old marks.old)) result
         (packed sender.old out.old marks.old) (packed sender.new out.new marks.new) }
     ensures id { sender.new.id ≡ sender.old.id }
+    ensures priority { sender.new.priority ≡ sender.old.priority }
+    ensures waits { sender.new.sender.waiting ≡ sender.old.sender.waiting }
     ensures longer { result ≡ true → length out.old < length out.new }
     ensures due { may_send pace sender.old ≡ true → length out.old ≤ 51 →
         flight + choice_bytes (chosen pace sender.old) ≤ pace.window → result ≡ true }

@@ -40,6 +40,7 @@ loop-preserved c =
     let longer : length c.loop.out < length c.pack_once.new.out = c.pack_once.ensures.longer goes_on in
     record {
       numbered = c.pack_once.ensures.numbered;
+      kept = c.pack_once.ensures.kept;
       packed = sym (packs_go c.args.pace (1165 - (c.loop.counter + 1)) before after went) ∙ sym (ap (λ (n : ℕ). packs c.args.pace n before) left) ∙ c.loop.invariant.packed;
       longer = omega (arith, c.loop.invariant.longer);
       fell = λ more.

@@ -1,9 +1,9 @@
-use Rattle.std.proofs.Common.{◌≤◌, length}
-use Rattle.session_flows.specs.Packing.{IsNextFrom}
+use Rattle.std.proofs.Common.{◌≤◌, ◌-◌}
+use Rattle.session_flows.proofs.Turned.{NoneBefore}
 use Rattle.session_flows.proofs.packing.first_to_send.Given as goal
 
-abbrev pub invariant-loop-at : goal.invariant-loop-at
-invariant-loop-at l = record { within : l.at ≤ length l.sending; next : IsNextFrom l.pace l.sending l.at l.best }
+abbrev pub invariant-loop-turn : goal.invariant-loop-turn
+invariant-loop-turn l = record { within : l.from ≤ 2048; none : NoneBefore l.pace l.sending l.from }
 
-abbrev pub decreases-loop-at : goal.decreases-loop-at
-decreases-loop-at l = l.at
+abbrev pub decreases-loop-turn : goal.decreases-loop-turn
+decreases-loop-turn l = 2048 - l.from

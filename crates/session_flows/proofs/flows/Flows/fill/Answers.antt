@@ -11,4 +11,4 @@ pub returns-clause-waits : goal.returns-clause-waits
 returns-clause-waits c =
     let before : FlowsState = record { sending = c.self.inside.sending.items; taking = c.self.inside.taking.items } in
     let written : take c.self.inside.sending.len (c.fill.new.sending ++ drop (length c.fill.new.sending) c.self.inside.sending.items) ≡ (filled c.pace_of.result before.sending c.args.out.now).sending = grind (arith, common_steps) in
-    ap (λ (fs : List Flow). waiting_in fs) written ∙ filled_waits c.pace_of.result before.sending c.args.out.now c.self.invariant.numbered ∙ ap (λ (s : FlowsState). waiting_in s.sending) c.self.view_is
+    ap (λ (fs : List Flow). waiting_in fs) written ∙ filled_waits c.pace_of.result before.sending c.args.out.now c.self.invariant.sound.numbered ∙ ap (λ (s : FlowsState). waiting_in s.sending) c.self.view_is

@@ -25,7 +25,7 @@ returns-in_err-seq c =
     let within : c.in_ok-at.at < length before.sending = pos_within (has_overdue c.args.moment) before.sending c.in_ok-at.at place in
     let at : slice_get before.sending c.in_ok-at.at ≡ Some c.index-sender.result.now = slice_get_read before.sending (length before.sending) c.in_ok-at.at c.index-sender.result.now refl within c.index-sender.ensures in
     let it : overdue_in c.args.session.now before c.args.moment ≡ numbered c.in_ok-at.at (overdue c.args.moment c.index-sender.result.now.sender) =
-    one_overdue c.args.session.now before c.args.moment c.in_ok-at.at c.index-sender.result.now held c.self.invariant.numbered place at in
+    one_overdue c.args.session.now before c.args.moment c.in_ok-at.at c.index-sender.result.now held c.self.invariant.sound.numbered place at in
     let none : overdue c.args.moment c.index-sender.result.now.sender ≡ None = search rules in
     let answer : c.from_residual-in_err-seq.result ≡ None = search rules in
     subst (λ (s : FlowsState). c.from_residual-in_err-seq.result ≡ overdue_in c.args.session.now s c.args.moment) c.self.view_is
@@ -39,7 +39,7 @@ returns c =
     let within : c.in_ok-at.at < length before.sending = pos_within (has_overdue c.args.moment) before.sending c.in_ok-at.at place in
     let at : slice_get before.sending c.in_ok-at.at ≡ Some c.index-sender.result.now = slice_get_read before.sending (length before.sending) c.in_ok-at.at c.index-sender.result.now refl within c.index-sender.ensures in
     let it : overdue_in c.args.session.now before c.args.moment ≡ numbered c.in_ok-at.at (overdue c.args.moment c.index-sender.result.now.sender) =
-    one_overdue c.args.session.now before c.args.moment c.in_ok-at.at c.index-sender.result.now held c.self.invariant.numbered place at in
+    one_overdue c.args.session.now before c.args.moment c.in_ok-at.at c.index-sender.result.now held c.self.invariant.sound.numbered place at in
     let some : overdue c.args.moment c.index-sender.result.now.sender ≡ Some c.in_ok-seq.seq = search rules in
     subst (λ (s : FlowsState). ◌≡◌ {A = Option (ℕ × ℕ)} (Some (c.in_ok-at.at, c.in_ok-seq.seq)) (overdue_in c.args.session.now s c.args.moment)) c.self.view_is
     (sym (it ∙ ap (λ (o : Option ℕ). numbered c.in_ok-at.at o) some))

@@ -21,7 +21,7 @@ invariant_of-self-2 c =
     let found : c.taking_index.result ≡ Some c.in_ok-at.at = search rules in
     let at : IsAt c.args.flow before.taking c.in_ok-at.at = is_at c.args.flow before.taking c.in_ok-at.at (subst (λ (s : FlowsState). index_from 0 c.args.flow s.taking ≡ Some c.in_ok-at.at) (sym c.self.view_is) (sym c.taking_index.ensures.place ∙ found)) in
     let there : slice_get before.taking c.in_ok-at.at ≡ Some c.index_mut-row.result.now = slice_get_read before.taking (length before.taking) c.in_ok-at.at c.index_mut-row.result.now refl at.within c.index_mut-row.ensures.value in
-    sound_taking before c.in_ok-at.at c.index_mut-row.result.now (record { id = c.index_mut-row.result.now.id; receiver = c.next_message.new.self; owed = c.index_mut-row.result.now.owed }) there refl c.self.invariant
+    record { sound = sound_taking before c.in_ok-at.at c.index_mut-row.result.now (record { id = c.index_mut-row.result.now.id; receiver = c.next_message.new.self; owed = c.index_mut-row.result.now.owed }) there refl c.self.invariant.sound; kept = c.self.invariant.kept }
 
 pub returns : goal.returns
 returns c =

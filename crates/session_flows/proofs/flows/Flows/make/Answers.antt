@@ -25,7 +25,7 @@ invariant_of-self-2 c =
     let put : c.insert.new.self.items ≡ insert before.taking c.place_for-at.result row = search rules in
     let at_place : c.insert.new.self.items ≡ insert before.taking (place_of c.args.chunk.now.flow before.taking) row = put ∙ ap (λ (n : ℕ). insert before.taking n row) place in
     let few : length before.taking < 256 = subst (λ (s : FlowsState). length s.taking < 256) (sym c.self.view_is) c.requires.room in
-    subst (λ (ts : List TakingFlow). IsSound (record { sending = before.sending; taking = ts })) (sym at_place) (sound_added before row none few c.self.invariant)
+    record { sound = subst (λ (ts : List TakingFlow). IsSound (record { sending = before.sending; taking = ts })) (sym at_place) (sound_added before row none few c.self.invariant.sound); kept = c.self.invariant.kept }
 
 pub returns-clause-taken : goal.returns-clause-taken
 returns-clause-taken c =

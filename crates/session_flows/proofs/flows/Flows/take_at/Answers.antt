@@ -18,7 +18,7 @@ invariant_of-self-2 c =
     let before : FlowsState = record { sending = c.self.inside.sending.items; taking = c.self.inside.taking.items } in
     let at : IsAt c.args.chunk.now.flow before.taking c.args.at = is_at c.args.chunk.now.flow before.taking c.args.at (subst (λ (s : FlowsState). index_from 0 c.args.chunk.now.flow s.taking ≡ Some c.args.at) (sym c.self.view_is) c.requires.at) in
     let there : slice_get before.taking c.args.at ≡ Some c.index_mut-row.result.now = slice_get_read before.taking (length before.taking) c.args.at c.index_mut-row.result.now refl at.within c.index_mut-row.ensures.value in
-    sound_taking before c.args.at c.index_mut-row.result.now (record { id = c.index_mut-row.result.now.id; receiver = c.apply.new.self; owed = true }) there refl c.self.invariant
+    record { sound = sound_taking before c.args.at c.index_mut-row.result.now (record { id = c.index_mut-row.result.now.id; receiver = c.apply.new.self; owed = true }) there refl c.self.invariant.sound; kept = c.self.invariant.kept }
 
 pub returns-clause-taken : goal.returns-clause-taken
 returns-clause-taken c =

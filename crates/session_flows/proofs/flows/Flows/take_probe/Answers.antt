@@ -20,7 +20,7 @@ invariant_of-self c =
     let before : FlowsState = record { sending = c.self.inside.sending.items; taking = c.self.inside.taking.items } in
     let at : IsAt c.args.flow before.taking c.in-Some.at = is_at c.args.flow before.taking c.in-Some.at (subst (λ (s : FlowsState). index_from 0 c.args.flow s.taking ≡ Some c.in-Some.at) (sym c.self.view_is) (sym c.taking_index.ensures.place ∙ c.in-Some.is)) in
     let there : slice_get before.taking c.in-Some.at ≡ Some c.index_mut-row.result.now = slice_get_read before.taking (length before.taking) c.in-Some.at c.index_mut-row.result.now refl at.within c.index_mut-row.ensures.value in
-    sound_taking before c.in-Some.at c.index_mut-row.result.now (owing c.index_mut-row.result.now) there refl c.self.invariant
+    record { sound = sound_taking before c.in-Some.at c.index_mut-row.result.now (owing c.index_mut-row.result.now) there refl c.self.invariant.sound; kept = c.self.invariant.kept }
 
 pub returns-clause-flows : goal.returns-clause-flows
 returns-clause-flows c =
