@@ -17,10 +17,7 @@ use Rattle.session_core.specs.Closing.{is_held, with_loss, with_acknowledged}
 use Rattle.session_core.specs.Trips.{resend_time}
 use Rattle.session_flows.specs.declared.pace.Pace.{Pace}
 use Rattle.session_flows.specs.declared.taking.TakingFlow.{TakingFlow}
-use Rattle.rtmfp_base.specs.declared.cause.Cause.{Cause}
-use Rattle.session_flows.specs.declared.refusal.CallRefusal.{CallRefusal as FlowRefusal}
 use Rattle.session_flows.specs.Told.{begins_with_a}
-use Rattle.session_flows.specs.Causes.{chunk_cause}
 use Rattle.session_flows.specs.Keeping.{FlowsState, sending_at, taking_at, with_sending}
 use Rattle.session_flows.specs.Keeping.{Did as FlowsDid, nothing as nothing_done}
 use Rattle.session_flows.specs.Calling.{new_flow, opening, queueing_by, queueing, abandoning_by}
@@ -188,15 +185,15 @@ module _ (c : Context) (s : FlowsState) (metadata : List ℕ) (answers : Option 
 
 module _ (e : End) (facts : List Fact) (s : State) (near : ℕ) (row : Row) (there : get s.sessions near ≡ Some row) where
   of_late : (b : Bool) (flows : FlowsState) → IsOfIt e facts s near row there (record row { session = if b then with_loss true row.session else row.session; flows = flows })
-  of_late true flows = record { joined = refl; own = refl; role = refl; secret = refl }
-  of_late false flows = record { joined = refl; own = refl; role = refl; secret = refl }
+  of_late true flows = record { joined = refl; own = refl; role = refl; generation = refl; inward = refl; outward = refl }
+  of_late false flows = record { joined = refl; own = refl; role = refl; generation = refl; inward = refl; outward = refl }
 
   of_lost : (b : Bool) (bytes : ℕ) (flows : FlowsState) → IsOfIt e facts s near row there (record row { session = lost_if b (with_acknowledged bytes row.session); flows = flows })
-  of_lost true bytes flows = record { joined = refl; own = refl; role = refl; secret = refl }
-  of_lost false bytes flows = record { joined = refl; own = refl; role = refl; secret = refl }
+  of_lost true bytes flows = record { joined = refl; own = refl; role = refl; generation = refl; inward = refl; outward = refl }
+  of_lost false bytes flows = record { joined = refl; own = refl; role = refl; generation = refl; inward = refl; outward = refl }
 
   of_heard : (a : Told) (o : Option Flow) (flows : FlowsState) → IsOfIt e facts s near row there (record row { session = opened_by row.session a o; flows = flows })
-  of_heard a None flows = record { joined = refl; own = refl; role = refl; secret = refl }
+  of_heard a None flows = record { joined = refl; own = refl; role = refl; generation = refl; inward = refl; outward = refl }
   of_heard a (Some f) flows = of_lost (makes_lost a f.sender) _ flows
 
   of_chunk : (chunk : DataChunk) (flows : FlowsState) → IsOfIt e facts s near row there (record row { session = session_after row.session row.flows chunk; flows = flows })

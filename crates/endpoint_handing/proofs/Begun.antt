@@ -11,6 +11,7 @@ use Rattle.glare_core.specs.declared.facts.Joined.{Joined}
 use Rattle.session_core.specs.declared.stage.Role.{Role}
 use Rattle.session_core.specs.declared.stage.Role.TheVariants.{Initiator, Responder}
 use Rattle.session_core.specs.Session.{SessionState, new_session}
+use Rattle.session_core.proofs.Keyed.{keyed_begun}
 use Rattle.endpoint_model.specs.declared.row.Row.{Row}
 use Rattle.endpoint_model.specs.declared.entry.Entry.TheVariants.{Fact as FactEntry}
 use Rattle.endpoint_model.specs.State.{Sessions, State, Did, new_row}
@@ -92,7 +93,7 @@ module _ (e : End) (facts : List Fact) (s t : State) (role : Role) (j : Joined) 
     new_kept = record {
       id = refl;
       own = mine;
-      secret = secret ∙ stands.state.secret;
+      keyed = keyed_begun (secret ∙ stands.state.secret) 0 j t.startup.ledger.own role from moment;
       named = named_now e.own role j facts ∙ ap (λ (x : Context). Some x) (sym context);
       flows = subst (λ (x : Context). FlowsKept e.who x no_flows after) (sym context) (record {
         kept = none_yet;
@@ -106,7 +107,7 @@ module _ (e : End) (facts : List Fact) (s t : State) (role : Role) (j : Joined) 
     old_kept q row other k = record {
       id = k.id;
       own = k.own;
-      secret = k.secret;
+      keyed = k.keyed;
       named = named_still e.own role j facts q other ∙ k.named;
       flows = kept_by e.who (away row.session) row.flows (Begins c) h
           (begins_leaves_be c (away row.session) (contexts_apart role row.session.role e.own row.session.own j row.session.joined (λ (same : row.session.joined.near ≡ j.near). other (sym k.id ∙ same)))) k.flows;

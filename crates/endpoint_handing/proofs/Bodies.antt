@@ -4,10 +4,8 @@ use Rattle.std.proofs.Common.{cond, not, Bool, true, false, Option, Some, None, 
 use Rattle.std.proofs.Common.{refl, sym, ap, ◌∙◌, append-nil, if◌then◌else◌}
 use Rattle.std.proofs.lemmas.List.{drop_at}
 use Rattle.std.specs.Int.{w32, to_be_bytes}
-use Rattle.crypto_profile.specs.declared.keys.Context.{Context as Sealing}
 use Rattle.crypto_profile.specs.Keys.{Keys, keys_of}
 use Rattle.crypto_profile.specs.Opening.{plain_of}
-use Rattle.crypto_profile.specs.Sealing.{sealed_in}
 use Rattle.crypto_profile.proofs.Opened.{sealed_opens}
 use Rattle.packet_scramble.specs.Datagram.{datagram, scrambled}
 use Rattle.rtmfp_packet.specs.declared.head.PacketHead.{PacketHead}
@@ -22,9 +20,9 @@ use Rattle.rtmfp_data_chunks.specs.Spelling.{before_next}
 use Rattle.rtmfp_data_chunks.specs.Reader.{data_reading}
 use Rattle.session_core.specs.declared.stage.Role.{Role}
 use Rattle.session_core.specs.declared.stage.Role.TheVariants.{Initiator, Responder}
-use Rattle.session_core.specs.Session.{SessionState, mode_of, context_of}
+use Rattle.session_core.specs.Session.{SessionState, IsKeyed, mode_of, context_of}
 use Rattle.session_core.specs.Stamps.{tick_of, echo_of}
-use Rattle.session_core.specs.Sealed.{number_bytes}
+use Rattle.session_core.specs.Sealed.{number_bytes, sealed_part}
 use Rattle.endpoint_model.specs.Admission.{packet_in}
 use Rattle.endpoint_model.specs.Sending.{session_packet, session_datagram}
 use Rattle.flow_history.specs.Deeds.{Piece}
@@ -36,10 +34,10 @@ use Rattle.endpoint_handing.proofs.Kept.{away, session_of}
 -- ---- contexts
 
 -- no key is made of a generation
-keys_away : (session : SessionState) → keys_of session.secret (sealed_for (away session)) ≡ keys_of session.secret (context_of session true)
-keys_away session = by session.role
+keys_away : (secret : List ℕ) (session : SessionState) → keys_of secret (sealed_for (away session)) ≡ keys_of secret (context_of session true)
+keys_away secret session = by session.role
   where
-    by : (r : Role) → keys_of session.secret (sealed_for (sends_in r session.own session.joined)) ≡ keys_of session.secret (context_of (record session { role = r }) true)
+    by : (r : Role) → keys_of secret (sealed_for (sends_in r session.own session.joined)) ≡ keys_of secret (context_of (record session { role = r }) true)
     by Initiator = refl
     by Responder = refl
 
@@ -92,14 +90,14 @@ packet_pieces session moment body =
 behind : (sid : ℕ) (part : List ℕ) → drop 4 (datagram sid part) ≡ part
 behind sid part = drop_at (to_be_bytes w32 (scrambled sid part)) part 4 refl
 
-pub datagram_pieces : (session : SessionState) (moment : ℕ) (body : List ℕ) → pieces_in session.secret (away session) (session_datagram session moment body) ≡ body_pieces body
-datagram_pieces session moment body =
+pub datagram_pieces : (secret : List ℕ) (session : SessionState) → IsKeyed secret session → (moment : ℕ) (body : List ℕ) →
+    pieces_in secret (away session) (session_datagram session moment body) ≡ body_pieces body
+datagram_pieces secret session keyed moment body =
     let plain : List ℕ = session_packet session moment body in
-    let sealing : Sealing = context_of session true in
-    let part : List ℕ = sealed_in session.secret sealing session.joined.far (number_bytes (session.sealed + 1)) plain in
-    ap (λ (k : Keys). pieces_whole (packet_in (plain_of k (drop 4 (datagram session.joined.far part))))) (keys_away session)
-    ∙ ap (λ (b : List ℕ). pieces_whole (packet_in (plain_of (keys_of session.secret sealing) b))) (behind session.joined.far part)
-    ∙ ap (λ (b : List ℕ). pieces_whole (packet_in b)) (sealed_opens (keys_of session.secret sealing) session.joined.far (number_bytes (session.sealed + 1)) plain refl).1
+    let part : List ℕ = sealed_part session plain in
+    ap (λ (k : Keys). pieces_whole (packet_in (plain_of k (drop 4 (datagram session.joined.far part))))) (keys_away secret session ∙ sym keyed.away)
+    ∙ ap (λ (b : List ℕ). pieces_whole (packet_in (plain_of session.outward b))) (behind session.joined.far part)
+    ∙ ap (λ (b : List ℕ). pieces_whole (packet_in b)) (sealed_opens session.outward session.joined.far (number_bytes (session.sealed + 1)) plain refl).1
     ∙ packet_pieces session moment body
 
 -- ---- a body of one chunk that isn't of flows

@@ -8,7 +8,7 @@ use Rattle.crypto_profile.specs.declared.keys.Context.{Context as Sealing}
 use Rattle.glare_core.specs.declared.facts.Fact.{Fact}
 use Rattle.glare_core.specs.Account.{AreLawful}
 use Rattle.glare_core.specs.Told.{AllDifferent}
-use Rattle.session_core.specs.Session.{context_of}
+use Rattle.session_core.specs.Session.{IsKeyed, context_of}
 use Rattle.session_flows.specs.Told.{begins_with_a}
 use Rattle.endpoint_model.specs.declared.row.Row.{Row}
 use Rattle.endpoint_model.specs.declared.entry.Entry.{Entry}
@@ -118,7 +118,7 @@ row_as : (e f : End) (facts : List Fact) (near : ℕ) (row : Row) (h : Flowing) 
 row_as e f facts near row h who own secret k = record {
   id = k.id;
   own = k.own ∙ own;
-  secret = k.secret ∙ secret;
+  keyed = subst (λ (group : List ℕ). IsKeyed group row.session) secret k.keyed;
   named = ap (λ (o : List ℕ). sending_context o near facts) (sym own) ∙ k.named;
   flows = subst (λ (w : ℕ). FlowsKept w (away row.session) row.flows h) who k.flows;
 }
@@ -137,7 +137,7 @@ state_beside e who facts s h after ne grows k = record {
   secret = k.secret;
   rows = λ near row there.
       (let r = k.rows near row there in
-      record { id = r.id; own = r.own; secret = r.secret; named = r.named; flows = kept_beside who e.who (away row.session) row.flows h after ne grows r.flows });
+      record { id = r.id; own = r.own; keyed = r.keyed; named = r.named; flows = kept_beside who e.who (away row.session) row.flows h after ne grows r.flows });
 }
 
 fresh_kept : (ends : ℕ → Setup) (secret : List ℕ) (a : ℕ) (h : Flowing) → (ends a).secret ≡ secret → StateKept (plain_end ends secret a) [] (fresh (ends a)) h

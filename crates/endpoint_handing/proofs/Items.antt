@@ -81,7 +81,7 @@ alike_row s near old new there same = record { own = refl; secret = refl; rows =
 same_on : (old new : Row) → GoesOn old new → IsSame old new
 same_on old new goes =
     let l = goes.descends.same in
-    record { joined = ap (λ (k : Lasting). k.joined) l; own = ap (λ (k : Lasting). k.own) l; role = ap (λ (k : Lasting). k.role) l; secret = ap (λ (k : Lasting). k.secret) l; flows = goes.flows }
+    record { joined = ap (λ (k : Lasting). k.joined) l; own = ap (λ (k : Lasting). k.own) l; role = ap (λ (k : Lasting). k.role) l; generation = ap (λ (k : Lasting). k.generation) l; inward = ap (λ (k : Lasting). k.inward) l; outward = ap (λ (k : Lasting). k.outward) l; flows = goes.flows }
 
 -- ---- small things
 

@@ -1,12 +1,12 @@
 -- What an end keeps of the flows of its sessions, beside a history of flows; and what one thing
 -- that the end does adds to both.
-use Rattle.std.proofs.Common.{◌≡◌, ℕ, List, [], ◌∷◌, ◌++◌, Bool, true, false, if◌then◌else◌}
+use Rattle.std.proofs.Common.{◌≡◌, ℕ, List, [], ◌∷◌, ◌++◌, Bool}
 use Rattle.std.proofs.Common.{Option, Some, None, inl, inr, ◌⊎◌, refl, sym, ap, subst, ◌∙◌}
 use Rattle.std.specs.FinMap.{get}
 use Rattle.crypto_profile.specs.declared.keys.Context.{Context as Sealing}
 use Rattle.crypto_profile.specs.declared.keys.Context.TheVariants.{Startup, Session}
 use Rattle.glare_core.specs.declared.facts.Fact.{Fact}
-use Rattle.session_core.specs.Session.{SessionState}
+use Rattle.session_core.specs.Session.{SessionState, IsKeyed}
 use Rattle.session_flows.specs.Keeping.{FlowsState}
 use Rattle.endpoint_model.specs.declared.row.Row.{Row}
 use Rattle.endpoint_model.specs.declared.entry.Entry.{Entry}
@@ -55,7 +55,7 @@ pub record RowKept (e : End) (facts : List Fact) (near : ℕ) (row : Row) (h : H
     : Type 0 where
   pub id : row.session.joined.near ≡ near
   pub own : row.session.own ≡ e.own
-  pub secret : row.session.secret ≡ e.secret
+  pub keyed : IsKeyed e.secret row.session
   pub named : sending_context e.own near facts ≡ Some (away row.session)
   pub flows : FlowsKept e.who (away row.session) row.flows h
 

@@ -12,6 +12,7 @@ use Rattle.rtmfp_data_chunks.specs.HandsOver.{IsIn}
 use Rattle.flow_send.specs.Flow.{Flow}
 use Rattle.glare_core.specs.declared.facts.Fact.{Fact}
 use Rattle.glare_core.specs.declared.facts.Joined.{Joined}
+use Rattle.session_core.proofs.Keyed.{keyed_same}
 use Rattle.session_flows.specs.Keeping.{FlowsState, sending_at, Did as FlowsDid}
 use Rattle.session_flows.specs.Keeping.{nothing as nothing_done}
 use Rattle.session_flows.specs.Keeping.{Stated, Opened as OpenedOf, Queued as QueuedOf}
@@ -117,10 +118,12 @@ module _ (e : End) (facts : List Fact) (s : State) (near : ℕ) (row : Row) (the
     pub joined : new.session.joined ≡ row.session.joined
     pub own : new.session.own ≡ row.session.own
     pub role : new.session.role ≡ row.session.role
-    pub secret : new.session.secret ≡ row.session.secret
+    pub generation : new.session.generation ≡ row.session.generation
+    pub inward : new.session.inward ≡ row.session.inward
+    pub outward : new.session.outward ≡ row.session.outward
 
   pub its_flows : (flows : FlowsState) → IsOfIt (record row { flows = flows })
-  its_flows flows = record { joined = refl; own = refl; role = refl; secret = refl }
+  its_flows flows = record { joined = refl; own = refl; role = refl; generation = refl; inward = refl; outward = refl }
 
   module _ (new : Row) (it : IsOfIt new) (came : List Piece) (d : FlowsDid) (left : new.flows ≡ d.flows) (h : History) (stands : Stands e facts s h) (all : HaveCome e.who context came h) where
     abbrev row_kept : RowKept e facts near row h
@@ -151,7 +154,7 @@ module _ (e : End) (facts : List Fact) (s : State) (near : ℕ) (row : Row) (the
       new_kept = record {
         id = ap (λ (j : Joined). j.near) it.joined ∙ row_kept.id;
         own = it.own ∙ row_kept.own;
-        secret = it.secret ∙ row_kept.secret;
+        keyed = keyed_same e.secret row.session new.session it.joined it.own it.role it.generation it.inward it.outward row_kept.keyed;
         named = row_kept.named ∙ ap (λ (c : Context). Some c) (sym same);
         flows = subst (λ (c : Context). FlowsKept e.who c new.flows run.after) (sym same) (record {
           kept = did_all fl deeds;
@@ -167,7 +170,7 @@ module _ (e : End) (facts : List Fact) (s : State) (near : ℕ) (row : Row) (the
           record {
             id = k.id;
             own = k.own;
-            secret = k.secret;
+            keyed = k.keyed;
             named = k.named;
             flows = run.beside (away other.session) other.flows
                 (contexts_apart row.session.role other.session.role row.session.own other.session.own row.session.joined other.session.joined

@@ -25,9 +25,9 @@ use Rattle.session_core.specs.declared.hearing.Unheard.{Unheard}
 use Rattle.session_core.specs.declared.hearing.Unheard.TheVariants.{Short as ShortPart}
 use Rattle.session_core.specs.declared.hearing.Unheard.TheVariants.{BadTag as WrongTag}
 use Rattle.session_core.specs.declared.hearing.Unheard.TheVariants.{Repeated as OldNumber}
-use Rattle.session_core.specs.Session.{SessionState, context_of, with_stamps}
+use Rattle.session_core.specs.Session.{SessionState, IsKeyed, context_of, with_stamps}
 use Rattle.session_core.specs.Hearing.{opens_in as opens_in_session, is_new, count_of, unheard}
-use Rattle.session_core.specs.Hearing.{inward_keys, counted}
+use Rattle.session_core.specs.Hearing.{counted}
 use Rattle.crypto_profile.specs.Window.{window_answer}
 use Rattle.rtmfp_base.specs.declared.cause.Cause.{Cause}
 use Rattle.rtmfp_base.specs.declared.cause.Cause.TheVariants.{WrongPlace, Short as ShortDatagram}
@@ -86,7 +86,7 @@ alike_then a b c p q = record {
 
 counted_alike : (s : State) (near : ℕ) (part : List ℕ) (o : Option Row) → get s.sessions near ≡ o → IsAlike s (counted_by s near part o)
 counted_alike s near part None is = alike_itself s
-counted_alike s near part (Some row) is = record { own = refl; secret = refl; rows = had_row s.sessions near row (record row { session = counted row.session part }) is (record { joined = refl; own = refl; role = refl; secret = refl; flows = refl }) }
+counted_alike s near part (Some row) is = record { own = refl; secret = refl; rows = had_row s.sessions near row (record row { session = counted row.session part }) is (record { joined = refl; own = refl; role = refl; generation = refl; inward = refl; outward = refl; flows = refl }) }
 
 alike_counted : (s : State) (place : Place) (part : List ℕ) → IsAlike s (counted_at s place part)
 alike_counted s (Startup generation) part = alike_itself s
@@ -95,7 +95,7 @@ alike_counted s (Session near) part = counted_alike s near part (get s.sessions 
 
 timed_alike : (s : State) (near : ℕ) (head : PacketHead) (o : Option Row) → get s.sessions near ≡ o → IsAlike s (timed_by s near head o)
 timed_alike s near head None is = alike_itself s
-timed_alike s near head (Some row) is = record { own = refl; secret = refl; rows = had_row s.sessions near row (record row { session = with_stamps head s.moment row.session }) is (record { joined = refl; own = refl; role = refl; secret = refl; flows = refl }) }
+timed_alike s near head (Some row) is = record { own = refl; secret = refl; rows = had_row s.sessions near row (record row { session = with_stamps head s.moment row.session }) is (record { joined = refl; own = refl; role = refl; generation = refl; inward = refl; outward = refl; flows = refl }) }
 
 alike_timed : (s : State) (place : Place) (head : PacketHead) → IsAlike s (timed_at s place head)
 alike_timed s (Startup generation) head = alike_itself s
@@ -106,7 +106,7 @@ alike_timed s (Session near) head = timed_alike s near head (get s.sessions near
 pub record OpensHere (s : State) (datagram : List ℕ) (near : ℕ) (packet : Whole) : Type 0 where
   pub row : Row
   pub there : get s.sessions near ≡ Some row
-  pub reads : packet_in (plain_of (inward_keys row.session) (drop 4 datagram)) ≡ Ok packet
+  pub reads : packet_in (plain_of row.session.inward (drop 4 datagram)) ≡ Ok packet
   pub opens : opens_in s datagram ≡ Some (context_of row.session false)
 
 abbrev pub OpensAt : State → List ℕ → Place → Whole → Type 0
@@ -155,7 +155,7 @@ module _ (s : State) (datagram : List ℕ) where
         ∙ ap (λ (b : Bool). if b then Some (context_of row.session false) else None) opens
 
     heard_is : (u : Option Unheard) → unheard row.session part ≡ u → AdmissionIs s datagram (admitted s datagram (placed (Session near) (heard_by row.session part u)))
-    heard_is None is = packet_is (Session near) (packet_in (plain_of (inward_keys row.session) part)) (λ packet read. record { row = row; there = there; reads = read; opens = context_found_here (heard_opens row.session is) })
+    heard_is None is = packet_is (Session near) (packet_in (plain_of row.session.inward part)) (λ packet read. record { row = row; there = there; reads = read; opens = context_found_here (heard_opens row.session is) })
     heard_is (Some ShortPart) is = alike_itself s
     heard_is (Some WrongTag) is = alike_itself s
     heard_is (Some OldNumber) is = alike_itself s
@@ -192,7 +192,7 @@ module _ (e : End) (A B : Type 0) where
     state = record {
       own = k.state.own;
       secret = k.state.secret;
-      rows = λ near row there. (let r = k.state.rows near row there in record { id = r.id; own = r.own; secret = r.secret; named = r.named; flows = r.flows });
+      rows = λ near row there. (let r = k.state.rows near row there in record { id = r.id; own = r.own; keyed = r.keyed; named = r.named; flows = r.flows });
     };
   }
 
@@ -273,11 +273,10 @@ keys_back secret session = by session.role
     by Initiator = refl
     by Responder = refl
 
-came_pieces : (secret : List ℕ) (session : SessionState) (datagram : List ℕ) (packet : Whole) → session.secret ≡ secret → packet_in (plain_of (inward_keys session) (drop 4 datagram)) ≡ Ok packet →
+came_pieces : (secret : List ℕ) (session : SessionState) (datagram : List ℕ) (packet : Whole) → IsKeyed secret session → packet_in (plain_of session.inward (drop 4 datagram)) ≡ Ok packet →
     pieces_in secret (back (away session)) datagram ≡ pieces_of (chunks_of packet)
-came_pieces secret session datagram packet same reads =
-    ap (λ (k : Keys). pieces_whole (packet_in (plain_of k (drop 4 datagram)))) (keys_back secret session)
-    ∙ ap (λ (k : List ℕ). pieces_whole (packet_in (plain_of (keys_of k (context_of session false)) (drop 4 datagram)))) (sym same)
+came_pieces secret session datagram packet keyed reads =
+    ap (λ (k : Keys). pieces_whole (packet_in (plain_of k (drop 4 datagram)))) (keys_back secret session ∙ sym keyed.towards)
     ∙ ap pieces_whole reads
 
 -- What opens in a session's context was sent in it.
@@ -299,7 +298,7 @@ module _ (e : End) (facts : List Fact) (c : Context) (pieces : List Piece) (h : 
       secret = k.state.secret;
       rows = λ near row there.
           (let r = k.state.rows near row there in
-          record { id = r.id; own = r.own; secret = r.secret; named = r.named; flows = kept_by e.who (away row.session) row.flows (In c pieces) h (record { sends = λ f k. refl; takes = λ f k. refl }) r.flows });
+          record { id = r.id; own = r.own; keyed = r.keyed; named = r.named; flows = kept_by e.who (away row.session) row.flows (In c pieces) h (record { sends = λ f k. refl; takes = λ f k. refl }) r.flows });
     };
   }
     where
@@ -356,7 +355,7 @@ module _ (e : End) (owed : (A : Type 0) → FlowsHand (with_begins e A)) (from :
         let pieces : List Piece = pieces_in e.secret c datagram in
         let kept = before.state.rows near row opens.there in
         let sent : WasSent c pieces h = arrives near row opens.there opens.opens in
-        let are : pieces ≡ pieces_of (chunks_of packet) = came_pieces e.secret row.session datagram packet kept.secret opens.reads in
+        let are : pieces ≡ pieces_of (chunks_of packet) = came_pieces e.secret row.session datagram packet kept.keyed opens.reads in
         let now : History = taken shut_end facts c pieces h in
         let all : AllCame shut_end near facts None cs now = record {
           context = away row.session;

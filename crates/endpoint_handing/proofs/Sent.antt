@@ -1,6 +1,6 @@
 -- A datagram goes out, in the startup context or in a session.
 use Rattle.std.proofs.Common.{◌≡◌, ℕ, ◌+◌, ◌==◌, List, [], ◌∷◌, Bool, true, false, if◌then◌else◌}
-use Rattle.std.proofs.Common.{Option, Some, inl, inr, refl, sym, ap, subst, ◌∙◌}
+use Rattle.std.proofs.Common.{Option, Some, inl, inr, refl, sym, subst, ◌∙◌}
 use Rattle.std.specs.FinMap.{get}
 use Rattle.rtmfp_forms.specs.Address.{AddressParts}
 use Rattle.glare_core.specs.declared.facts.Fact.{Fact}
@@ -31,7 +31,7 @@ startup_silent to datagram = record { told = λ own facts. refl; context = λ ow
 
 sealed_same : (b : Bool) (row : Row) → IsSame row (record row { session = if b then row.session else record row.session { sealed = row.session.sealed + 1 } })
 sealed_same true row = same_itself row
-sealed_same false row = record { joined = refl; own = refl; role = refl; secret = refl; flows = refl }
+sealed_same false row = record { joined = refl; own = refl; role = refl; generation = refl; inward = refl; outward = refl; flows = refl }
 
 module _ (e : End) (facts : List Fact) (c : Context) (pieces : List Piece) (h : History) where
   abbrev after : History
@@ -41,7 +41,7 @@ module _ (e : End) (facts : List Fact) (c : Context) (pieces : List Piece) (h : 
   row_out near row k = record {
     id = k.id;
     own = k.own;
-    secret = k.secret;
+    keyed = k.keyed;
     named = k.named;
     flows = kept_by e.who (away row.session) row.flows (Out c pieces) h (out_leaves_be c pieces (away row.session)) k.flows;
   }
@@ -76,7 +76,7 @@ module _ (e : End) (facts : List Fact) (s : State) (near : ℕ) (to : AddressPar
       later = after e facts context (body_pieces body) h
 
       its : pieces_in e.secret context sent ≡ body_pieces body
-      its = ap (λ (k : List ℕ). pieces_in k context sent) (sym (stands.state.rows near row there).secret) ∙ datagram_pieces row.session s.moment body
+      its = datagram_pieces e.secret row.session (stands.state.rows near row there).keyed s.moment body
 
       went : WasSent context (pieces_in e.secret context sent) later
       went = inl (refl, sym its)

@@ -8,6 +8,7 @@ use Rattle.glare_core.specs.declared.facts.Fact.{Fact}
 use Rattle.glare_core.specs.declared.facts.Joined.{Joined}
 use Rattle.session_core.specs.declared.stage.Role.{Role}
 use Rattle.session_core.specs.Session.{SessionState}
+use Rattle.session_core.proofs.Keyed.{keyed_same}
 use Rattle.session_flows.specs.Keeping.{FlowsState}
 use Rattle.endpoint_model.specs.declared.row.Row.{Row}
 use Rattle.endpoint_model.specs.declared.entry.Entry.{Entry}
@@ -86,18 +87,22 @@ pub record IsSame (old new : Row) : Type 0 where
   pub joined : new.session.joined ≡ old.session.joined
   pub own : new.session.own ≡ old.session.own
   pub role : new.session.role ≡ old.session.role
-  pub secret : new.session.secret ≡ old.session.secret
+  pub generation : new.session.generation ≡ old.session.generation
+  pub inward : new.session.inward ≡ old.session.inward
+  pub outward : new.session.outward ≡ old.session.outward
   pub flows : new.flows ≡ old.flows
 
 pub same_itself : (row : Row) → IsSame row row
-same_itself row = record { joined = refl; own = refl; role = refl; secret = refl; flows = refl }
+same_itself row = record { joined = refl; own = refl; role = refl; generation = refl; inward = refl; outward = refl; flows = refl }
 
 pub same_then : (a b c : Row) → IsSame a b → IsSame b c → IsSame a c
 same_then a b c p q = record {
   joined = q.joined ∙ p.joined;
   own = q.own ∙ p.own;
   role = q.role ∙ p.role;
-  secret = q.secret ∙ p.secret;
+  generation = q.generation ∙ p.generation;
+  inward = q.inward ∙ p.inward;
+  outward = q.outward ∙ p.outward;
   flows = q.flows ∙ p.flows;
 }
 
@@ -117,7 +122,8 @@ module _ (e : End) (facts : List Fact) (near : ℕ) (h : History) where
       record {
         id = ap (λ (j : Joined). j.near) same.joined ∙ k.id;
         own = same.own ∙ k.own;
-        secret = same.secret ∙ k.secret;
+        keyed = keyed_same e.secret old.session new.session same.joined same.own same.role
+            same.generation same.inward same.outward k.keyed;
         named = k.named ∙ ap (λ (c : Context). Some c) (sym context);
         flows = subst (λ (f : FlowsState). FlowsKept e.who (away new.session) f h) (sym same.flows)
             (subst (λ (c : Context). FlowsKept e.who c old.flows h) (sym context) k.flows);
@@ -128,7 +134,7 @@ module _ (e : End) (facts : List Fact) (near : ℕ) (h : History) where
   row_later entries row are k = record {
     id = k.id;
     own = k.own;
-    secret = k.secret;
+    keyed = k.keyed;
     named = context_silent e.own near entries facts are ∙ k.named;
     flows = k.flows;
   }

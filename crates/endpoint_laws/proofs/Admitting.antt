@@ -21,15 +21,13 @@ use Rattle.rtmfp_packet.specs.Whole.{Whole}
 use Rattle.rtmfp_packet.specs.Reading.{PacketReading, Reads}
 use Rattle.rtmfp_base.specs.declared.cause.Cause.{Cause}
 use Rattle.rtmfp_base.specs.declared.cause.Cause.TheVariants.{Short, WrongPlace}
-use Rattle.crypto_profile.specs.Sealing.{Opens}
 use Rattle.endpoint_model.specs.declared.row.Row.{Row}
 use Rattle.endpoint_model.proofs.Members.{tested}
 use Rattle.session_core.specs.declared.hearing.Unheard.{Unheard}
 use Rattle.session_core.specs.declared.hearing.Unheard.TheVariants.{Short as ShortPart, BadTag as WrongTag, Repeated as OldNumber}
-use Rattle.session_core.specs.Session.{SessionState, context_of, with_stamps}
+use Rattle.session_core.specs.Session.{SessionState, with_stamps}
 use Rattle.session_core.specs.Hearing.{counted, unheard, opens_in, is_new, count_of}
 use Rattle.crypto_profile.specs.Window.{window_answer}
-use Rattle.session_core.proofs.Hears.{opens_some_plain}
 use Rattle.endpoint_model.specs.declared.place.Place.{Place}
 use Rattle.endpoint_model.specs.declared.place.Place.TheVariants.{Startup, Attempt, Session}
 use Rattle.endpoint_model.specs.Event.{Setup}
@@ -113,15 +111,13 @@ heard_is session part (Some ShortPart) plain e = absurd (cc)
 heard_is session part (Some WrongTag) plain e = absurd (cc)
 heard_is session part (Some OldNumber) plain e = absurd (cc)
 
-session_heard : (datagram : List ℕ) (near : ℕ) (o : Option Row) (plain : List ℕ) → near ≡ sid_of datagram → ((row : Row) → o ≡ Some row → row.session.joined.near ≡ near) →
+session_heard : (datagram : List ℕ) (near : ℕ) (o : Option Row) (plain : List ℕ) → near ≡ sid_of datagram →
     heard_in o (drop 4 datagram) ≡ Ok plain → HeardIn datagram near o
-session_heard datagram near None plain id same e = tt
-session_heard datagram near (Some row) plain id same e =
+session_heard datagram near None plain id e = tt
+session_heard datagram near (Some row) plain id e =
     let part : List ℕ = drop 4 datagram in
     let none : unheard row.session part ≡ None = heard_is row.session part (unheard row.session part) plain e in
-    let opens : opens_in row.session part ≡ true = opens_if (nat_lt (length part) 32) (opens_in row.session part) (is_new (window_answer row.session.window (count_of part))) none in
-    let found = (opens_some_plain row.session part).0 opens in
-    (found.0, record { id = sym id; opens = subst (λ n. Opens row.session.secret (context_of row.session false) n part found.0) (same row refl) found.1 })
+    (sym id, opens_if (nat_lt (length part) 32) (opens_in row.session part) (is_new (window_answer row.session.window (count_of part))) none)
 
 -- ---- payloads are bytes
 
@@ -186,7 +182,7 @@ heard_of : (setup : Setup) (past : Past) (s : State) (datagram plain : List ℕ)
 heard_of setup past s datagram plain (Startup generation) tied opened = tt
 heard_of setup past s datagram plain (Attempt near generation) tied opened = tt
 heard_of setup past s datagram plain (Session near) tied opened =
-    session_heard datagram near (get s.sessions near) plain opened.id (λ row is. (tied.sessions near row is).id) opened.opened
+    session_heard datagram near (get s.sessions near) plain opened.id opened.opened
 
 -- ---- what it leaves
 
@@ -203,7 +199,7 @@ counted_leaves setup past s datagram part near None is tied sent heard = record 
 counted_leaves setup past s datagram part near (Some row) is tied sent heard =
     let new : Row = record row { session = counted row.session part } in
     record {
-      tied = tied_session setup past s near row new tied is (record { joined = refl; own = refl; secret = refl; generation = refl; role = refl; held = refl; thing = λ e. refl; stage = λ f. f; since = λ e. inl refl });
+      tied = tied_session setup past s near row new tied is (record { joined = refl; own = refl; generation = refl; inward = refl; outward = refl; role = refl; held = refl; thing = λ e. refl; stage = λ f. f; since = λ e. inl refl });
       sent = sent_session_changed setup past s near row new sent is refl refl refl refl refl;
       same = refl;
       heard = subst (HeardIn datagram near) (sym (get_inserted s.sessions near new)) heard;
@@ -215,7 +211,7 @@ timed_leaves setup past s datagram head near None is tied sent heard = record { 
 timed_leaves setup past s datagram head near (Some row) is tied sent heard =
     let new : Row = record row { session = with_stamps head s.moment row.session } in
     record {
-      tied = tied_session setup past s near row new tied is (record { joined = refl; own = refl; secret = refl; generation = refl; role = refl; held = refl; thing = λ e. refl; stage = λ f. f; since = λ e. inl refl });
+      tied = tied_session setup past s near row new tied is (record { joined = refl; own = refl; generation = refl; inward = refl; outward = refl; role = refl; held = refl; thing = λ e. refl; stage = λ f. f; since = λ e. inl refl });
       sent = sent_session_changed setup past s near row new sent is refl refl refl refl refl;
       same = refl;
       heard = subst (HeardIn datagram near) (sym (get_inserted s.sessions near new)) heard;

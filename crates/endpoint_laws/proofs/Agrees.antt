@@ -2,7 +2,6 @@
 use Rattle.std.proofs.Common.{◌≡◌, ℕ, ◌≤◌, List, Bool, true, false, if◌then◌else◌, Option, Some, None, is_some, ◌||◌, inl, inr, refl, sym, ap, subst, ◌∙◌}
 use Rattle.std.specs.FinMap.{get}
 use Rattle.sha2.specs.Sha256.{sha256}
-use Rattle.glare_core.specs.declared.facts.Fact.TheVariants.{Started}
 use Rattle.glare_core.specs.declared.facts.Joined.{Joined}
 use Rattle.glare_core.specs.declared.facts.Held.{Held}
 use Rattle.glare_core.specs.declared.facts.Held.TheVariants.{Opening as OpeningHeld, HalfOpen, KeptAsResponder, KeptAsInitiator}
@@ -18,12 +17,11 @@ use Rattle.session_core.specs.declared.stage.Role.{Role}
 use Rattle.session_core.specs.declared.stage.Role.TheVariants.{Initiator, Responder}
 use Rattle.session_core.specs.declared.stage.Stage.{Stage}
 use Rattle.session_core.specs.declared.stage.Stage.TheVariants.{Opening, Open, NearClose, FarLinger, Closed}
-use Rattle.session_core.specs.Session.{SessionState}
+use Rattle.session_core.specs.Session.{SessionState, IsKeyed}
 use Rattle.session_core.specs.Closing.{is_held}
 use Rattle.endpoint_model.specs.declared.row.Row.{Row}
-use Rattle.endpoint_model.specs.declared.entry.Entry.TheVariants.{Fact as FactEntry}
 use Rattle.endpoint_model.specs.Event.{Setup, own_of}
-use Rattle.endpoint_laws.specs.Past.{Stamped, stamped, facts_of, ids_in_use, IsClosing, WasDone, Past}
+use Rattle.endpoint_laws.specs.Past.{Stamped, facts_of, ids_in_use, IsClosing, WasDone, Past}
 use Rattle.endpoint_model.specs.State.{State, is_used}
 use Rattle.endpoint_laws.proofs.Matching.{Found, of_peer, of_some, Matches, Ids}
 use Rattle.endpoint_laws.specs.OfTheLog.{WasStartedAs}
@@ -45,7 +43,7 @@ thing_at s near = combined near (get s.startup.attempts near) (get s.sessions ne
 pub record IsOurs (setup : Setup) (past : Past) (near : ℕ) (session : SessionState) : Type 0 where
   pub id : session.joined.near ≡ near
   pub own : session.own ≡ own_of setup
-  pub secret : session.secret ≡ setup.secret
+  pub keyed : IsKeyed setup.secret session
   pub generation : session.generation ≡ 0
   pub stage : StageFits session.role session.stage
   pub closed : is_held session.stage ≡ false → IsClosed past near session
@@ -200,7 +198,7 @@ tied_of setup past s a account = record {
       record {
         id = ours.id;
         own = ours.own;
-        secret = ours.secret;
+        keyed = ours.keyed;
         generation = ours.generation;
         stage = ours.stage;
         thing = λ held.
@@ -274,7 +272,7 @@ agrees_of setup past s t = record {
     found = λ near p h e. found_is setup past s t near (get s.startup.attempts near) (get s.sessions near) refl refl p h e;
     there = held_there setup past s t;
   };
-  ours = λ near row e. let is = t.sessions near row e in record { id = is.id; own = is.own; secret = is.secret; generation = is.generation; stage = is.stage; closed = is.closed };
+  ours = λ near row e. let is = t.sessions near row e in record { id = is.id; own = is.own; keyed = is.keyed; generation = is.generation; stage = is.stage; closed = is.closed };
   closing = t.closing;
   apart = t.apart;
   started = t.started;
@@ -362,7 +360,7 @@ agrees_changed setup past now s t near oa os a given at matches fits more closes
     | inl is ↦ subst (λ (k : ℕ). IsOurs setup now k row.session) (sym is.0) (fits_session setup now near oa os row fits (sym at.session ∙ ap (get t.sessions) (sym is.0) ∙ e))
     | inr is ↦
         let before = a.ours q row (sym (at.sessions q is.0) ∙ e) in
-        record { id = before.id; own = before.own; secret = before.secret; generation = before.generation; stage = before.stage; closed = λ c. closed_on past now near q row.session more is.0 (before.closed c) }
+        record { id = before.id; own = before.own; keyed = before.keyed; generation = before.generation; stage = before.stage; closed = λ c. closed_on past now near q row.session more is.0 (before.closed c) }
   ];
   closing = λ q thing m c. elim (same_or_not q near) [
     | inl is ↦

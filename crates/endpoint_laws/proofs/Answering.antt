@@ -24,6 +24,7 @@ use Rattle.startup.specs.State.{AttemptState}
 use Rattle.startup.specs.Keyings.{ResponderKeying, responder_keying_in, opened_as, opened_reading, opened, after_opening}
 use Rattle.session_core.specs.declared.stage.Role.TheVariants.{Initiator}
 use Rattle.session_core.specs.Session.{new_session}
+use Rattle.session_core.proofs.Keyed.{keyed_begun}
 use Rattle.rtmfp_chunks.specs.Writing.{chunk_bytes}
 use Rattle.endpoint_model.specs.declared.row.Row.{Row}
 use Rattle.endpoint_model.specs.declared.config.Draws.{Draws}
@@ -113,7 +114,7 @@ module _ (setup : Setup) (from : AddressParts) (datagram : List ℕ) (draws : Dr
       (noted_matches s t (Opened j) near None (Some new) g.matches at refl (was ∙ sym (ap (of_peer opens.peer) held_is))
       (sym (ap (λ o. of_peer opens.peer (opened_held j o)) held_is))
       (λ h e. let same : Some (KeptAsInitiator j) ≡ Some h = sym (ap (opened_held j) held_is) ∙ e in let thing : KeptAsInitiator j ≡ h = cc in ap near_of (sym thing)))
-      (record { id = refl; own = tied.own; secret = tied.secret; generation = refl; stage = tt; closed = λ e. absurd (cc) })
+      (record { id = refl; own = tied.own; keyed = keyed_begun tied.secret 0 j s.startup.ledger.own Initiator from s.moment; generation = refl; stage = tt; closed = λ e. absurd (cc) })
       (beside_fact near s.moment past (Opened j) tt) (still_none setup past s g near opens.peer (Opening opens.n near a.ni) was s.moment (Opened j) tt (Some new))
       (ids_same setup.config.max_sessions (ids_in_use past) s t g.ids all_used
       (moved_one (len (remove s.startup.attempts near)) (len (insert s.sessions near new)) (len s.startup.attempts) (len s.sessions)

@@ -1,8 +1,9 @@
 -- A half-open session is confirmed: what is stated is lawful, and the state agrees with it.
-use Rattle.std.proofs.Common.{◌≡◌, ℕ, List, ◌∷◌, Bool, true, false, if◌then◌else◌, option_to_list, Option, Some, None, is_some, ◌||◌, inl, inr, refl, sym, ap, subst, ◌∙◌, arith}
+use Rattle.std.proofs.Common.{◌≡◌, ℕ, List, ◌∷◌, drop, Bool, true, false, if◌then◌else◌, option_to_list, Option, Some, None, is_some, ◌||◌, inl, inr, refl, sym, ap, subst, ◌∙◌, arith}
 use Rattle.std.specs.FinMap.{get}
 use Rattle.rtmfp_base.proofs.Maps.{get_inserted, get_beside, len_known}
 use Rattle.rtmfp_forms.specs.Address.{AddressParts}
+use Rattle.packet_scramble.specs.Datagram.{sid_of}
 use Rattle.glare_core.specs.declared.facts.Fact.{Fact}
 use Rattle.glare_core.specs.declared.facts.Fact.TheVariants.{Confirmed}
 use Rattle.glare_core.specs.declared.facts.Joined.{Joined}
@@ -21,7 +22,9 @@ use Rattle.session_core.specs.declared.stage.Role.TheVariants.{Initiator, Respon
 use Rattle.session_core.specs.declared.stage.Stage.{Stage}
 use Rattle.session_core.specs.declared.stage.Stage.TheVariants.{Opening, Open, NearClose, FarLinger, Closed}
 use Rattle.session_core.specs.Closing.{is_held}
+use Rattle.session_core.specs.Hearing.{opens_in}
 use Rattle.session_core.specs.Session.{context_of, context_between, is_opening, confirmed_stage, confirmed}
+use Rattle.session_core.proofs.Keyed.{opens_in_context}
 use Rattle.endpoint_model.specs.declared.row.Row.{Row}
 use Rattle.endpoint_model.specs.declared.config.Draws.{Draws}
 use Rattle.endpoint_model.specs.declared.place.Place.{Place}
@@ -43,7 +46,7 @@ use Rattle.endpoint_laws.proofs.Going.{Keeps, Goes, goes_nothing}
 -- The datagram opens in the session that stands under this session ID, if there is one.
 abbrev pub HeardIn : List ℕ → ℕ → Option Row → Type 0
 HeardIn datagram near None = Unit {0}
-HeardIn datagram near (Some row) = (plain : List ℕ) × OpensUnder row.session.secret (context_of row.session false) near datagram plain
+HeardIn datagram near (Some row) = (sid_of datagram ≡ near) × (opens_in row.session (drop 4 datagram) ≡ true)
 
 half_open : (role : Role) (stage : Stage) → StageFits role stage → is_opening stage ≡ true → (role ≡ Responder) × (stage ≡ Opening)
 half_open Initiator Opening fits e = absurd fits
@@ -113,7 +116,7 @@ module _ (setup : Setup) (from : AddressParts) (datagram : List ℕ) (draws : Dr
       (record {
         id = ours.id;
         own = ours.own;
-        secret = ours.secret;
+        keyed = record { towards = ours.keyed.towards; away = ours.keyed.away };
         generation = ours.generation;
         stage = subst (λ r. StageFits r (confirmed_stage row.session.stage)) (sym role) (subst (λ g. StageFits Responder (confirmed_stage g)) (sym stage) tt);
         closed = λ e. let both : true ≡ false = sym now_held ∙ e in absurd (cc);
@@ -134,15 +137,15 @@ module _ (setup : Setup) (from : AddressParts) (datagram : List ℕ) (draws : Dr
       let after = confirmed_tied past tied half.0 half.1 held_is in
       let context : context_of row.session false ≡ inward (own_of setup) (HalfOpen j) = ap (λ g. context_between g j row.session.own row.session.role false) is.generation ∙ ap (λ r. context_between 0 j row.session.own r false) half.0
       ∙ ap (λ own. context_between 0 j own Responder false) is.own in
-      let under : OpensUnder setup.secret (inward (own_of setup) (HalfOpen j)) j.near datagram heard.0 =
-      subst (λ id. OpensUnder setup.secret (inward (own_of setup) (HalfOpen j)) id datagram heard.0) (sym is.id)
-      (subst (λ c. OpensUnder setup.secret c near datagram heard.0) context (subst (λ x. OpensUnder x (context_of row.session false) near datagram heard.0) is.secret heard.1)) in
+      let found = (opens_in_context setup.secret row.session is.keyed.towards (drop 4 datagram)).0 heard.1 in
+      let under : OpensUnder setup.secret (inward (own_of setup) (HalfOpen j)) j.near datagram found.0 =
+      subst (λ c. OpensUnder setup.secret c j.near datagram found.0) context (record { id = heard.0 ∙ sym is.id; opens = found.1 }) in
       subst (λ o. Goes setup (Receive from datagram draws) past s (did o)) (sym held_is) (record {
         meets = (
           (
             (
               stands_of (own_of setup) (noted s.startup.ledger fact) fact (facts_of past) after.own after.account,
-              record { j = j; session = sym (reads_held 0 s.startup.ledger (facts_of past) tied.account j.peer) ∙ held_is; by = (heard.0, under) },
+              record { j = j; session = sym (reads_held 0 s.startup.ledger (facts_of past) tied.account j.peer) ∙ held_is; by = (found.0, under) },
             ),
             tt,
           ),

@@ -32,12 +32,12 @@ use Rattle.endpoint_laws.proofs.OnFlows.{IsLike, like_itself, goes_unseen, meets
 
 like_lost : (moment bytes : ℕ) (session : SessionState) (lost : Bool) → IsLike moment session (lost_if lost (with_acknowledged bytes session))
 like_lost moment bytes session true = record {
-  alike = record { joined = refl; own = refl; secret = refl; generation = refl; role = refl; held = refl; thing = λ e. refl; stage = λ f. f; since = λ e. inl refl };
+  alike = record { joined = refl; own = refl; generation = refl; inward = refl; outward = refl; role = refl; held = refl; thing = λ e. refl; stage = λ f. f; since = λ e. inl refl };
   descends = record { same = refl; opening = λ e. (e, refl) };
   sealed = refl;
 }
 like_lost moment bytes session false = record {
-  alike = record { joined = refl; own = refl; secret = refl; generation = refl; role = refl; held = refl; thing = λ e. refl; stage = λ f. f; since = λ e. inl refl };
+  alike = record { joined = refl; own = refl; generation = refl; inward = refl; outward = refl; role = refl; held = refl; thing = λ e. refl; stage = λ f. f; since = λ e. inl refl };
   descends = record { same = refl; opening = λ e. (e, refl) };
   sealed = refl;
 }

@@ -30,7 +30,7 @@ use Rattle.endpoint_laws.proofs.FlowData.{data_is_modest}
 
 like_if : (late : Bool) (moment : ℕ) (session : SessionState) → IsLike moment session (if late then with_loss true session else session)
 like_if true moment session = record {
-  alike = record { joined = refl; own = refl; secret = refl; generation = refl; role = refl; held = refl; thing = λ e. refl; stage = λ f. f; since = λ e. inl refl };
+  alike = record { joined = refl; own = refl; generation = refl; inward = refl; outward = refl; role = refl; held = refl; thing = λ e. refl; stage = λ f. f; since = λ e. inl refl };
   descends = record { same = refl; opening = λ e. (e, refl) };
   sealed = refl;
 }

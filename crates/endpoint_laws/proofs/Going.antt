@@ -97,7 +97,7 @@ goes_discarded setup call s at cause past t = record { meets = ((tt, tt), tt); t
 
 seal_alike : (b : Bool) (moment : ℕ) (session : SessionState) → IsAlike moment session (if b then session else sealed_once session)
 seal_alike true moment session = alike_itself moment session
-seal_alike false moment session = record { joined = refl; own = refl; secret = refl; generation = refl; role = refl; held = refl; thing = λ e. refl; stage = λ f. f; since = λ e. inl refl }
+seal_alike false moment session = record { joined = refl; own = refl; generation = refl; inward = refl; outward = refl; role = refl; held = refl; thing = λ e. refl; stage = λ f. f; since = λ e. inl refl }
 
 -- what goes out
 pub goes_sends : (setup : Setup) (call : Call) → Sends Any (Keeps setup call)

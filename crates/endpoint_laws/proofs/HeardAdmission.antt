@@ -21,8 +21,8 @@ use Rattle.rtmfp_base.specs.declared.cause.Cause.{Cause}
 use Rattle.rtmfp_base.specs.declared.cause.Cause.TheVariants.{Short, WrongPlace}
 use Rattle.session_core.specs.declared.hearing.Unheard.TheVariants.{Short as ShortPart, BadTag as WrongTag, Repeated as OldNumber}
 use Rattle.session_core.specs.Session.{SessionState, context_of, with_stamps}
-use Rattle.session_core.specs.Hearing.{counted, opens_in, is_new, count_of, inward_keys}
-use Rattle.session_core.proofs.Hears.{opens_some_plain, opens_this_plain}
+use Rattle.session_core.specs.Hearing.{counted, opens_in, is_new, count_of}
+use Rattle.session_core.proofs.Keyed.{opens_in_context, plain_in_context}
 use Rattle.endpoint_model.specs.declared.row.Row.{Row}
 use Rattle.endpoint_model.specs.declared.place.Place.{Place}
 use Rattle.endpoint_model.specs.declared.place.Place.TheVariants.{Startup, Attempt, Session}
@@ -34,7 +34,7 @@ use Rattle.endpoint_laws.specs.Past.{Past, OfEvent, begun, Taken, datagram_in, t
 use Rattle.endpoint_laws.specs.Contexts.{OpensUnder}
 use Rattle.endpoint_laws.specs.Taken.{PassesIn}
 use Rattle.endpoint_laws.proofs.Bytes.{plain_is}
-use Rattle.endpoint_laws.proofs.Hearing.{lasting, Counts, IsKnown, AreKnown, HeardWell}
+use Rattle.endpoint_laws.proofs.Hearing.{lasting, TakesUnder, Counts, IsKnown, AreKnown, HeardWell}
 use Rattle.endpoint_laws.proofs.Taking.{counts_unopened, counts_refused, counts_counted, counts_taken}
 use Rattle.endpoint_laws.proofs.Passing.{PassedAt, Passed, PassedIn}
 use Rattle.endpoint_laws.proofs.HeardEvents.{AreNamed, IsWell, AdmissionHeard}
@@ -86,10 +86,13 @@ module _ (past : Past) (s : State) (e : Event) (datagram : List ℕ) (are : IsBy
   since : (near : ℕ) → taken_since near more ≡ this ∷ taken_since near past
   since near = ap (λ (o : Option (List ℕ)). taken_and now o (taken_since near past)) is
 
-  -- a session in which it doesn't open
-  known_unopened : (near : ℕ) (row : Row) → get s.sessions near ≡ Some row → ((plain : List ℕ) → OpensUnder row.session.secret (context_of row.session false) near datagram plain → ⊥) → IsKnown more now near row.session
+  -- it doesn't open in a session, under whatever secret
+  abbrev ShutAt : ℕ → Row → Type 0
+  ShutAt near row = (secret : List ℕ) → TakesUnder secret (lasting row.session) → (plain : List ℕ) → OpensUnder secret (context_of row.session false) near datagram plain → ⊥
+
+  known_unopened : (near : ℕ) (row : Row) → get s.sessions near ≡ Some row → ShutAt near row → IsKnown more now near row.session
   known_unopened near row there none = let k = well near row there in record {
-    counts = subst (λ taken. Counts taken near (lasting row.session)) (sym (since near)) (counts_unopened near (lasting row.session) this (taken_since near past) k.counts none);
+    counts = subst (λ taken. Counts taken near (lasting row.session)) (sym (since near)) (λ secret under. counts_unopened secret near (lasting row.session) this (taken_since near past) (k.counts secret under) (none secret under));
     began = record { first = k.began.first; done = inr k.began.done; early = k.began.early };
     half_open = λ o. let b = k.half_open o in (b.0, inr b.1);
     not_later = omega (arith, k.not_later);
@@ -97,10 +100,7 @@ module _ (past : Past) (s : State) (e : Event) (datagram : List ℕ) (are : IsBy
 
   -- one under another session ID
   elsewhere : (near : ℕ) (row : Row) → (near ≡ sid → ⊥) → get s.sessions near ≡ Some row → IsKnown more now near row.session
-  elsewhere near row other there = known_unopened near row there (λ plain opens. other (sym opens.id))
-
-  abbrev ClosedTo : Row → Type 0
-  ClosedTo row = (plain : List ℕ) → OpensUnder row.session.secret (context_of row.session false) sid datagram plain → ⊥
+  elsewhere near row other there = known_unopened near row there (λ secret under plain opens. other (sym opens.id))
 
   all_as_before : ((row : Row) → get s.sessions sid ≡ Some row → IsKnown more now sid row.session) → IsWell more now t
   all_as_before here = record {
@@ -111,7 +111,7 @@ module _ (past : Past) (s : State) (e : Event) (datagram : List ℕ) (are : IsBy
     moment = refl;
   }
 
-  unopened : ((row : Row) → get s.sessions sid ≡ Some row → ClosedTo row) → IsWell more now t
+  unopened : ((row : Row) → get s.sessions sid ≡ Some row → ShutAt sid row) → IsWell more now t
   unopened none = all_as_before (λ row there. known_unopened sid row there (none row there))
 
   replaced : (m : Sessions) (new : Row) → ((near : ℕ) (row : Row) → (near ≡ sid → ⊥) → get m near ≡ Some row → IsKnown more now near row.session) → IsKnown more now sid new.session → AreKnown more now (insert m sid new)
@@ -154,7 +154,7 @@ module _ (past : Past) (s : State) (e : Event) (datagram : List ℕ) (are : IsBy
     session = row.session
 
     abbrev plain : List ℕ
-    plain = plain_of (inward_keys session) part
+    plain = plain_of session.inward part
 
     abbrev known : IsKnown past s.moment sid session
     known = well sid row there
@@ -168,19 +168,20 @@ module _ (past : Past) (s : State) (e : Event) (datagram : List ℕ) (are : IsBy
     its_id : session.joined.near ≡ sid
     its_id = (named sid row there).named
 
-    opens_it : opens_in session part ≡ true → OpensUnder session.secret (context_of session false) sid datagram plain
-    opens_it open_here =
-        let found = (opens_some_plain session part).0 open_here in
-        let same : found.0 ≡ plain = opens_this_plain session part found.0 found.1 in
-        record { id = refl; opens = subst (λ (n : ℕ). Opens session.secret (context_of session false) n part plain) its_id (subst (Opens session.secret (context_of session false) session.joined.near part) same found.1) }
+    module _ (secret : List ℕ) (keyed : TakesUnder secret (lasting session)) where
+      opens_it : opens_in session part ≡ true → OpensUnder secret (context_of session false) sid datagram plain
+      opens_it open_here =
+          let found = (opens_in_context secret session keyed part).0 open_here in
+          let same : found.0 ≡ plain = plain_in_context secret session keyed part found.0 found.1 in
+          record { id = refl; opens = subst (λ (n : ℕ). Opens secret (context_of session false) n part plain) its_id (subst (Opens secret (context_of session false) session.joined.near part) same found.1) }
 
-    only_it : (other : List ℕ) → OpensUnder session.secret (context_of session false) sid datagram other → (opens_in session part ≡ true) × (other ≡ plain)
-    only_it other under =
-        let opens : Opens session.secret (context_of session false) session.joined.near part other = subst (λ (n : ℕ). Opens session.secret (context_of session false) n part other) (sym its_id) under.opens in
-        ((opens_some_plain session part).1 (other, opens), opens_this_plain session part other opens)
+      only_it : (other : List ℕ) → OpensUnder secret (context_of session false) sid datagram other → (opens_in session part ≡ true) × (other ≡ plain)
+      only_it other under =
+          let opens : Opens secret (context_of session false) session.joined.near part other = subst (λ (n : ℕ). Opens secret (context_of session false) n part other) (sym its_id) under.opens in
+          ((opens_in_context secret session keyed part).1 (other, opens), plain_in_context secret session keyed part other opens)
 
-    closed_to : opens_in session part ≡ false → ClosedTo row
-    closed_to shut other under = let clash : true ≡ false = sym (only_it other under).0 ∙ shut in cc
+    closed_to : opens_in session part ≡ false → ShutAt sid row
+    closed_to shut secret keyed other under = let clash : true ≡ false = sym (only_it secret keyed other under).0 ∙ shut in cc
 
     same_row : (r : Row) → get s.sessions sid ≡ Some r → row ≡ r
     same_row r found = let e : Some row ≡ Some r = sym there ∙ found in cc
@@ -190,18 +191,22 @@ module _ (past : Past) (s : State) (e : Event) (datagram : List ℕ) (are : IsBy
 
     known_refused : (why : Seen) → window_answer session.window (count_of part) ≡ Err why → IsKnown more now sid session
     known_refused why refused = record {
-      counts = subst (λ taken. Counts taken sid (lasting session)) (sym (since sid)) (counts_refused sid (lasting session) this (taken_since sid past) known.counts why refused);
+      counts = subst (λ taken. Counts taken sid (lasting session)) (sym (since sid)) (λ secret under. counts_refused secret sid (lasting session) this (taken_since sid past) (known.counts secret under) why refused);
       began = record { first = known.began.first; done = inr known.began.done; early = known.began.early };
       half_open = λ o. let b = known.half_open o in (b.0, inr b.1);
       not_later = omega (arith, known.not_later);
     }
 
-    abbrev PassesIt : Type 0
-    PassesIt = PassesIn session.secret (context_of session false) (peers_mode session.role) sid (taken_since sid past) datagram
+    abbrev PassesIt : List ℕ → Type 0
+    PassesIt secret = PassesIn secret (context_of session false) (peers_mode session.role) sid (taken_since sid past) datagram
 
-    known_counted : opens_in session part ≡ true → (PassesIt → ⊥) → IsKnown more now sid one.session
+    -- it passes under no secret
+    abbrev PassesNot : Type 0
+    PassesNot = (secret : List ℕ) → TakesUnder secret (lasting session) → PassesIt secret → ⊥
+
+    known_counted : opens_in session part ≡ true → PassesNot → IsKnown more now sid one.session
     known_counted open_here none = record {
-      counts = subst (λ taken. Counts taken sid (lasting one.session)) (sym (since sid)) (counts_counted sid (lasting session) this (taken_since sid past) known.counts plain (opens_it open_here) none);
+      counts = subst (λ taken. Counts taken sid (lasting one.session)) (sym (since sid)) (λ secret under. counts_counted secret sid (lasting session) this (taken_since sid past) (known.counts secret under) plain (opens_it secret under open_here) (none secret under));
       began = record { first = known.began.first; done = inr known.began.done; early = known.began.early };
       half_open = λ o. let b = known.half_open o in (b.0, inr b.1);
       not_later = omega (arith, known.not_later);
@@ -213,11 +218,11 @@ module _ (past : Past) (s : State) (e : Event) (datagram : List ℕ) (are : IsBy
     -- ---- by its packet
 
     read_it : PacketReading plain (packet_in plain)
-    read_it = packet_reads plain (plain_is (inward_keys session) part (IsBytes-drop 4 datagram are))
+    read_it = packet_reads plain (plain_is session.inward part (IsBytes-drop 4 datagram are))
 
-    reads_only : (p : PassesIt) → packet_in plain ≡ Ok p.packet
-    reads_only p =
-        let same : p.reads.plain ≡ plain = (only_it p.reads.plain p.reads.opens).1 in
+    reads_only : (secret : List ℕ) → TakesUnder secret (lasting session) → (p : PassesIt secret) → packet_in plain ≡ Ok p.packet
+    reads_only secret under p =
+        let same : p.reads.plain ≡ plain = (only_it secret under p.reads.plain p.reads.opens).1 in
         packet_reading_same plain (packet_in plain) (Ok p.packet) read_it (subst (λ b. PacketReading b (Ok p.packet)) same p.reads.reads)
 
     abbrev timed : PacketHead → SessionState
@@ -229,7 +234,7 @@ module _ (past : Past) (s : State) (e : Event) (datagram : List ℕ) (are : IsBy
     known_timed : opens_in session part ≡ true → (head : PacketHead) → IsKnown more now sid (timed head)
     known_timed open_here head = record {
       counts = subst (λ taken. Counts taken sid (lasting (timed head))) (sym (since sid))
-          (counts_taken sid (lasting session) this (taken_since sid past) known.counts plain (opens_it open_here) (omega (arith, known.not_later)));
+          (λ secret under. counts_taken secret sid (lasting session) this (taken_since sid past) (known.counts secret under) plain (opens_it secret under open_here) (omega (arith, known.not_later)));
       began = record { first = known.began.first; done = inr known.began.done; early = omega (arith, known.began.early, known.not_later) };
       half_open = λ o. let b = known.half_open o in (b.0, inr b.1);
       not_later = omega arith;
@@ -245,38 +250,38 @@ module _ (past : Past) (s : State) (e : Event) (datagram : List ℕ) (are : IsBy
         PassedIn more sid datagram packet (with_session u sid one (timed packet.head))
     passed open_here fits packet reads mode = λ r found.
         let same : two packet.head ≡ r = (let e : Some (two packet.head) ≡ Some r = sym (get_inserted (insert s.sessions sid one) sid (two packet.head)) ∙ found in cc) in
-        subst (λ (x : Row). Passed more sid datagram packet (lasting x.session)) same (record {
+        subst (λ (x : Row). Passed more sid datagram packet (lasting x.session)) same (λ secret under. record {
           moment = now;
           before = taken_since sid past;
           last = since sid;
           passes = record {
             packet = packet;
-            reads = record { plain = plain; opens = opens_it open_here; reads = subst (PacketReading plain) reads read_it };
-            number = (known.counts.numbers (count_of part)).0 fits;
+            reads = record { plain = plain; opens = opens_it secret under open_here; reads = subst (PacketReading plain) reads read_it };
+            number = ((known.counts secret under).numbers (count_of part)).0 fits;
             mode_is = mode;
           };
           is = refl;
         })
 
     by_packet : opens_in session part ≡ true → window_answer session.window (count_of part) ≡ Ok tt → (r : Result Whole PacketFault) → packet_in plain ≡ r → AdmissionHeard more now datagram (admitted_packet u (Session sid) r)
-    by_packet open_here fits (Err fault) reads = counted_well (known_counted open_here (λ p. let clash : Err fault ≡ Ok p.packet = sym reads ∙ reads_only p in cc))
+    by_packet open_here fits (Err fault) reads = counted_well (known_counted open_here (λ secret under p. let clash : Err fault ≡ Ok p.packet = sym reads ∙ reads_only secret under p in cc))
     by_packet open_here fits (Ok packet) reads =
         subst (λ (o : Option Row). AdmissionHeard more now datagram (if has_mode packet.head (mode_by o) then Admitted (timed_by u sid packet.head o) (Session sid) packet else Rejected u WrongPlace))
         (sym (get_inserted s.sessions sid one)) (by (has_mode packet.head (peers_mode session.role)) refl)
       where
-        same_packet : (p : PassesIt) → p.packet ≡ packet
-        same_packet p = let e : Ok p.packet ≡ Ok packet = sym (reads_only p) ∙ reads in cc
+        same_packet : (secret : List ℕ) → TakesUnder secret (lasting session) → (p : PassesIt secret) → p.packet ≡ packet
+        same_packet secret under p = let e : Ok p.packet ≡ Ok packet = sym (reads_only secret under p) ∙ reads in cc
 
         by : (b : Bool) → has_mode packet.head (peers_mode session.role) ≡ b →
             AdmissionHeard more now datagram (if b then Admitted (with_session u sid one (timed packet.head)) (Session sid) packet else Rejected u WrongPlace)
         by true e = (timed_well open_here packet.head, passed open_here fits packet reads (mode_is packet.head.mode (peers_mode session.role) e))
-        by false e = counted_well (known_counted open_here (λ p.
-            let mode : packet.head.mode ≡ peers_mode session.role = ap (λ (w : Whole). w.head.mode) (sym (same_packet p)) ∙ p.mode_is in
+        by false e = counted_well (known_counted open_here (λ secret under p.
+            let mode : packet.head.mode ≡ peers_mode session.role = ap (λ (w : Whole). w.head.mode) (sym (same_packet secret under p)) ∙ p.mode_is in
             let clash : true ≡ false = sym (same_number (mode_number packet.head.mode) (mode_number (peers_mode session.role)) (ap mode_number mode)) ∙ e in cc))
 
     by_tests : (short opens new : Bool) → nat_lt (length part) 32 ≡ short → opens_in session part ≡ opens → is_new (window_answer session.window (count_of part)) ≡ new →
         AdmissionHeard more now datagram (heard_to u (heard_by session part (if short then Some ShortPart else if not opens then Some WrongTag else if not new then Some OldNumber else None)))
-    by_tests true opens new a b c = as_before (known_unopened sid row there (λ other under. let long = under.opens.0 in let short : length part < 32 = grind (arith, nat_tests) in absurd (omega arith)))
+    by_tests true opens new a b c = as_before (known_unopened sid row there (λ secret keyed other under. let long = under.opens.0 in let short : length part < 32 = grind (arith, nat_tests) in absurd (omega arith)))
     by_tests false false new a b c = as_before (known_unopened sid row there (closed_to b))
     by_tests false true false a b c = let old = old_is (window_answer session.window (count_of part)) c in as_before (known_refused old.0 old.1)
     by_tests false true true a b c = by_packet b (new_is (window_answer session.window (count_of part)) c) (packet_in plain) refl
@@ -298,14 +303,14 @@ module _ (past : Past) (s : State) (e : Event) (datagram : List ℕ) (are : IsBy
 
   at_place : (a b c : Bool) → (sid == 0) ≡ a → contains_key s.startup.attempts sid ≡ b → contains_key s.sessions sid ≡ c →
       AdmissionHeard more now datagram (admitted t datagram (opened_found t (if a then Some (Startup 0) else if b then Some (Attempt sid 0) else if c then Some (Session sid) else None) part))
-  at_place true b c p q r = at_startup (unopened (λ row there plain under. (named sid row there).some (is_zero sid p))) (opened_at t (Startup 0) part)
-  at_place false true c p q r = at_attempt sid (unopened (λ row there plain under. let clash : true ≡ false = sym q ∙ (named sid row there).apart in cc)) (opened_at t (Attempt sid 0) part)
+  at_place true b c p q r = at_startup (unopened (λ row there secret keyed plain under. (named sid row there).some (is_zero sid p))) (opened_at t (Startup 0) part)
+  at_place false true c p q r = at_attempt sid (unopened (λ row there secret keyed plain under. let clash : true ≡ false = sym q ∙ (named sid row there).apart in cc)) (opened_at t (Attempt sid 0) part)
   at_place false false true p q r = let found = there_is (get s.sessions sid) r in at_session found.0 found.1
-  at_place false false false p q r = unopened (λ row there plain under. let clash : true ≡ false = sym (ap (λ (o : Option Row). is_some o) there) ∙ r in cc)
+  at_place false false false p q r = unopened (λ row there secret keyed plain under. let clash : true ≡ false = sym (ap (λ (o : Option Row). is_some o) there) ∙ r in cc)
 
   pub heard_admission : AdmissionHeard more now datagram (admission t datagram)
   heard_admission = by (nat_lt (length datagram) 36) refl
     where
       by : (b : Bool) → nat_lt (length datagram) 36 ≡ b → AdmissionHeard more now datagram (admitted t datagram (if b then Err Short else opened_found t (place_of t sid) part))
-      by true e = unopened (λ row there plain under. let short : length datagram < 36 = grind (arith, nat_tests) in absurd (omega (arith, under.opens.0, length-drop 4 datagram, short)))
+      by true e = unopened (λ row there secret keyed plain under. let short : length datagram < 36 = grind (arith, nat_tests) in absurd (omega (arith, under.opens.0, length-drop 4 datagram, short)))
       by false e = at_place (sid == 0) (contains_key s.startup.attempts sid) (contains_key s.sessions sid) refl refl refl

@@ -46,7 +46,7 @@ half_open Initiator e = absurd (cc)
 half_open Responder e = refl
 
 nothing_taken : (near : ℕ) (session : SessionState) → session.window ≡ window_of [] → Counts [] near (lasting session)
-nothing_taken near session first = record {
+nothing_taken near session first secret under = record {
   numbers = λ n. subst (λ w. (window_answer w n ≡ Ok tt) ↔ (n ≢ 0)) (sym first) (room_at_first n);
   times = λ moment none. absurd none;
 }

@@ -4,6 +4,7 @@ use Rattle.std.specs.FinMap.{get, insert, remove}
 use Rattle.rtmfp_base.proofs.Maps.{found_inserted, found_left}
 use Rattle.rtmfp_packet.specs.declared.head.Mode.{Mode}
 use Rattle.crypto_profile.specs.declared.keys.Context.{Context}
+use Rattle.crypto_profile.specs.Keys.{Keys, keys_of}
 use Rattle.crypto_profile.specs.Window.{WindowState, window_answer}
 use Rattle.glare_core.specs.declared.facts.Fact.{Fact}
 use Rattle.glare_core.specs.declared.facts.Fact.TheVariants.{Born, Opened}
@@ -27,13 +28,14 @@ pub record Lasting : Type 0 where
   pub joined : Joined
   pub own : List ℕ
   pub role : Role
-  pub secret : List ℕ
   pub generation : ℕ
+  pub inward : Keys
+  pub outward : Keys
   pub window : WindowState
   pub taken : ℕ
 
 abbrev pub lasting : SessionState → Lasting
-lasting s = record { joined = s.joined; own = s.own; role = s.role; secret = s.secret; generation = s.generation; window = s.window; taken = s.taken }
+lasting s = record { joined = s.joined; own = s.own; role = s.role; generation = s.generation; inward = s.inward; outward = s.outward; window = s.window; taken = s.taken }
 
 -- the context of what it takes, and the mode
 abbrev pub inward_of : Lasting → Context
@@ -42,12 +44,19 @@ inward_of l = context_between l.generation l.joined l.own l.role false
 abbrev pub mode_in : Lasting → Mode
 mode_in l = peers_mode l.role
 
+-- what it takes is sealed under this secret
+abbrev pub TakesUnder : List ℕ → Lasting → Type 0
+TakesUnder secret l = l.inward ≡ keys_of secret (inward_of l)
+
 -- ---- what is known
 
--- It would take the numbers that are new after these datagrams, and whatever it took of them it took by the moment that it keeps.
-pub record Counts (taken : List Taken) (near : ℕ) (l : Lasting) : Type 0 where
-  pub numbers : (n : ℕ) → (window_answer l.window n ≡ Ok tt) ↔ IsNewAfter l.secret (inward_of l) near n taken
-  pub times : (moment : ℕ) → TookIn l.secret (inward_of l) (mode_in l) near moment taken → moment ≤ l.taken
+-- It would take the numbers that are new after these datagrams under a secret, and whatever it took of them it took by the moment that it keeps.
+pub record CountsUnder (secret : List ℕ) (taken : List Taken) (near : ℕ) (l : Lasting) : Type 0 where
+  pub numbers : (n : ℕ) → (window_answer l.window n ≡ Ok tt) ↔ IsNewAfter secret (inward_of l) near n taken
+  pub times : (moment : ℕ) → TookIn secret (inward_of l) (mode_in l) near moment taken → moment ≤ l.taken
+
+abbrev pub Counts : List Taken → ℕ → Lasting → Type 0
+Counts taken near l = (secret : List ℕ) → TakesUnder secret l → CountsUnder secret taken near l
 
 -- the fact with which a session of this role begins
 abbrev pub first_fact : Role → Joined → Fact

@@ -20,6 +20,7 @@ use Rattle.session_core.specs.declared.stage.Role.TheVariants.{Initiator, Respon
 use Rattle.session_core.specs.declared.stage.Stage.{Stage}
 use Rattle.session_core.specs.declared.stage.Stage.TheVariants.{Opening, Open, NearClose, FarLinger, Closed}
 use Rattle.session_core.specs.Session.{SessionState}
+use Rattle.session_core.proofs.Keyed.{keyed_same}
 use Rattle.session_core.specs.Closing.{is_held}
 use Rattle.endpoint_model.specs.declared.row.Row.{Row}
 use Rattle.endpoint_model.specs.declared.entry.Entry.TheVariants.{Fact as FactEntry, Closed as ClosedEntry, Moved}
@@ -78,8 +79,9 @@ same_given setup s t g config cert secret cookie own most = record {
 pub record IsLeft (moment : ℕ) (old left : SessionState) : Type 0 where
   pub joined : left.joined ≡ old.joined
   pub own : left.own ≡ old.own
-  pub secret : left.secret ≡ old.secret
   pub generation : left.generation ≡ old.generation
+  pub inward : left.inward ≡ old.inward
+  pub outward : left.outward ≡ old.outward
   pub role : left.role ≡ old.role
   pub closing : is_held left.stage ≡ false
   pub stage : StageFits left.role left.stage
@@ -153,7 +155,7 @@ module _ (setup : Setup) (call : Call) (past : Past) (s : State) (tied : Tied se
       (record {
         id = ap (λ k. k.near) l.joined ∙ ours.id;
         own = l.own ∙ ours.own;
-        secret = l.secret ∙ ours.secret;
+        keyed = keyed_same setup.secret row.session left l.joined l.own l.role l.generation l.inward l.outward ours.keyed;
         generation = l.generation ∙ ours.generation;
         stage = l.stage;
         closed = λ e. record { thing = thing; at = s.moment; was = was_it; closing = inl ((id, closes, held_facts), refl); since = omega (arith, l.since) };

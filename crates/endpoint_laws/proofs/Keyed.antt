@@ -35,6 +35,7 @@ use Rattle.startup.specs.declared.answer.Keyed.TheVariants.{Birth as BirthKeyed}
 use Rattle.startup.specs.Keyings.{InitiatorKeying, keying_of, change_answer, session_answer, born_session, repeated_session, again_or_birth, keyed_with, keyed_reading, opening_id, without, after_again_or_birth, after_keyed_with, after_keyed_reading}
 use Rattle.session_core.specs.declared.stage.Role.TheVariants.{Responder}
 use Rattle.session_core.specs.Session.{new_session}
+use Rattle.session_core.proofs.Keyed.{keyed_begun}
 use Rattle.endpoint_model.specs.declared.row.Row.{Row}
 use Rattle.endpoint_model.specs.declared.config.Draws.{Draws}
 use Rattle.endpoint_model.specs.declared.entry.Entry.TheVariants.{Fact as FactEntry}
@@ -143,7 +144,7 @@ module _ (setup : Setup) (from : AddressParts) (datagram : List ℕ) (draws : Dr
         sessions = λ q other. get_beside s.sessions j.near new q other;
       }) refl (omega (arith, len_new s.sessions j.near new fresh_id.session)) (omega arith, omega arith) (room_left setup past s tied (may.place unheld))
       (rows_after_either l (Born j) setup.config.max_peers k.peer refl tied.rows (row_left setup past s k.peer tied may.row)) refl
-      (record { id = refl; own = tied.own; secret = tied.secret; generation = refl; stage = tt; closed = λ e. absurd (cc) }) in
+      (record { id = refl; own = tied.own; keyed = keyed_begun tied.secret 0 j l.own Responder from s.moment; generation = refl; stage = tt; closed = λ e. absurd (cc) }) in
       let account = gave 0 (facts_of past) tied.account in
       record {
         meets = (
@@ -206,7 +207,7 @@ module _ (setup : Setup) (from : AddressParts) (datagram : List ℕ) (draws : Dr
           attempts = λ q other. refl;
           sessions = λ q other. get_beside (remove s.sessions (near_of thing)) j.near new q other;
         }) refl (omega (arith, len_new (remove s.sessions (near_of thing)) j.near new free.session)) (omega arith, omega arith) (omega (arith, way.count, tied.within)) known refl
-        (record { id = refl; own = tied.own; secret = tied.secret; generation = refl; stage = tt; closed = λ e. absurd (cc) }) in
+        (record { id = refl; own = tied.own; keyed = keyed_begun tied.secret 0 j l.own Responder from s.moment; generation = refl; stage = tt; closed = λ e. absurd (cc) }) in
         let account = gave 0 (facts_of past) tied.account in
         record {
           meets = (

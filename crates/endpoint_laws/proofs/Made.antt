@@ -28,7 +28,6 @@ use Rattle.endpoint_model.specs.declared.entry.Entry.{Entry}
 use Rattle.glare_core.specs.declared.facts.Fact.{Fact}
 use Rattle.endpoint_model.specs.declared.entry.Entry.TheVariants.{Fact as FactEntry}
 use Rattle.endpoint_model.specs.FlowCall.{FlowCall, flow_did, flow_refusal}
-use Rattle.session_flows.specs.declared.refusal.CallRefusal.{CallRefusal as FlowRefusal}
 use Rattle.glare_core.specs.declared.facts.Held.TheVariants.{HalfOpen, KeptAsInitiator, KeptAsResponder, Opening as OpeningHeld}
 use Rattle.glare_core.specs.declared.facts.Held.{Held}
 use Rattle.startup.specs.declared.attempt.Stage.TheVariants.{Hello, Keying}
@@ -71,11 +70,9 @@ use Rattle.rtmfp_data_chunks.specs.Reader.{data_reading}
 use Rattle.session_flows.specs.Timing.{overdue_in}
 use Rattle.session_flows.specs.Packing.{is_data_due}
 use Rattle.endpoint_laws.proofs.Hearing.{descends_same}
-use Rattle.session_flows.specs.Causes.{chunk_cause as flows_cause}
 use Rattle.std.specs.FinMap.{get, insert}
 use Rattle.glare_core.specs.Ledger.{held_with}
 use Rattle.endpoint_model.specs.Sending.{last_count, sent_answer, sent_by, sent_each, sent_if, sent_in_session, sent_spread, sent_startup}
-use Rattle.std.specs.Option.{option_map}
 use Rattle.sha2.specs.Sha256.{sha256}
 use Rattle.rtmfp_data_chunks.proofs.Fitting.{small_next, what_is_read_fits}
 use Rattle.endpoint_laws.proofs.Small.{FlowThing, GoesOn, Called, Came, Acked, Unowed, Late, Overdue, Packed, on_flows, birth, stated, MayBe, IsNoChunk, Any, Sends, Quiet, Timed, All, Begins, Enters}

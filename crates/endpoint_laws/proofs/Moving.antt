@@ -16,6 +16,7 @@ use Rattle.startup.specs.declared.aim.Aim.TheVariants.{AtPeer}
 use Rattle.startup.specs.State.{AttemptState}
 use Rattle.startup.specs.Attempts.{with_attempt}
 use Rattle.session_core.specs.Session.{SessionState}
+use Rattle.session_core.proofs.Keyed.{keyed_same}
 use Rattle.session_core.specs.Closing.{is_held}
 use Rattle.startup.proofs.Stepping.{held_after_own, held_after_other}
 use Rattle.endpoint_model.specs.declared.row.Row.{Row}
@@ -181,8 +182,9 @@ agrees_same setup past s t near oa os a given at ledger same used count moment f
 pub record IsAlike (moment : ℕ) (old new : SessionState) : Type 0 where
   pub joined : new.joined ≡ old.joined
   pub own : new.own ≡ old.own
-  pub secret : new.secret ≡ old.secret
   pub generation : new.generation ≡ old.generation
+  pub inward : new.inward ≡ old.inward
+  pub outward : new.outward ≡ old.outward
   pub role : new.role ≡ old.role
   pub held : is_held new.stage ≡ is_held old.stage
   pub thing : is_held old.stage ≡ true → thing_of new.role new.stage new.joined ≡ thing_of old.role old.stage old.joined
@@ -190,7 +192,7 @@ pub record IsAlike (moment : ℕ) (old new : SessionState) : Type 0 where
   pub since : is_held old.stage ≡ false → (new.since ≡ old.since) ⊎ (new.since ≡ moment)
 
 pub alike_itself : (moment : ℕ) (session : SessionState) → IsAlike moment session session
-alike_itself moment session = record { joined = refl; own = refl; secret = refl; generation = refl; role = refl; held = refl; thing = λ e. refl; stage = λ f. f; since = λ e. inl refl }
+alike_itself moment session = record { joined = refl; own = refl; generation = refl; inward = refl; outward = refl; role = refl; held = refl; thing = λ e. refl; stage = λ f. f; since = λ e. inl refl }
 
 either_way : (b : Bool) → (b ≡ true) ⊎ (b ≡ false)
 either_way true = inl refl
@@ -223,7 +225,7 @@ pub ours_alike : (setup : Setup) (moment : ℕ) (past : Past) (near : ℕ) (old 
 ours_alike setup moment past near old new a are ours = record {
   id = ap (λ j. j.near) a.joined ∙ ours.id;
   own = a.own ∙ ours.own;
-  secret = a.secret ∙ ours.secret;
+  keyed = keyed_same setup.secret old new a.joined a.own a.role a.generation a.inward a.outward ours.keyed;
   generation = a.generation ∙ ours.generation;
   stage = a.stage ours.stage;
   closed = λ e. let before = sym a.held ∙ e in closed_alike moment past near old new a are before (ours.closed before);
@@ -292,7 +294,7 @@ tied_more setup past s x in_time no_fact no_closed t =
           record {
             id = o.id;
             own = o.own;
-            secret = o.secret;
+            keyed = o.keyed;
             generation = o.generation;
             stage = o.stage;
             closed = λ c. let d = o.closed c in record { thing = d.thing; at = d.at; was = d.was; closing = on near d.thing d.at d.closing; since = d.since };

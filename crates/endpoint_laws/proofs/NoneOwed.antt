@@ -22,7 +22,6 @@ use Rattle.session_core.specs.Session.{context_of, head_at}
 use Rattle.session_core.specs.Sealed.{after_seal}
 use Rattle.endpoint_model.specs.declared.entry.Entry.TheVariants.{Out}
 use Rattle.session_flows.specs.declared.taking.TakingFlow.{TakingFlow}
-use Rattle.session_flows.specs.Causes.{chunk_cause as flows_cause}
 use Rattle.session_flows.specs.Keeping.{FlowsState, sending_at}
 use Rattle.session_flows.specs.Laws.{IsSound}
 use Rattle.session_flows.specs.Owing.{owes, is_owed, owed_count, after_acks}

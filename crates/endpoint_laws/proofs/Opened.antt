@@ -19,7 +19,7 @@ use Rattle.startup.specs.declared.aim.Aim.TheVariants.{AtPeer}
 use Rattle.startup.specs.State.{AttemptState}
 use Rattle.session_core.specs.Session.{context_between, context_of}
 use Rattle.session_core.specs.Hearing.{opens_in as opens_in_session}
-use Rattle.session_core.proofs.Hears.{opens_some_plain}
+use Rattle.session_core.proofs.Keyed.{opens_in_context}
 use Rattle.endpoint_model.specs.declared.row.Row.{Row}
 use Rattle.endpoint_model.specs.declared.place.Place.{Place}
 use Rattle.endpoint_model.specs.declared.place.Place.TheVariants.{Startup, Attempt, Session}
@@ -100,11 +100,10 @@ module _ (setup : Setup) (past : Past) (s : State) (tied : Tied setup past s) (p
       let context : context_of row.session false ≡ inward own thing =
       ap (λ (g : ℕ). context_between g row.session.joined row.session.own row.session.role false) ours.generation
       ∙ ap (λ (o : List ℕ). context_between 0 row.session.joined o row.session.role false) ours.own ∙ was_inward own row.session.role row.session.joined thing was in
-      let of_session : Opens row.session.secret (context_of row.session false) row.session.joined.near part plain =
-      subst (λ (secret : List ℕ). Opens secret (context_of row.session false) row.session.joined.near part plain) (sym ours.secret)
-      (subst (λ (c : Context). Opens setup.secret c row.session.joined.near part plain) (sym context)
-      (subst (λ (near : ℕ). Opens setup.secret (inward own thing) near part plain) (sym ours.id) opens)) in
-      let is : opens_in_session row.session part ≡ true = (opens_some_plain row.session part).1 (plain, of_session) in
+      let of_session : Opens setup.secret (context_of row.session false) row.session.joined.near part plain =
+      subst (λ (c : Context). Opens setup.secret c row.session.joined.near part plain) (sym context)
+      (subst (λ (near : ℕ). Opens setup.secret (inward own thing) near part plain) (sym ours.id) opens) in
+      let is : opens_in_session row.session part ≡ true = (opens_in_context setup.secret row.session ours.keyed.towards part).1 (plain, of_session) in
       ap (λ (o : Option Row). context_in_session o part) at
       ∙ ap (λ (b : Bool). if b then Some (context_of row.session false) else None) is
       ∙ ap (λ (c : Context). Some c) context
@@ -214,7 +213,7 @@ module _ (setup : Setup) (past : Past) (s : State) (tied : Tied setup past s) (p
   told_in_session sid row c none at e =
       let ours = tied.sessions sid row at in
       let both = chosen (opens_in_session row.session part) (context_of row.session false) c e in
-      let found = (opens_some_plain row.session part).0 both.0 in
+      let found = (opens_in_context setup.secret row.session ours.keyed.towards part).0 both.0 in
       let own_context : (thing : Held) → WasThing row.session.role row.session.joined thing → c ≡ inward own thing =
       λ thing was. sym both.1 ∙ ap (λ (g : ℕ). context_between g row.session.joined row.session.own row.session.role false) ours.generation
       ∙ ap (λ (o : List ℕ). context_between 0 row.session.joined o row.session.role false) ours.own ∙ was_inward own row.session.role row.session.joined thing was in
@@ -230,8 +229,7 @@ module _ (setup : Setup) (past : Past) (s : State) (tied : Tied setup past s) (p
         plain = found.0;
         opens =
             subst (λ (near : ℕ). Opens setup.secret c near part found.0) ours.id
-            (subst (λ (x : Context). Opens setup.secret x row.session.joined.near part found.0) both.1
-            (subst (λ (secret : List ℕ). Opens secret (context_of row.session false) row.session.joined.near part found.0) ours.secret found.1));
+            (subst (λ (x : Context). Opens setup.secret x row.session.joined.near part found.0) both.1 found.1);
       }
 
   named_by : (sid : ℕ) (c : Context) (a : AttemptState) (aim : Aim) → a.aim ≡ aim → get s.startup.attempts sid ≡ Some a → (StartupContext 0) ≡ c → (plain : List ℕ) × Opens setup.secret c sid part plain → Named sid c

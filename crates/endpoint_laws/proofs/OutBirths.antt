@@ -41,6 +41,7 @@ use Rattle.startup.specs.Attempts.{wide}
 use Rattle.startup.specs.Keyings.{InitiatorKeying, ResponderKeying, initiator_keying_in, initiator_fields, with_initiator_part, cause_by, cookie_cause, named_cause, initiator_cause, keying_of, session_answer, change_answer, repeated_session, born_session, again_or_birth, keyed_with, keyed_reading, opening_id, without, after_again_or_birth, after_keyed_with, after_keyed_reading, opened_as, opened_reading, after_opening, responder_keying_in}
 use Rattle.session_core.specs.declared.stage.Role.TheVariants.{Initiator, Responder}
 use Rattle.session_core.specs.Session.{new_session}
+use Rattle.session_core.proofs.Keyed.{keyed_begun}
 use Rattle.rtmfp_chunks.specs.Writing.{chunk_bytes}
 use Rattle.endpoint_model.specs.declared.row.Row.{Row}
 use Rattle.endpoint_model.specs.declared.walk.Walk.{Walk}
@@ -283,7 +284,7 @@ module _ (setup : Setup) (now : ℕ) (call : Call) (past : Past) (s : State) (se
       } in
       let there : get state.sessions j.near ≡ Some new = get_inserted s.sessions j.near new in
       let ping : Meets setup now call after (sent_by state j.near from (chunk_bytes (Ping [])) (Some new)) =
-      meets_session setup now call after state kept j.near new there (may_send_held setup after new.session tied.secret refl tied.own (held_opened j (facts_of past) was)) from (chunk_bytes (Ping [])) (one_is_modest (Ping []) (omega arith) (omega arith) (omega arith)) in
+      meets_session setup now call after state kept j.near new there (may_send_held setup after new.session (keyed_begun tied.secret 0 j s.startup.ledger.own Initiator from s.moment) refl tied.own (held_opened j (facts_of past) was)) from (chunk_bytes (Ping [])) (one_is_modest (Ping []) (omega arith) (omega arith) (omega arith)) in
       meets_after setup now call past (FactEntry (Opened j) ∷ []) (sent_in_session state j.near from (chunk_bytes (Ping []))) (tt, tt)
       (subst (λ (o : Option Row). Meets setup now call after (sent_by state j.near from (chunk_bytes (Ping [])) o)) (sym there) ping)
 

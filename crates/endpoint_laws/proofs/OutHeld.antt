@@ -12,7 +12,7 @@ use Rattle.session_core.specs.declared.stage.Role.{Role}
 use Rattle.session_core.specs.declared.stage.Role.TheVariants.{Initiator, Responder}
 use Rattle.session_core.specs.declared.stage.Stage.{Stage}
 use Rattle.session_core.specs.declared.stage.Stage.TheVariants.{Opening as StageOpening, Open, NearClose, FarLinger, Closed}
-use Rattle.session_core.specs.Session.{SessionState, context_between, context_of}
+use Rattle.session_core.specs.Session.{SessionState, IsKeyed, context_between, context_of}
 use Rattle.session_core.specs.Closing.{is_held}
 use Rattle.std.specs.FinMap.{get}
 use Rattle.glare_core.proofs.Accounts.{reads_held}
@@ -166,7 +166,7 @@ was_in_session setup past near Responder j thing at (inr w) c = (thing, near, in
 
 -- A datagram may go out in the session: its nonce is known, and it is held or closing.
 pub record MaySend (setup : Setup) (past : Past) (session : SessionState) : Type 0 where
-  pub secret : session.secret ≡ setup.secret
+  pub keyed : IsKeyed setup.secret session
   pub known : Known (context_of session true) (facts_of past)
   pub stands : InSession setup past session.joined.far (context_of session true)
 
@@ -175,10 +175,10 @@ either_way true = inl refl
 either_way false = inr refl
 
 -- one that is held
-pub may_send_held : (setup : Setup) (past : Past) (session : SessionState) → session.secret ≡ setup.secret → session.generation ≡ 0 → session.own ≡ own_of setup →
+pub may_send_held : (setup : Setup) (past : Past) (session : SessionState) → IsKeyed setup.secret session → session.generation ≡ 0 → session.own ≡ own_of setup →
     held session.joined.peer (facts_of past) ≡ Some (thing_of session.role session.stage session.joined) → MaySend setup past session
-may_send_held setup past session secret generation own thing = record {
-  secret = secret;
+may_send_held setup past session keyed generation own thing = record {
+  keyed = keyed;
   known = held_known session.generation (facts_of past) session.own session.role session.stage session.joined thing;
   stands = subst (λ (g : ℕ). InSession setup past session.joined.far (context_between g session.joined session.own session.role true)) (sym generation)
       (subst (λ (o : List ℕ). InSession setup past session.joined.far (context_between 0 session.joined o session.role true)) (sym own) (in_session setup past session.role session.stage session.joined thing));
@@ -193,11 +193,11 @@ may_send setup past s near row tied there =
     λ i. subst (λ (g : ℕ). InSession setup past j.far (context_between g j session.own session.role true)) (sym is.generation)
     (subst (λ (o : List ℕ). InSession setup past j.far (context_between 0 j o session.role true)) (sym is.own) i) in
     elim (either_way (is_held session.stage)) [
-      | inl e ↦ may_send_held setup past session is.secret is.generation is.own (sym (reads_held 0 s.startup.ledger (facts_of past) tied.account j.peer) ∙ is.thing e)
+      | inl e ↦ may_send_held setup past session is.keyed is.generation is.own (sym (reads_held 0 s.startup.ledger (facts_of past) tied.account j.peer) ∙ is.thing e)
       | inr e ↦
           let c = is.closed e in
           record {
-            secret = is.secret;
+            keyed = is.keyed;
             known = was_known session.generation (facts_of past) session.own session.role j c.thing c.was (closing_nonce near c.thing c.at past c.closing);
             stands = in_own (was_in_session setup past near session.role j c.thing c.at c.was c.closing);
           }

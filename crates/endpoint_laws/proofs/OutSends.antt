@@ -10,8 +10,8 @@ use Rattle.rtmfp_forms.specs.Address.{AddressParts}
 use Rattle.rtmfp_packet.specs.Whole.{Whole}
 use Rattle.rtmfp_packet.specs.Reading.{PacketReading}
 use Rattle.crypto_profile.specs.declared.keys.Context.TheVariants.{Startup}
-use Rattle.crypto_profile.specs.Keys.{keys_of}
-use Rattle.crypto_profile.specs.Sealing.{number_of, sealed_in}
+use Rattle.crypto_profile.specs.Keys.{Keys, keys_of}
+use Rattle.crypto_profile.specs.Sealing.{number_of, sealed, sealed_in}
 use Rattle.crypto_profile.proofs.Opened.{sealed_carries}
 use Rattle.packet_scramble.specs.Datagram.{datagram}
 use Rattle.introducer.specs.Directory.{AddressRows}
@@ -144,10 +144,10 @@ module _ (setup : Setup) (now : ℕ) (call : Call) (past : Past) (s : State) (se
     where
       is : session_datagram row.session s.moment body ≡
           datagram row.session.joined.far (sealed_in setup.secret (context_of row.session true) row.session.joined.far (number_bytes (row.session.sealed + 1)) (session_packet row.session s.moment body))
-      is = ap (λ (k : List ℕ). datagram row.session.joined.far (sealed_in k (context_of row.session true) row.session.joined.far (number_bytes (row.session.sealed + 1)) (session_packet row.session s.moment body))) may.secret
+      is = ap (λ (k : Keys). datagram row.session.joined.far (sealed k row.session.joined.far (number_bytes (row.session.sealed + 1)) (session_packet row.session s.moment body))) may.keyed.away
 
       carries : number_of (drop 4 (session_datagram row.session s.moment body)) ≡ number_bytes (row.session.sealed + 1)
-      carries = (sealed_carries (keys_of row.session.secret (context_of row.session true)) row.session.joined.far (number_bytes (row.session.sealed + 1)) (session_packet row.session s.moment body) refl).0
+      carries = (sealed_carries row.session.outward row.session.joined.far (number_bytes (row.session.sealed + 1)) (session_packet row.session s.moment body) refl).0
 
       line : row.session.sealed ≢ last_count → OutLine setup past (session_datagram row.session s.moment body) (context_of row.session true)
       line some = record {

@@ -8,15 +8,18 @@ use Rattle.endpoint_model.specs.declared.place.Place.TheVariants.{Startup, Attem
 use Rattle.endpoint_model.specs.State.{State, Did}
 use Rattle.endpoint_laws.specs.Past.{Past, onto, Taken, taken_since}
 use Rattle.endpoint_laws.specs.Taken.{PassesIn}
-use Rattle.endpoint_laws.proofs.Hearing.{Lasting, lasting, inward_of, mode_in, Follows, since_onto}
+use Rattle.endpoint_laws.proofs.Hearing.{Lasting, lasting, inward_of, mode_in, TakesUnder, Follows, since_onto}
 
--- The datagram is the last one that was given since the session began, and passes in it.
-pub record Passed (past : Past) (near : ℕ) (datagram : List ℕ) (packet : Whole) (l : Lasting) : Type 0 where
+-- The datagram is the last one that was given since the session began, and passes in it under a secret.
+pub record PassedUnder (secret : List ℕ) (past : Past) (near : ℕ) (datagram : List ℕ) (packet : Whole) (l : Lasting) : Type 0 where
   pub moment : ℕ
   pub before : List Taken
   pub last : taken_since near past ≡ record { moment = moment; datagram = datagram } ∷ before
-  pub passes : PassesIn l.secret (inward_of l) (mode_in l) near before datagram
+  pub passes : PassesIn secret (inward_of l) (mode_in l) near before datagram
   pub is : passes.packet ≡ packet
+
+abbrev pub Passed : Past → ℕ → List ℕ → Whole → Lasting → Type 0
+Passed past near datagram packet l = (secret : List ℕ) → TakesUnder secret l → PassedUnder secret past near datagram packet l
 
 -- so for whatever row is there
 abbrev pub PassedIn : Past → ℕ → List ℕ → Whole → State → Type 0
@@ -32,12 +35,12 @@ pub passed_follows : (past : Past) (near : ℕ) (datagram : List ℕ) (packet : 
     PassedIn (onto s.moment d.entries past) near datagram packet d.state
 passed_follows past near datagram packet s d f passed row there =
     let was = f.had near row there in
-    let p = passed was.old was.there in
-    let here : Passed (onto s.moment d.entries past) near datagram packet (lasting was.old.session) = record {
+    let here : Passed (onto s.moment d.entries past) near datagram packet (lasting was.old.session) = λ secret under. (
+    let p = passed was.old was.there secret under in record {
       moment = p.moment;
       before = p.before;
       last = since_onto near s.moment d.entries past f.none ∙ p.last;
       passes = p.passes;
       is = p.is;
-    } in
+    }) in
     subst (Passed (onto s.moment d.entries past) near datagram packet) (sym was.descends.same) here

@@ -23,7 +23,7 @@ use Rattle.session_core.specs.declared.stage.Stage.{Stage}
 use Rattle.session_core.specs.declared.stage.Stage.TheVariants.{Opening, Open, NearClose, FarLinger, Closed}
 use Rattle.session_core.specs.declared.stage.SessionDue.{SessionDue}
 use Rattle.session_core.specs.declared.stage.SessionDue.TheVariants.{Unconfirmed, Idle, Over, RepeatClose}
-use Rattle.session_core.specs.Session.{SessionState, context_between, is_opening}
+use Rattle.session_core.specs.Session.{SessionState, IsKeyed, context_between, is_opening}
 use Rattle.session_core.specs.Closing.{is_open, is_near_close, is_far_linger, is_held, is_past, is_past_last, is_over, closed_near, asked_to_close, first_due, needs_keepalive, kept_alive}
 use Rattle.mobility.specs.declared.pending.Test.{Test}
 use Rattle.mobility.specs.Tests.{asks, after_seen, address_for, after_reply}
@@ -65,7 +65,7 @@ was_mode Initiator j thing w = ap inward_mode (sym w)
 was_mode Responder j thing (inl w) = ap inward_mode (sym w)
 was_mode Responder j thing (inr w) = ap inward_mode (sym w)
 
-module _ (setup : Setup) (session : SessionState) (thing : Held) (own : session.own ≡ own_of setup) (secret : session.secret ≡ setup.secret) (generation : session.generation ≡ 0) (was : WasThing session.role session.joined thing) where
+module _ (setup : Setup) (session : SessionState) (thing : Held) (own : session.own ≡ own_of setup) (generation : session.generation ≡ 0) (was : WasThing session.role session.joined thing) where
   context : context_between session.generation session.joined session.own session.role false ≡ inward (own_of setup) thing
   context = ap (λ (g : ℕ). context_between g session.joined session.own session.role false) generation ∙ ap (λ (o : List ℕ). context_between 0 session.joined o session.role false) own ∙ was_inward (own_of setup) session.role session.joined thing was
 
@@ -74,34 +74,31 @@ module _ (setup : Setup) (session : SessionState) (thing : Held) (own : session.
 
   -- what passes in the session, passes in it as this thing
   as_thing : (near : ℕ) (before : List Taken) (datagram : List ℕ) →
-      PassesIn session.secret (context_between session.generation session.joined session.own session.role false) (peers_mode session.role) near before datagram → Passes setup thing near before datagram
+      PassesIn setup.secret (context_between session.generation session.joined session.own session.role false) (peers_mode session.role) near before datagram → Passes setup thing near before datagram
   as_thing near before datagram p = record {
     packet = p.packet;
-    reads = subst (λ (c : Context). ReadsUnder setup.secret c near datagram p.packet) context
-        (subst (λ (k : List ℕ). ReadsUnder k (context_between session.generation session.joined session.own session.role false) near datagram p.packet) secret p.reads);
-    number = subst (λ (c : Context). IsNewAfter setup.secret c near (count_in datagram) before) context
-        (subst (λ (k : List ℕ). IsNewAfter k (context_between session.generation session.joined session.own session.role false) near (count_in datagram) before) secret p.number);
+    reads = subst (λ (c : Context). ReadsUnder setup.secret c near datagram p.packet) context p.reads;
+    number = subst (λ (c : Context). IsNewAfter setup.secret c near (count_in datagram) before) context p.number;
     mode_is = p.mode_is ∙ mode;
   }
 
   -- and what it took as this thing it took
   took_as : (near moment : ℕ) (taken : List Taken) →
-      TookIn session.secret (context_between session.generation session.joined session.own session.role false) (peers_mode session.role) near moment taken ≡ TookAt setup thing near moment taken
+      TookIn setup.secret (context_between session.generation session.joined session.own session.role false) (peers_mode session.role) near moment taken ≡ TookAt setup thing near moment taken
   took_as near moment taken =
-      ap (λ (k : List ℕ). TookIn k (context_between session.generation session.joined session.own session.role false) (peers_mode session.role) near moment taken) secret
-      ∙ ap (λ (c : Context). TookIn setup.secret c (peers_mode session.role) near moment taken) context
+      ap (λ (c : Context). TookIn setup.secret c (peers_mode session.role) near moment taken) context
       ∙ ap (λ (m : Mode). TookIn setup.secret (inward (own_of setup) thing) m near moment taken) mode
 
 -- the session of a row takes a chunk of the call's datagram
-takes_chunk : (setup : Setup) (past : Past) (from : AddressParts) (datagram : List ℕ) (draws : Draws) (packet : Whole) (session : SessionState) (near : ℕ) (thing : Held) → session.own ≡ own_of setup → session.secret ≡ setup.secret →
+takes_chunk : (setup : Setup) (past : Past) (from : AddressParts) (datagram : List ℕ) (draws : Draws) (packet : Whole) (session : SessionState) (near : ℕ) (thing : Held) → session.own ≡ own_of setup → IsKeyed setup.secret session →
     session.generation ≡ 0 → WasThing session.role session.joined thing → Passed past near datagram packet (lasting session) → (c : Placed) → IsAmong c (chunks_of packet) → (chunk : Chunk) → Spells chunk c.kind c.payload →
     TakesChunkOf setup past thing near (record { from = from; datagram = datagram; draws = draws }) chunk
 unfolding as_thing
-takes_chunk setup past from datagram draws packet session near thing own secret generation was p c among chunk spells = record {
+takes_chunk setup past from datagram draws packet session near thing own keyed generation was passed c among chunk spells = let p = passed setup.secret keyed.towards in record {
   moment = p.moment;
   before = p.before;
   last = p.last;
-  passes = as_thing setup session thing own secret generation was near p.before datagram p.passes;
+  passes = as_thing setup session thing own generation was near p.before datagram p.passes;
   placed = c;
   among = subst (λ (w : Whole). IsAmong c (chunks_of w)) (sym p.is) among;
   spells = spells;
@@ -126,7 +123,7 @@ far_fits Responder stage f = tt
 pub near_left : (moment : ℕ) (session : SessionState) → StageFits session.role session.stage → is_held session.stage ≡ true → IsLeft moment session (closed_near moment session)
 near_left moment session fits held =
     subst (IsLeft moment session) (sym (if_true (is_held session.stage) (record session { stage = NearClose; since = moment; close_sent = Some moment }) session held))
-    (record { joined = refl; own = refl; secret = refl; generation = refl; role = refl; closing = refl; stage = near_fits session.role session.stage fits; since = refl })
+    (record { joined = refl; own = refl; generation = refl; inward = refl; outward = refl; role = refl; closing = refl; stage = near_fits session.role session.stage fits; since = refl })
 
 or_true : (a b : Bool) → a ≡ true → (a || b) ≡ true
 or_true true b e = refl
@@ -136,7 +133,7 @@ pub far_left : (moment : ℕ) (session : SessionState) → StageFits session.rol
 far_left moment session fits held =
     subst (IsLeft moment session)
     (sym (if_true (is_held session.stage || is_near_close session.stage) (record session { stage = FarLinger; since = moment }) session (or_true (is_held session.stage) (is_near_close session.stage) held)))
-    (record { joined = refl; own = refl; secret = refl; generation = refl; role = refl; closing = refl; stage = far_fits session.role session.stage fits; since = refl })
+    (record { joined = refl; own = refl; generation = refl; inward = refl; outward = refl; role = refl; closing = refl; stage = far_fits session.role session.stage fits; since = refl })
 
 not_true : (b : Bool) → b ≡ false → b ≡ true → ⊥
 not_true b p q = let e : true ≡ false = sym q ∙ p in cc
@@ -145,8 +142,9 @@ lingers_if : (b : Bool) (moment : ℕ) (session : SessionState) → StageFits se
 lingers_if true moment session fits closing = record {
   joined = refl;
   own = refl;
-  secret = refl;
   generation = refl;
+  inward = refl;
+  outward = refl;
   role = refl;
   held = sym closing;
   thing = λ e. absurd (not_true (is_held session.stage) closing e);
@@ -206,7 +204,7 @@ module _ (setup : Setup) (from : AddressParts) (datagram : List ℕ) (draws : Dr
       let line : FarLine setup call past row.session.joined.peer near = record {
         thing = thing;
         is_held = held_facts setup call past s tied near row there held Far;
-        by = takes_chunk setup past from datagram draws packet row.session near thing is.own is.secret is.generation (was_itself row.session.role row.session.stage row.session.joined) (passed row there) c among CloseChunk (kind, tt);
+        by = takes_chunk setup past from datagram draws packet row.session near thing is.own is.keyed is.generation (was_itself row.session.role row.session.stage row.session.joined) (passed row there) c among CloseChunk (kind, tt);
       } in
       subst (λ d. Goes setup call past s d) (sym (if_true (is_held row.session.stage) _ (nothing (with_session s near row (asked_to_close s.moment row.session))) held))
       (goes_ended setup call past s tied near row there held Far (asked_to_close s.moment row.session) refl (may_close row.session.role row.session.stage row.session.joined) (far_left s.moment row.session is.stage held)
@@ -236,13 +234,13 @@ module _ (setup : Setup) (from : AddressParts) (datagram : List ℕ) (draws : Dr
         thing = closed.thing;
         at = closed.at;
         closing = closed.closing;
-        by = inl (takes_chunk setup past from datagram draws packet row.session near closed.thing t.own t.secret t.generation closed.was (passed row is) c among CloseAck (kind, tt));
+        by = inl (takes_chunk setup past from datagram draws packet row.session near closed.thing t.own t.keyed t.generation closed.was (passed row is) c among CloseAck (kind, tt));
       })
 
   moved_to_where : (row : Row) → get s.sessions near ≡ Some row → (moves : Option Test) (o : Option AddressParts) → Goes setup call past s (moved_where s near row moves o)
   moved_to_where row is moves None = goes_nothing setup call s past tied
   moved_to_where row is moves (Some to) =
-      goes_moved setup call s near row _ to is (record { joined = refl; own = refl; secret = refl; generation = refl; role = refl; held = refl; thing = λ e. refl; stage = λ f. f; since = λ e. inl refl }) past tied
+      goes_moved setup call s near row _ to is (record { joined = refl; own = refl; generation = refl; inward = refl; outward = refl; role = refl; held = refl; thing = λ e. refl; stage = λ f. f; since = λ e. inl refl }) past tied
 
   moved : (o : Option Row) → get s.sessions near ≡ o → Goes setup call past s (moved_by s near from c.payload o)
   moved None is = goes_nothing setup call s past tied
@@ -400,7 +398,7 @@ module _ (setup : Setup) (call : Call) (is_tick : IsTick call) (past : Past) (s 
         began = known.began.done;
         old = omega (arith, late, known.began.early);
         quiet = λ moment took.
-            let by_then : moment ≤ session.taken = known.counts.times moment (subst (λ (t : Type 0). t) (sym (took_as setup session thing is.own is.secret is.generation was near moment (taken_since near past))) took) in
+            let by_then : moment ≤ session.taken = (known.counts setup.secret is.keyed.towards).times moment (subst (λ (t : Type 0). t) (sym (took_as setup session thing is.own is.generation was near moment (taken_since near past))) took) in
             omega (arith, late, by_then);
       } in
       goes_dropped setup call past s tied near row there held_now WasIdle refl (is_kept session.role session.stage session.joined both.0)
@@ -415,7 +413,7 @@ module _ (setup : Setup) (call : Call) (is_tick : IsTick call) (past : Past) (s 
   -- the row whose close is sent again
   pub goes_again : Goes setup call past s (nothing (with_session s near row (record session { close_sent = Some s.moment })))
   goes_again = goes_changed setup call s near row (record row { session = record session { close_sent = Some s.moment } }) there
-      (record { joined = refl; own = refl; secret = refl; generation = refl; role = refl; held = refl; thing = λ e. refl; stage = λ f. f; since = λ e. inl refl }) past tied
+      (record { joined = refl; own = refl; generation = refl; inward = refl; outward = refl; role = refl; held = refl; thing = λ e. refl; stage = λ f. f; since = λ e. inl refl }) past tied
 
   again : Goes setup call past s (session_due_done s near row RepeatClose)
   again = goes_and_home setup call s near (chunk_bytes CloseChunk) past _ goes_again
@@ -427,7 +425,7 @@ module _ (setup : Setup) (call : Call) (is_tick : IsTick call) (past : Past) (s 
   by_due RepeatClose is = again
 
   alive_alike : (b : Bool) → IsAlike s.moment session (if b then record session { keepalive = Some s.moment } else session)
-  alive_alike true = record { joined = refl; own = refl; secret = refl; generation = refl; role = refl; held = refl; thing = λ e. refl; stage = λ f. f; since = λ e. inl refl }
+  alive_alike true = record { joined = refl; own = refl; generation = refl; inward = refl; outward = refl; role = refl; held = refl; thing = λ e. refl; stage = λ f. f; since = λ e. inl refl }
   alive_alike false = alike_itself s.moment session
 
   -- the row that is kept alive

@@ -3,7 +3,6 @@ use Rattle.std.proofs.Common.{◌≡◌, ℕ, ◌+◌, ◌≤◌, List, [], ◌�
 use Rattle.std.specs.Ordering.{nat_cmp}
 use Rattle.std.specs.Cmp.Lexicographic.{slice_cmp}
 use Rattle.std.specs.FinMap.{get, get-empty, len-empty}
-use Rattle.glare_core.specs.declared.facts.Fact.TheVariants.{Started}
 use Rattle.glare_core.specs.declared.facts.Joined.{Joined}
 use Rattle.glare_core.specs.declared.facts.Held.{Held}
 use Rattle.glare_core.specs.declared.facts.Held.TheVariants.{HalfOpen, KeptAsResponder, KeptAsInitiator}
@@ -18,12 +17,11 @@ use Rattle.session_core.specs.declared.stage.Role.{Role}
 use Rattle.session_core.specs.declared.stage.Role.TheVariants.{Initiator, Responder}
 use Rattle.session_core.specs.declared.stage.Stage.{Stage}
 use Rattle.session_core.specs.declared.stage.Stage.TheVariants.{Opening, Open, NearClose, FarLinger, Closed}
-use Rattle.session_core.specs.Session.{SessionState}
+use Rattle.session_core.specs.Session.{SessionState, IsKeyed}
 use Rattle.session_core.specs.Closing.{is_held}
 use Rattle.endpoint_model.specs.declared.row.Row.{Row}
-use Rattle.endpoint_model.specs.declared.entry.Entry.TheVariants.{Fact as FactEntry}
 use Rattle.endpoint_model.specs.Event.{Setup, own_of}
-use Rattle.endpoint_laws.specs.Past.{Past, stamped, facts_of, ids_in_use, is_in_use, IsClosing, WasDone}
+use Rattle.endpoint_laws.specs.Past.{Past, facts_of, ids_in_use, is_in_use, IsClosing}
 use Rattle.endpoint_laws.specs.OfTheLog.{WasThing, WasStartedAs}
 use Rattle.endpoint_model.specs.State.{State, fresh, uses, is_used}
 use Rattle.endpoint_model.proofs.Members.{IsOnce}
@@ -86,7 +84,7 @@ sealed_once session = record session { sealed = session.sealed + 1 }
 pub record SessionTied (setup : Setup) (past : Past) (ledger : Ledger) (near : ℕ) (session : SessionState) : Type 0 where
   pub id : session.joined.near ≡ near
   pub own : session.own ≡ own_of setup
-  pub secret : session.secret ≡ setup.secret
+  pub keyed : IsKeyed setup.secret session
   pub generation : session.generation ≡ 0
   pub stage : StageFits session.role session.stage
   pub thing : is_held session.stage ≡ true → held_with ledger session.joined.peer ≡ Some (thing_of session.role session.stage session.joined)

@@ -21,7 +21,7 @@ use Rattle.session_core.specs.declared.stage.Role.TheVariants.{Initiator, Respon
 use Rattle.session_core.specs.declared.hearing.Unheard.{Unheard}
 use Rattle.session_core.specs.declared.hearing.Unheard.TheVariants.{Short as ShortPart, BadTag as WrongTag, Repeated as OldNumber}
 use Rattle.session_core.specs.Session.{SessionState, with_stamps, is_opening, confirmed}
-use Rattle.session_core.specs.Hearing.{unheard, inward_keys, counted}
+use Rattle.session_core.specs.Hearing.{unheard, counted}
 use Rattle.startup.specs.Attempts.{confirm_fact, after_confirm}
 use Rattle.endpoint_model.specs.declared.place.Place.{Place}
 use Rattle.endpoint_model.specs.declared.row.Row.{Row}
@@ -111,7 +111,7 @@ opened_in_startup s generation sid part = opened_by (startup_keys s generation) 
     (open_refusal (startup_keys s generation) sid part)
 
 abbrev pub heard_by : SessionState → List ℕ → Option Unheard → Result (List ℕ) Cause
-heard_by session part None = Ok (plain_of (inward_keys session) part)
+heard_by session part None = Ok (plain_of session.inward part)
 heard_by session part (Some ShortPart) = Err Short
 heard_by session part (Some WrongTag) = Err BadTag
 heard_by session part (Some OldNumber) = Err Repeated

@@ -17,6 +17,7 @@ use Rattle.rtmfp_base.specs.declared.cause.Cause.TheVariants.{UnknownChunk, Malf
 use Rattle.startup.specs.Attempts.{rhello_cause, cookie_change_cause}
 use Rattle.startup.specs.Redirects.{redirect_cause}
 use Rattle.startup.specs.Keyings.{keying_fault, initiator_hello_cause, iikeying_cause, rikeying_cause}
+use Rattle.session_core.specs.declared.stage.Stage.{Stage}
 use Rattle.session_core.specs.Closing.{is_held, is_near_close}
 use Rattle.endpoint_model.specs.declared.row.Row.{Row}
 use Rattle.endpoint_model.specs.declared.place.Place.{Place}
@@ -67,13 +68,17 @@ takes (Session near) kind =
     || (kind == CLOSE_ACK) || is_of_flows kind
 
 -- A session that is held takes all of them but the answer to a close. One that is closing takes a
--- close, and where this end closes it the answer. One that is over takes none.
+-- close, and where this end closes it the answer.
+abbrev pub stage_takes : Stage → ℕ → Bool
+stage_takes stage kind =
+    if kind == CLOSE then true
+    else if kind == CLOSE_ACK then is_near_close stage
+    else is_held stage
+
+-- One that is over takes none.
 abbrev pub row_takes : Option Row → ℕ → Bool
 row_takes None kind = false
-row_takes (Some row) kind =
-    if kind == CLOSE then true
-    else if kind == CLOSE_ACK then is_near_close row.session.stage
-    else is_held row.session.stage
+row_takes (Some row) kind = stage_takes row.session.stage kind
 
 abbrev pub has_state_for : State → Place → ℕ → Bool
 has_state_for s (Startup generation) kind = true

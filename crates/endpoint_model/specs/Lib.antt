@@ -11,6 +11,7 @@ pub mod FlowChunks
 pub mod FlowTimes
 pub mod Admission
 pub mod Causes
+pub mod Kinds
 pub mod Introducing
 pub mod Effects
 pub mod Log
