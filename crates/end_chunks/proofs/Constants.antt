@@ -92,10 +92,9 @@ opening_keeps s near fact = record { secret_is = refl; own_is = refl }
 
 -- ---- so what an end keeps beside it stays as it should be
 
-pub end_stays : (settings : Settings) (secret print : List ℕ) (keys : Keys) (s t : StartupState) →
-    IsEnd settings secret print keys s → IsSameEnd s t → IsEnd settings secret print keys t
-end_stays settings secret print keys s t is kept = record {
-  secret_is = is.secret_is ∙ sym kept.secret_is;
+pub end_stays : (settings : Settings) (print : List ℕ) (keys : Keys) (s t : StartupState) →
+    IsEnd settings print keys s → IsSameEnd s t → IsEnd settings print keys t
+end_stays settings print keys s t is kept = record {
   print_is = is.print_is ∙ sym kept.own_is;
   keys_are = is.keys_are ∙ ap (λ x. keys_of x (Startup 0)) (sym kept.secret_is);
   few = is.few;

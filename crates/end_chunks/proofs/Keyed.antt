@@ -92,16 +92,16 @@ opened_so s t near from payload fact new before after is t_is done =
 
 -- ---- what an end keeps beside its state stays as it should be
 
-pub kept_end : (settings : Settings) (secret print : List ℕ) (keys : Keys) (s t left : StartupState) → IsEnd settings secret print keys s → IsSameEnd s left → t ≡ left → IsEnd settings secret print keys t
-kept_end settings secret print keys s t left is same t_is =
-    subst (λ (x : StartupState). IsEnd settings secret print keys x) (sym t_is) (end_stays settings secret print keys s left is same)
+pub kept_end : (settings : Settings) (print : List ℕ) (keys : Keys) (s t left : StartupState) → IsEnd settings print keys s → IsSameEnd s left → t ≡ left → IsEnd settings print keys t
+kept_end settings print keys s t left is same t_is =
+    subst (λ (x : StartupState). IsEnd settings print keys x) (sym t_is) (end_stays settings print keys s left is same)
 
-pub kept_keying : (settings : Settings) (secret print : List ℕ) (keys : Keys) (s t : StartupState) (payload : List ℕ) (from : AddressParts) (moment near : ℕ) (nr : List ℕ) →
-    IsEnd settings secret print keys s → t ≡ after_keying s payload from moment near nr → IsEnd settings secret print keys t
-kept_keying settings secret print keys s t payload from moment near nr is t_is =
-    kept_end settings secret print keys s t (after_keying s payload from moment near nr) is (keying_keeps s payload from moment near nr) t_is
+pub kept_keying : (settings : Settings) (print : List ℕ) (keys : Keys) (s t : StartupState) (payload : List ℕ) (from : AddressParts) (moment near : ℕ) (nr : List ℕ) →
+    IsEnd settings print keys s → t ≡ after_keying s payload from moment near nr → IsEnd settings print keys t
+kept_keying settings print keys s t payload from moment near nr is t_is =
+    kept_end settings print keys s t (after_keying s payload from moment near nr) is (keying_keeps s payload from moment near nr) t_is
 
-pub kept_opening : (settings : Settings) (secret print : List ℕ) (keys : Keys) (s t : StartupState) (near : ℕ) (fact : Fact) →
-    IsEnd settings secret print keys s → t ≡ after_opening s near fact → IsEnd settings secret print keys t
-kept_opening settings secret print keys s t near fact is t_is =
-    kept_end settings secret print keys s t (after_opening s near fact) is (opening_keeps s near fact) t_is
+pub kept_opening : (settings : Settings) (print : List ℕ) (keys : Keys) (s t : StartupState) (near : ℕ) (fact : Fact) →
+    IsEnd settings print keys s → t ≡ after_opening s near fact → IsEnd settings print keys t
+kept_opening settings print keys s t near fact is t_is =
+    kept_end settings print keys s t (after_opening s near fact) is (opening_keeps s near fact) t_is

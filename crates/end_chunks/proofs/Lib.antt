@@ -7,3 +7,4 @@ mod FlowTaken
 mod Found
 pub mod Introduced
 pub mod Relocating
+mod Ways

@@ -1,5 +1,5 @@
 -- A chunk that isn't discarded, as it was read once and with what was found of it.
-use Rattle.std.specs.Prelude.{ℕ, ◌==◌, ◌≤◌, not, Bool, true, if◌then◌else◌, [], ◌∷◌, length, List, Option}
+use Rattle.std.specs.Prelude.{ℕ, ◌≤◌, not, Bool, true, if◌then◌else◌, [], ◌∷◌, length, List, Option}
 use Rattle.std.specs.Prelude.{Some, None, Ok, ◌≡◌}
 use Rattle.std.specs.FinMap.{get}
 use Rattle.rtmfp_forms.specs.Address.{AddressParts}
@@ -7,7 +7,6 @@ use Rattle.rtmfp_chunks.specs.Chunk.{chunk_of, Chunk}
 use Rattle.rtmfp_chunks.specs.Chunk.{Close as CloseChunk, CloseAck as CloseAckChunk}
 use Rattle.rtmfp_chunks.specs.Chunk.{FIHello, PingReply as PingReplyChunk}
 use Rattle.rtmfp_chunks.specs.FieldReading.{chunk_reading}
-use Rattle.rtmfp_chunks.specs.declared.kinds.TheConstants.{FRAGMENT, CLOSE, CLOSE_ACK}
 use Rattle.rtmfp_packet.specs.Walk.{Placed}
 use Rattle.identity.specs.declared.discriminator.Epd.{Epd}
 use Rattle.identity.specs.Discriminators.{discriminator_of}
@@ -16,7 +15,6 @@ use Rattle.rtmfp_chunks.specs.Writing.{IsWritable, chunk_bytes}
 use Rattle.rtmfp_base.specs.Reasons.{where_true, first_that_stands}
 use Rattle.rtmfp_base.specs.declared.cause.Cause.{Cause}
 use Rattle.rtmfp_base.specs.declared.cause.Cause.TheVariants.{WrongPlace, WrongState}
-use Rattle.rtmfp_base.specs.declared.cause.Cause.TheVariants.{Fragment as FragmentCause}
 use Rattle.startup.specs.State.{AttemptState, peer_of_attempt}
 use Rattle.startup.specs.Attempts.{wide, changed, after_answer, answer_keying, after_change}
 use Rattle.startup.specs.Attempts.{change_keying}
@@ -29,8 +27,6 @@ use Rattle.endpoint_model.specs.declared.place.Place.{Place}
 use Rattle.endpoint_model.specs.State.{State, Did, nothing, then_do, with_startup, full}
 use Rattle.endpoint_model.specs.Sending.{sent_answer, sent_if, sent_in_session}
 use Rattle.endpoint_model.specs.Admission.{sid_at}
-use Rattle.session_core.specs.declared.stage.Stage.{Stage}
-use Rattle.session_core.specs.Closing.{is_held, is_near_close}
 use Rattle.endpoint_model.specs.InSessions.{answers_by, close_taken_by, closed, moved_by}
 use Rattle.endpoint_model.specs.InSessions.{told_in_session}
 use Rattle.endpoint_model.specs.Causes.{has_state_for, read_cause, takes}
@@ -46,24 +42,16 @@ use Rattle.end_chunks.specs.declared.judging.Verdict.TheVariants.{Introduction, 
 use Rattle.end_chunks.specs.declared.judging.Verdict.TheVariants.{Reply, Close, CloseAck}
 use Rattle.end_chunks.specs.declared.judging.Verdict.TheVariants.{PingReply, Quiet}
 
--- the causes of a chunk whose type is known, where these are that of its form and its last one
-abbrev pub known_cause : Place → ℕ → Option Cause → Option Cause → Option Cause
-known_cause place kind form last =
-    first_that_stands (form ∷ where_true (kind == FRAGMENT) FragmentCause
-    ∷ where_true (not (takes place kind)) WrongPlace ∷ last ∷ [])
+-- the causes of a chunk that is judged, where these are that of its form and its last one
+abbrev pub judged_cause : Place → ℕ → Option Cause → Option Cause → Option Cause
+judged_cause place kind form last =
+    first_that_stands (form ∷ where_true (not (takes place kind)) WrongPlace ∷ last ∷ [])
 
 -- the last cause of one that is no keying
 abbrev pub other_cause : State → Place → AddressParts → Placed → Option Cause
 other_cause s place from c =
     first_that_stands (where_true (not (has_state_for s place c.kind)) WrongState
     ∷ read_cause s place from (chunk_reading c.kind c.payload) ∷ [])
-
--- the chunks that a session takes at a stage, of those that sessions take
-abbrev pub stage_takes : Stage → ℕ → Bool
-stage_takes stage kind =
-    if kind == CLOSE then true
-    else if kind == CLOSE_ACK then is_near_close stage
-    else is_held stage
 
 -- what one does that is no keying
 abbrev pub other_done : State → Place → AddressParts → Placed → Did

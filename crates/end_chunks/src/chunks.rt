@@ -1,6 +1,6 @@
 //! One chunk of a datagram: it is discarded for its cause, or does what it does.
 
-ghost use Rattle.std.specs.Prelude.{ℕ, ◌≡◌, ◌==◌, ◌||◌, ◌<◌, ◌≤◌, ◌^◌, IsOk, OnErr, OnOk};
+ghost use Rattle.std.specs.Prelude.{ℕ, ◌≡◌, ◌||◌, ◌<◌, ◌≤◌, ◌^◌, IsOk, OnErr, OnOk};
 ghost use Rattle.std.specs.Prelude.{List, length, Option, None};
 ghost use Rattle.rtmfp_chunks.specs.Chunk.{chunk_of};
 ghost use Rattle.rtmfp_chunks.specs.Writing.{IsWritable, chunk_bytes};
@@ -10,7 +10,6 @@ ghost use Rattle.startup.specs.Attempts.{after_answer, after_change, answer_keyi
 ghost use Rattle.startup.specs.Attempts.{change_keying, changed, wide};
 ghost use Rattle.startup.specs.Keyings.{initiator_hello_answer};
 ghost use Rattle.startup.specs.Judging.{found_in, IsFound};
-ghost use Rattle.rtmfp_chunks.specs.declared.kinds.TheConstants.{IIKEYING};
 ghost use Rattle.endpoint_model.specs.Effects.{IsQuiet, chunk_did, discards_for, walked};
 ghost use Rattle.endpoint_model.specs.Causes.{chunk_cause};
 ghost use Rattle.endpoint_model.specs.Sending.{sent_answer, sent_if, sent_in_session};
@@ -18,15 +17,15 @@ ghost use Rattle.endpoint_model.specs.State.{Done, nothing, with_startup};
 ghost use Rattle.end_chunks.specs.Judging.{IsSo, verdict_did};
 
 use crate::closing::take_close;
-use crate::flows::{Untaken, is_of_flows, take_read};
+use crate::flows::{Untaken, take_read};
 use crate::introducing::{extend, introduce};
 use crate::judging::{Verdict, judge, sid_at};
 use crate::keyings::{initiator_keyed, responder_keyed};
 use crate::moving::take_ping_reply;
 use end_state::{EndState, Outbox, blank};
-use endpoint_model::{Draws, Place, Walk};
+use endpoint_model::{Draws, Kind, Place, Walk, kind_of};
+use rtmfp_base::Cause;
 use rtmfp_chunks::ChunkView;
-use rtmfp_chunks::kinds::IIKEYING;
 use rtmfp_forms::Address;
 use rtmfp_packet::RawChunk;
 use startup::Found;
@@ -174,12 +173,12 @@ fn reply(
     Ok(())
 }
 
-/// The walk goes on behind a chunk of this type, which is none of flows.
-fn go_on(walk: &mut Walk, kind: u8)
-    ensures keyed { walk.new.keyed ≡ (walk.old.keyed || (kind == IIKEYING)) }
+/// The walk goes on behind a chunk that is none of flows, which is an initiator's keying or isn't.
+fn go_on(walk: &mut Walk, is_keying: bool)
+    ensures keyed { walk.new.keyed ≡ (walk.old.keyed || is_keying) }
     ensures cursor { walk.new.cursor ≡ None }
 {
-    walk.keyed = walk.keyed || kind == IIKEYING;
+    walk.keyed = walk.keyed || is_keying;
     walk.cursor.other();
 }
 
@@ -205,18 +204,26 @@ pub fn take_chunk(
         discards_for (chunk_cause end.old place walk.old from.now (shown chunk.now))
         ≤ out.old.free → IsOk result }
 {
-    if is_of_flows(chunk.kind) {
-        let read = walk.cursor.read(chunk.kind, chunk.payload);
-        return match take_read(end, place, read, out) {
-            Ok(()) => Ok(()),
-            Err(Untaken::Cause(cause)) => end.discard(chunk.at, cause, out),
-            Err(Untaken::Memory) => Err(AllocError),
-        };
-    }
-    let verdict = judge(end, place, walk, from, chunk);
-    go_on(walk, chunk.kind);
-    match verdict {
-        Ok(verdict) => apply(end, &verdict, place, from, draws, out),
-        Err(cause) => end.discard(chunk.at, cause, out),
+    match kind_of(chunk.kind) {
+        Kind::OfFlows => {
+            let read = walk.cursor.read(chunk.kind, chunk.payload);
+            match take_read(end, place, read, out) {
+                Ok(()) => Ok(()),
+                Err(Untaken::Cause(cause)) => end.discard(chunk.at, cause, out),
+                Err(Untaken::Memory) => Err(AllocError),
+            }
+        }
+        Kind::Unknown => {
+            go_on(walk, false);
+            end.discard(chunk.at, Cause::UnknownChunk(chunk.kind), out)
+        }
+        Kind::Judged(kind) => {
+            let verdict = judge(end, place, walk, from, &kind, chunk);
+            go_on(walk, kind.way.is_initiator_keying());
+            match verdict {
+                Ok(verdict) => apply(end, &verdict, place, from, draws, out),
+                Err(cause) => end.discard(chunk.at, cause, out),
+            }
+        }
     }
 }

@@ -18,7 +18,7 @@ ghost use Rattle.session_flows.specs.Chunks.{finished_at};
 ghost use Rattle.session_flows.specs.Judged.{IsJudged};
 ghost use Rattle.endpoint_model.specs.Added.{IsShort};
 ghost use Rattle.endpoint_model.specs.FlowChunks.{data_fault, flow_taken, flow_taken_by};
-ghost use Rattle.endpoint_model.specs.FlowChunks.{is_of_flows, states_nothing, taking_cause};
+ghost use Rattle.endpoint_model.specs.FlowChunks.{states_nothing, taking_cause};
 ghost use Rattle.endpoint_model.specs.State.{Done, nothing};
 ghost use Rattle.endpoint_model.specs.Admission.{sid_at};
 ghost use Rattle.end_chunks.specs.FlowChunks.{ack_cause_in, ack_heard, data_kept};
@@ -28,22 +28,9 @@ ghost use Rattle.end_chunks.specs.FlowChunks.{read_cause_at, rejected};
 use end_state::{EndState, Outbox};
 use endpoint_model::{Entry, Place};
 use rtmfp_base::Cause;
-use rtmfp_data_chunks::kinds::*;
 use rtmfp_data_chunks::{AckedSpans, DataFault, DataView, UserData};
 use session_flows::JudgedData;
 use std::alloc::AllocError;
-
-/// Whether a chunk of this type is one of flows.
-pub(crate) fn is_of_flows(kind: u8) -> bool
-    ensures { result ≡ is_of_flows kind }
-{
-    kind == DATA
-        || kind == NEXT
-        || kind == ACK_BITMAP
-        || kind == ACK_RANGES
-        || kind == PROBE
-        || kind == EXCEPTION
-}
 
 /// Why a field of a chunk of flows can't be read.
 fn data_fault(fault: DataFault) -> Cause

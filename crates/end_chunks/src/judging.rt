@@ -1,11 +1,12 @@
 //! One look at a chunk: why it is discarded, or what it would do. Nothing changes here, and no
 //! memory is taken.
 
-ghost use Rattle.std.specs.Prelude.{◌≡◌, IfErr, IfOk, None, Ok, Some, false, length, nat_lt, true};
+ghost use Rattle.std.specs.Prelude.{◌≡◌, ◌∷◌, [], IfErr, IfOk, None, Ok, Some, false, length};
+ghost use Rattle.std.specs.Prelude.{nat_lt, true};
 ghost use Rattle.std.specs.FinMap.{get};
-ghost use Rattle.rtmfp_base.specs.Reasons.{where_true};
+ghost use Rattle.rtmfp_base.specs.Reasons.{first_that_stands, where_true};
 ghost use Rattle.rtmfp_forms.specs.Address.{AddressParts};
-ghost use Rattle.rtmfp_chunks.specs.declared.kinds.TheConstants.{IIKEYING, RIKEYING};
+ghost use Rattle.rtmfp_chunks.specs.declared.kinds.TheConstants.{FRAGMENT, IIKEYING, RIKEYING};
 ghost use Rattle.rtmfp_chunks.specs.Chunk.{chunk_of, kind_of};
 ghost use Rattle.rtmfp_chunks.specs.FieldReading.{chunk_reading};
 ghost use Rattle.rtmfp_packet.specs.Chunks.{shown};
@@ -13,25 +14,23 @@ ghost use Rattle.startup.specs.Keyings.{keying_fault};
 ghost use Rattle.endpoint_model.specs.Admission.{sid_at};
 ghost use Rattle.endpoint_model.specs.Effects.{effect, initiator_keyed, is_idle, responder_keyed};
 ghost use Rattle.endpoint_model.specs.InSessions.{answers_by, moved_by};
-ghost use Rattle.endpoint_model.specs.Causes.{chunk_cause, initiator_keying_cause, is_known};
+ghost use Rattle.endpoint_model.specs.Causes.{chunk_cause, initiator_keying_cause};
 ghost use Rattle.endpoint_model.specs.Causes.{read_cause, read_fault, responder_keying_cause};
-ghost use Rattle.endpoint_model.specs.Causes.{has_state_for, row_takes, takes, view_fault};
-ghost use Rattle.endpoint_model.specs.FlowChunks.{is_of_flows};
-ghost use Rattle.end_chunks.specs.Judging.{does_nothing, known_cause, other_cause, other_done};
-ghost use Rattle.end_chunks.specs.Judging.{stage_takes, Stands, view_done};
+ghost use Rattle.endpoint_model.specs.Causes.{has_state_for, row_takes, view_fault};
+ghost use Rattle.endpoint_model.specs.Kinds.{IsRow};
+ghost use Rattle.end_chunks.specs.Judging.{does_nothing, judged_cause, other_cause, other_done};
+ghost use Rattle.end_chunks.specs.Judging.{Stands, view_done};
 
-use crate::flows::is_of_flows;
 use crate::introducing::{judge_hello, judge_redirect};
 use crate::moving::is_answered;
 use end_state::{EndState, RowAddresses};
-use endpoint_model::{Place, Walk};
+use endpoint_model::{KindRow, Place, Walk, Way};
 use identity::Certificate;
 use rtmfp_base::Cause;
-use rtmfp_chunks::kinds::*;
+use rtmfp_chunks::kinds::FRAGMENT;
 use rtmfp_chunks::{ChunkFault, ChunkView, read_chunk};
 use rtmfp_forms::Address;
 use rtmfp_packet::RawChunk;
-use session_core::{Session, Stage};
 use startup::{
     Extension, Found, Hearing, InitiatorFields, ResponderFields, read_initiator_keying,
     read_responder_keying,
@@ -96,63 +95,6 @@ pub(crate) enum Verdict<'a> {
     Quiet,
 }
 
-/// Whether an end reads chunks of this type.
-fn is_known(kind: u8) -> bool
-    ensures { result ≡ is_known kind }
-{
-    kind == IHELLO
-        || kind == FIHELLO
-        || kind == RHELLO
-        || kind == REDIRECT
-        || kind == COOKIE_CHANGE
-        || kind == IIKEYING
-        || kind == RIKEYING
-        || kind == PING
-        || kind == PING_REPLY
-        || kind == CLOSE
-        || kind == CLOSE_ACK
-        || kind == FRAGMENT
-        || is_of_flows(kind)
-}
-
-/// Whether a place takes chunks of this type.
-fn takes(place: Place, kind: u8) -> bool
-    ensures { result ≡ takes place kind }
-{
-    match place {
-        Place::Startup { .. } => {
-            kind == IHELLO
-                || kind == RHELLO
-                || kind == REDIRECT
-                || kind == COOKIE_CHANGE
-                || kind == IIKEYING
-        }
-        Place::Attempt { .. } => kind == COOKIE_CHANGE || kind == RIKEYING,
-        Place::Session(_) => {
-            kind == FIHELLO
-                || kind == PING
-                || kind == PING_REPLY
-                || kind == CLOSE
-                || kind == CLOSE_ACK
-                || is_of_flows(kind)
-        }
-    }
-}
-
-/// Whether a session takes chunks of this type, which sessions take. Once it is
-/// closing that is a close alone, and its answer where this end closes it.
-fn stage_takes(session: &Session, kind: u8) -> bool
-    ensures { result ≡ stage_takes session.now.stage kind }
-{
-    if kind == CLOSE {
-        return true;
-    }
-    if kind == CLOSE_ACK {
-        return session.stage() == Stage::NearClose;
-    }
-    session.is_held()
-}
-
 /// The session ID of a place.
 pub(crate) fn sid_at(place: Place) -> u32
     ensures { result ≡ sid_at place }
@@ -173,7 +115,17 @@ fn view_fault(len: usize, view: &ChunkView<'_>) -> Option<Cause>
             Ok(_) => None,
             Err(_) => Some(Cause::Malformed(len.saturating_sub(cert.len()) as u64)),
         },
-        _ => None,
+        ChunkView::IHello { .. }
+        | ChunkView::FIHello { .. }
+        | ChunkView::Redirect { .. }
+        | ChunkView::CookieChange { .. }
+        | ChunkView::IIKeying { .. }
+        | ChunkView::RIKeying { .. }
+        | ChunkView::Ping { .. }
+        | ChunkView::PingReply { .. }
+        | ChunkView::Close
+        | ChunkView::CloseAck
+        | ChunkView::Fragment { .. } => None,
     }
 }
 
@@ -207,19 +159,21 @@ fn ping_cause(bytes: &[u8]) -> Option<Cause>
     }
 }
 
-/// Whether the session with this session ID takes chunks of this type, as it stands.
-fn session_takes(end: &EndState, near: u32, kind: u8) -> bool
-    ensures { result ≡ row_takes (get end.now.sessions near) kind }
+/// Whether the session with this session ID takes chunks of a type, as it stands.
+fn session_takes(end: &EndState, near: u32, kind: &KindRow) -> bool
+    requires { IsRow kind.now }
+    ensures { result ≡ row_takes (get end.now.sessions near) kind.now.kind }
 {
     match end.sessions.row(near) {
-        Some(row) => stage_takes(&row.session, kind),
+        Some(row) => kind.stage_takes(&row.session),
         None => false,
     }
 }
 
-/// Whether what is at a place takes chunks of this type, as it stands.
-fn has_state_for(end: &EndState, place: Place, kind: u8) -> bool
-    ensures { result ≡ has_state_for end.now place kind }
+/// Whether what is at a place takes chunks of a type, as it stands.
+fn has_state_for(end: &EndState, place: Place, kind: &KindRow) -> bool
+    requires { IsRow kind.now }
+    ensures { result ≡ has_state_for end.now place kind.now.kind }
 {
     match place {
         Place::Startup { .. } => true,
@@ -289,7 +243,10 @@ fn judge_view<'a>(
         ChunkView::Close => Ok(Verdict::Close),
         ChunkView::CloseAck => Ok(Verdict::CloseAck),
         ChunkView::PingReply { bytes } => Ok(judge_reply(end, place, from, bytes)),
-        _ => Ok(Verdict::Quiet),
+        // None of these is judged by its fields.
+        ChunkView::IIKeying { .. } | ChunkView::RIKeying { .. } | ChunkView::Fragment { .. } => {
+            Ok(Verdict::Quiet)
+        }
     }
 }
 
@@ -299,14 +256,17 @@ fn judge_initiator<'a>(
     place: Place,
     walk: &Walk,
     from: &Address,
+    kind: &KindRow,
     payload: &'a [u8],
 ) -> Result<Verdict<'a>, Cause>
+    requires row { IsRow kind.now }
+    requires kind { kind.now.kind ≡ IIKEYING }
     ensures ok { IfOk result (Stands end.now place from.now
         (λ draws. initiator_keyed end.now from.now draws payload.now)) }
-    ensures none { IfOk result (λ _. known_cause place IIKEYING
+    ensures none { IfOk result (λ _. judged_cause place IIKEYING
         (keying_fault IIKEYING payload.now)
         (initiator_keying_cause end.now walk.now from.now payload.now) ≡ None) }
-    ensures refused { IfErr result (λ cause. known_cause place IIKEYING
+    ensures refused { IfErr result (λ cause. judged_cause place IIKEYING
         (keying_fault IIKEYING payload.now)
         (initiator_keying_cause end.now walk.now from.now payload.now) ≡ Some cause) }
 {
@@ -314,7 +274,7 @@ fn judge_initiator<'a>(
         Ok(fields) => fields,
         Err(cause) => return Err(cause),
     };
-    if !takes(place, IIKEYING) {
+    if !kind.takes(place) {
         return Err(Cause::WrongPlace);
     }
     if walk.keyed {
@@ -334,14 +294,17 @@ fn judge_initiator<'a>(
 fn judge_responder<'a>(
     end: &EndState,
     place: Place,
+    kind: &KindRow,
     payload: &'a [u8],
 ) -> Result<Verdict<'a>, Cause>
+    requires row { IsRow kind.now }
+    requires kind { kind.now.kind ≡ RIKEYING }
     ensures ok { IfOk result (λ verdict. (from : AddressParts) → Stands end.now place from
         (λ _. responder_keyed end.now (sid_at place) from payload.now) verdict) }
-    ensures none { IfOk result (λ _. known_cause place RIKEYING
+    ensures none { IfOk result (λ _. judged_cause place RIKEYING
         (keying_fault RIKEYING payload.now)
         (responder_keying_cause end.now (sid_at place) payload.now) ≡ None) }
-    ensures refused { IfErr result (λ cause. known_cause place RIKEYING
+    ensures refused { IfErr result (λ cause. judged_cause place RIKEYING
         (keying_fault RIKEYING payload.now)
         (responder_keying_cause end.now (sid_at place) payload.now) ≡ Some cause) }
 {
@@ -349,7 +312,7 @@ fn judge_responder<'a>(
         Ok(fields) => fields,
         Err(cause) => return Err(cause),
     };
-    if !takes(place, RIKEYING) {
+    if !kind.takes(place) {
         return Err(Cause::WrongPlace);
     }
     match end.startup.judge_opening(sid_at(place), &fields) {
@@ -358,20 +321,34 @@ fn judge_responder<'a>(
     }
 }
 
-/// What a chunk of a known type does that is no keying, or why it is discarded.
-fn judge_other<'a>(
+/// Why a part of a packet is discarded.
+fn fragment_cause(payload: &[u8]) -> Cause
+    ensures { first_that_stands (read_fault (length payload.now)
+        (chunk_reading FRAGMENT payload.now) ∷ Some Cause.Fragment ∷ []) ≡ Some result }
+{
+    match read_formed(FRAGMENT, payload) {
+        Ok(_) => Cause::Fragment,
+        Err(cause) => cause,
+    }
+}
+
+/// What a chunk does that is judged by its fields, or why it is discarded.
+fn judge_fields<'a>(
     end: &EndState,
     place: Place,
     from: &Address,
+    kind: &KindRow,
     chunk: &RawChunk<'a>,
 ) -> Result<Verdict<'a>, Cause>
+    requires row { IsRow kind.now }
+    requires kind { kind.now.kind ≡ chunk.now.kind }
     ensures ok { IfOk result (Stands end.now place from.now
         (λ _. other_done end.now place from.now (shown chunk.now))) }
-    ensures none { IfOk result (λ _. known_cause place chunk.now.kind
+    ensures none { IfOk result (λ _. judged_cause place chunk.now.kind
         (read_fault (length chunk.now.payload.now)
         (chunk_reading chunk.now.kind chunk.now.payload.now))
         (other_cause end.now place from.now (shown chunk.now)) ≡ None) }
-    ensures refused { IfErr result (λ cause. known_cause place chunk.now.kind
+    ensures refused { IfErr result (λ cause. judged_cause place chunk.now.kind
         (read_fault (length chunk.now.payload.now)
         (chunk_reading chunk.now.kind chunk.now.payload.now))
         (other_cause end.now place from.now (shown chunk.now)) ≡ Some cause) }
@@ -382,28 +359,27 @@ fn judge_other<'a>(
         Ok(view) => view,
         Err(cause) => return Err(cause),
     };
-    if chunk.kind == FRAGMENT {
-        return Err(Cause::Fragment);
-    }
-    if !takes(place, chunk.kind) {
+    if !kind.takes(place) {
         return Err(Cause::WrongPlace);
     }
-    if !has_state_for(end, place, chunk.kind) {
+    if !has_state_for(end, place, kind) {
         return Err(Cause::WrongState);
     }
     judge_view(end, place, from, view)
 }
 
-/// What a chunk that is none of flows does, which came from an address after the walk over those
-/// before it; or why it is discarded.
+/// What a chunk does that is none of flows and of a type with this row, which came from an address
+/// after the walk over those before it; or why it is discarded.
 pub(crate) fn judge<'a>(
     end: &EndState,
     place: Place,
     walk: &Walk,
     from: &Address,
+    kind: &KindRow,
     chunk: &RawChunk<'a>,
 ) -> Result<Verdict<'a>, Cause>
-    requires { is_of_flows chunk.now.kind ≡ false }
+    requires row { IsRow kind.now }
+    requires kind { kind.now.kind ≡ chunk.now.kind }
     ensures ok { IfOk result (Stands end.now place from.now
         (λ draws. effect end.now place walk.now from.now draws (shown chunk.now))) }
     ensures none { IfOk result (λ _. chunk_cause end.now place walk.now from.now
@@ -414,14 +390,10 @@ pub(crate) fn judge<'a>(
     ensures quiet { is_idle end.now place from.now (shown chunk.now) ≡ true →
         IfOk result (λ verdict. verdict ≡ Verdict.Quiet) }
 {
-    if !is_known(chunk.kind) {
-        return Err(Cause::UnknownChunk(chunk.kind));
+    match kind.way {
+        Way::InitiatorKeying => judge_initiator(end, place, walk, from, kind, chunk.payload),
+        Way::ResponderKeying => judge_responder(end, place, kind, chunk.payload),
+        Way::Fragment => Err(fragment_cause(chunk.payload)),
+        Way::Fields => judge_fields(end, place, from, kind, chunk),
     }
-    if chunk.kind == IIKEYING {
-        return judge_initiator(end, place, walk, from, chunk.payload);
-    }
-    if chunk.kind == RIKEYING {
-        return judge_responder(end, place, chunk.payload);
-    }
-    judge_other(end, place, from, chunk)
 }

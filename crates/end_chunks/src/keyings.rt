@@ -66,7 +66,7 @@ pub(crate) fn initiator_keyed(
                 &born,
                 &end.print,
                 from,
-                &end.secret,
+                end.startup.secret(),
                 end.moment,
             );
             out.add_some(fact_entry(ended));
@@ -103,7 +103,7 @@ pub(crate) fn responder_keyed(
         &fact,
         &end.print,
         from,
-        &end.secret,
+        end.startup.secret(),
         end.moment,
     );
     out.add(Entry::Fact(fact));

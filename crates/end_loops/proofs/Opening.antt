@@ -13,7 +13,7 @@ use Rattle.session_core.specs.declared.hearing.Unheard.TheVariants.{Short as Sho
 use Rattle.crypto_profile.specs.Window.{window_answer}
 use Rattle.session_core.specs.declared.hearing.Unheard.{Unheard}
 use Rattle.session_core.specs.Session.{SessionState}
-use Rattle.session_core.specs.Hearing.{answered, count_of, is_new, inward_keys, opened, opens_in, unheard, unheard_by}
+use Rattle.session_core.specs.Hearing.{answered, count_of, is_new, opened, opens_in, unheard, unheard_by}
 use Rattle.endpoint_model.specs.State.{State}
 use Rattle.endpoint_model.specs.Admission.{heard_by, opened_by, opened_in_startup, startup_keys}
 use Rattle.endpoint_model.proofs.Parts.{past_front}
@@ -91,9 +91,9 @@ pub is_heard : (session : SessionState) (part : List ℕ) → unheard session pa
 is_heard session part none = let found = heard_by_tests (opens_in session part) (is_new (window_answer session.window (count_of part))) part none in record { opens = found.0; long = found.1 }
 
 -- what is heard opened in place
-pub heard_in_place : (session : SessionState) (part new : List ℕ) → new ≡ opened session part → IsHeard session part → IsOpened (inward_keys session) part new
+pub heard_in_place : (session : SessionState) (part new : List ℕ) → new ≡ opened session part → IsHeard session part → IsOpened session.inward part new
 heard_in_place session part new is heard =
-    is_opened (inward_keys session) part new heard.long (is ∙ ap (λ b. if b then take 32 part ++ plain_of (inward_keys session) part else part) heard.opens)
+    is_opened session.inward part new heard.long (is ∙ ap (λ b. if b then take 32 part ++ plain_of session.inward part else part) heard.opens)
 
-pub heard_plain : (session : SessionState) (part new : List ℕ) → unheard session part ≡ None → IsOpened (inward_keys session) part new → heard_by session part (unheard session part) ≡ Ok (drop 32 new)
+pub heard_plain : (session : SessionState) (part new : List ℕ) → unheard session part ≡ None → IsOpened session.inward part new → heard_by session part (unheard session part) ≡ Ok (drop 32 new)
 heard_plain session part new none opened' = ap (heard_by session part) none ∙ ap Ok opened'.plain

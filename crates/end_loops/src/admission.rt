@@ -2,7 +2,6 @@
 
 ghost use Rattle.std.specs.Prelude.{◌≡◌, ◌≤◌, IfOk, IfErr, OnOk, Ok, Err, drop, length, take};
 ghost use Rattle.std.specs.FinMap.{get};
-ghost use Rattle.rtmfp_packet.specs.Head.{mode_number};
 ghost use Rattle.endpoint_model.specs.Admission.{fault_number, has_mode, heard_in, mode_at};
 ghost use Rattle.endpoint_model.specs.Admission.{opened_datagram, opened_in_startup, packet_in};
 ghost use Rattle.endpoint_model.specs.Admission.{peers_mode};
@@ -10,9 +9,9 @@ ghost use Rattle.endpoint_model.specs.Keying.{AreNear};
 ghost use Rattle.end_loops.specs.Walks.{packet_at};
 
 use crypto_profile::open_in_place;
-use end_state::{EndState, PLAIN_AT, word_of};
+use end_state::{EndState, session_id};
 use endpoint_model::Place;
-use packet_scramble::{SEALED_AT, unscramble};
+use packet_scramble::SEALED_AT;
 use rtmfp_base::Cause;
 use rtmfp_packet::{Mode, Packet, PacketFault, PacketHead, read_packet};
 use session_core::{Role, Unheard};
@@ -53,20 +52,20 @@ fn open_in_session(end: &EndState, near: u32, part: &mut [u8]) -> Result<(), Cau
 }
 
 /// Opens a datagram in place, and says where it belongs, or why it is refused. Nothing of it
-/// counts as taken yet.
-pub fn open_datagram(end: &EndState, datagram: &mut [u8]) -> Result<Place, Cause>
-    ensures ok { IfOk result (λ place. opened_datagram end.now datagram.old
+/// counts as taken yet. The session that it names is found at once from then on.
+pub fn open_datagram(end: &mut EndState, datagram: &mut [u8]) -> Result<Place, Cause>
+    ensures ok { IfOk result (λ place. opened_datagram end.old datagram.old
         ≡ Ok (place, drop 36 datagram.new)) }
-    ensures err { IfErr result (λ cause. opened_datagram end.now datagram.old ≡ Err cause) }
+    ensures err { IfErr result (λ cause. opened_datagram end.old datagram.old ≡ Err cause) }
+    ensures state { end.new ≡ end.old }
     ensures front { OnOk result (take 36 datagram.new ≡ take 36 datagram.old) }
     ensures length { length datagram.new ≡ length datagram.old }
 {
-    if datagram.len() < PLAIN_AT {
+    let Some(sid) = session_id(datagram) else {
         return Err(Cause::Short);
-    }
-    let (head, part) = datagram.split_at_mut(SEALED_AT);
-    let sid = unscramble(word_of(head), part);
-    match end.place_of(sid) {
+    };
+    let (_, part) = datagram.split_at_mut(SEALED_AT);
+    match end.look_up(sid) {
         Some(Place::Startup { generation }) => match open_in_startup(end, generation, 0, part) {
             Ok(()) => Ok(Place::Startup { generation }),
             Err(cause) => Err(cause),
@@ -134,17 +133,7 @@ fn peers_mode(role: Role) -> Mode
 fn has_mode(head: &PacketHead, mode: Mode) -> bool
     ensures { result ≡ has_mode head.now mode }
 {
-    mode_number(head.mode) == mode_number(mode)
-}
-
-fn mode_number(mode: Mode) -> u8
-    ensures { result ≡ mode_number mode }
-{
-    match mode {
-        Mode::Initiator => 1,
-        Mode::Responder => 2,
-        Mode::Startup => 3,
-    }
+    head.mode == mode
 }
 
 /// The number that a fault of a packet has in the cause of its discard.

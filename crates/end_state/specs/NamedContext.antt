@@ -24,6 +24,10 @@ context_of_place s (Some (Startup generation)) = Some (StartupContext generation
 context_of_place s (Some (Attempt near generation)) = Some (StartupContext generation)
 context_of_place s (Some (Session near)) = context_towards (get s.sessions near)
 
+-- the session ID of a datagram; none where it has fewer than 36 bytes
+abbrev pub named_id : List ℕ → Option ℕ
+named_id datagram = if nat_lt (length datagram) 36 then None else Some (sid_of datagram)
+
 -- A datagram of fewer than 36 bytes names none.
 abbrev pub named_context : State → List ℕ → Option Context
 named_context s datagram = if nat_lt (length datagram) 36 then None

@@ -19,9 +19,8 @@ state_of settings moment sealed startup sessions =
     }
 
 -- What is kept beside the state is what it should be.
-pub record IsEnd (settings : Settings) (secret print : List ℕ) (keys : Keys)
-    (startup : StartupState) : Type 0 where
-  pub secret_is : secret ≡ startup.secret
+pub record IsEnd (settings : Settings) (print : List ℕ) (keys : Keys) (startup : StartupState)
+    : Type 0 where
   pub print_is : print ≡ startup.ledger.own
   pub keys_are : keys ≡ keys_of startup.secret (Startup current_generation)
   pub few : settings.config.max_sessions ≤ 65536

@@ -4,7 +4,7 @@ ghost use Rattle.std.specs.Prelude.{◌≡◌, length};
 ghost use Rattle.std.specs.Int.{w32, from_be_bytes};
 ghost use Rattle.std.specs.FinMap.{get};
 ghost use Rattle.endpoint_model.specs.Admission.{place_of};
-ghost use Rattle.end_state.specs.NamedContext.{context_towards, named_context};
+ghost use Rattle.end_state.specs.NamedContext.{context_towards, named_context, named_id};
 ghost use Rattle.endpoint_laws.specs.OpensIn.{context_in_session, context_in_startup, opens_in};
 
 use crate::end_state::EndState;
@@ -17,7 +17,7 @@ pub const PLAIN_AT: usize = SEALED_AT + CIPHERED_AT;
 
 impl EndState {
     /// What a session ID names.
-    pub fn place_of(&self, sid: u32) -> Option<Place>
+    fn place_of(&self, sid: u32) -> Option<Place>
         ensures { result ≡ place_of self.now sid }
     {
         if sid == 0 {
@@ -36,28 +36,22 @@ impl EndState {
         }
     }
 
-    /// Looks up the session that a datagram's session ID names, where it names one, so that it is
-    /// found at once from now on.
-    pub fn look_up(&mut self, datagram: &[u8])
-        ensures { self.new ≡ self.old }
+    /// What a session ID names. Where that is a session, it is found at once from now on.
+    pub fn look_up(&mut self, sid: u32) -> Option<Place>
+        ensures place { result ≡ place_of self.old sid }
+        ensures state { self.new ≡ self.old }
     {
-        if datagram.len() < PLAIN_AT {
-            return;
-        }
-        let (head, part) = datagram.split_at(SEALED_AT);
-        let sid = unscramble(word_of(head), part);
         self.sessions.look_up(sid);
+        self.place_of(sid)
     }
 
     /// The context that a datagram's session ID names.
     pub fn find_named(&self, datagram: &[u8]) -> Option<Context>
         ensures { result ≡ named_context self.now datagram.now }
     {
-        if datagram.len() < PLAIN_AT {
+        let Some(sid) = session_id(datagram) else {
             return None;
-        }
-        let (head, part) = datagram.split_at(SEALED_AT);
-        let sid = unscramble(word_of(head), part);
+        };
         match self.place_of(sid) {
             Some(Place::Startup { generation }) => Some(Context::Startup { generation }),
             Some(Place::Attempt { generation, .. }) => Some(Context::Startup { generation }),
@@ -80,11 +74,10 @@ impl EndState {
     pub fn find_context(&self, datagram: &[u8]) -> Option<Context>
         ensures { result ≡ opens_in self.now datagram.now }
     {
-        if datagram.len() < PLAIN_AT {
+        let Some(sid) = session_id(datagram) else {
             return None;
-        }
-        let (head, part) = datagram.split_at(SEALED_AT);
-        let sid = unscramble(word_of(head), part);
+        };
+        let (_, part) = datagram.split_at(SEALED_AT);
         match self.place_of(sid) {
             Some(Place::Startup { generation }) => self.context_in_startup(generation, 0, part),
             Some(Place::Attempt { near, generation }) => {
@@ -122,8 +115,19 @@ impl EndState {
     }
 }
 
+/// The session ID of a datagram; none where it is too short for a packet.
+pub fn session_id(datagram: &[u8]) -> Option<u32>
+    ensures { result ≡ named_id datagram.now }
+{
+    if datagram.len() < PLAIN_AT {
+        return None;
+    }
+    let (head, part) = datagram.split_at(SEALED_AT);
+    Some(unscramble(word_of(head), part))
+}
+
 /// The first four bytes, as one number.
-pub fn word_of(head: &[u8]) -> u32
+fn word_of(head: &[u8]) -> u32
     requires { length head.now ≡ 4 }
     ensures { result ≡ from_be_bytes w32 head.now }
 {

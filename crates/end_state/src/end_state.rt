@@ -1,7 +1,7 @@
 //! What an end keeps.
 
 use crate::settings::Settings;
-use crypto_profile::{Context, HmacKey, Keys};
+use crypto_profile::{Context, Keys};
 use endpoint_model::Config;
 use identity::Certificate;
 use introducer::{Directory, RowRefusal};
@@ -25,8 +25,6 @@ pub struct EndState {
     pub alloc: Global,
     pub settings: Settings,
     pub moment: u64,
-    /// The secret of the group, hashed once.
-    pub secret: HmacKey,
     /// The fingerprint of the own certificate.
     pub print: [u8; 32],
     /// The keys of startup packets of the current generation.
@@ -53,11 +51,11 @@ impl Model for EndState {
 
     ghost view = { λ e. state_of e.settings e.moment e.sealed e.startup e.sessions.rows };
 
-    ghost invariant = { λ e. IsEnd e.settings e.secret e.print e.keys e.startup };
+    ghost invariant = { λ e. IsEnd e.settings e.print e.keys e.startup };
 }
 
 impl EndState {
-    ghost use Rattle.std.specs.Prelude.{◌≡◌, ◌≤◌, is_some, length, Err, IfErr, IfNone, IfSome};
+    ghost use Rattle.std.specs.Prelude.{◌≡◌, ◌≤◌, bytes_eq, is_some, length, Err, IfErr, IfNone, IfSome};
     ghost use Rattle.std.specs.Prelude.{OnErr, OnOk};
     ghost use Rattle.introducer.specs.Directory.{row_refusal};
     ghost use Rattle.startup.specs.Attempts.{cancel_fact};
@@ -83,7 +81,7 @@ impl EndState {
             }) }
     {
         let print = cert.print();
-        let group = HmacKey::of(&secret);
+        let startup = Startup::new(alloc, cert, secret, cookie_secret, config.max_peers);
         EndState {
             alloc,
             settings: Settings {
@@ -94,14 +92,13 @@ impl EndState {
             moment: 0,
             print,
             keys: Keys::under(
-                &group,
+                startup.secret(),
                 &Context::Startup {
                     generation: CURRENT_GENERATION,
                 },
             ),
-            secret: group,
             sealed: 0,
-            startup: Startup::new(alloc, cert, secret, cookie_secret, config.max_peers),
+            startup,
             sessions: SessionTable::new(alloc),
         }
     }
@@ -121,6 +118,13 @@ impl EndState {
     {
         let _ = generation;
         &self.keys
+    }
+
+    /// Whether this is the secret of the end's group.
+    pub fn has_secret(&self, secret: &[u8; 32]) -> bool
+        ensures { result ≡ bytes_eq self.now.startup.secret secret.now }
+    {
+        *self.startup.secret().bytes() == *secret
     }
 
     /// Notes the moment that a call is given.

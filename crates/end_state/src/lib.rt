@@ -15,7 +15,7 @@ mod session_steps;
 mod settings;
 mod taking;
 
-pub use contexts::{PLAIN_AT, word_of};
+pub use contexts::{PLAIN_AT, session_id};
 pub use end_state::{CURRENT_GENERATION, EndState};
 pub use introducing::RowAddresses;
 pub use outbox::{Outbox, fact_entry};

@@ -2,6 +2,7 @@ use Rattle.std.proofs.Common.{sym, ap, ◌∙◌, rules}
 use Rattle.startup.specs.Keyings.{InitiatorKeying}
 use Rattle.startup.specs.Read.{initiator_of, initiator_read}
 use Rattle.startup.specs.Judging.{judged_initiator}
+use Rattle.endpoint_model.specs.Causes.{takes}
 use Rattle.end_chunks.proofs.Reasons.{judged_none, judged_some}
 use Rattle.end_chunks.proofs.judging.judge_initiator.Goals as goal
 
@@ -10,7 +11,7 @@ pub returns-in-Ok-judge_initiator_keying-clause-none :
 returns-in-Ok-judge_initiator_keying-clause-none c =
     let read : InitiatorKeying = initiator_of c.in-Ok.fields in
     judged_none c.args.end.now c.args.place c.args.walk.now c.args.from.now c.args.payload.now read c.in-Ok-judge_initiator_keying.hearing
-    (sym c.takes.ensures ∙ c.if-not-takes.false) c.if-walk.false (sym c.read_initiator_keying.ensures.fields ∙ ap initiator_read c.in-Ok.is)
+    (ap (takes c.args.place) (sym c.requires.kind) ∙ sym c.takes.ensures ∙ c.if-not-takes.false) c.if-walk.false (sym c.read_initiator_keying.ensures.fields ∙ ap initiator_read c.in-Ok.is)
     (sym (c.judge_initiator_keying.ensures ∙ (λ i. judged_initiator (c.end.view_is i).startup (c.in-Ok.ensures.payload i) c.args.from.now (c.end.view_is i).moment (c.full.ensures i) read))
     ∙ c.in-Ok-judge_initiator_keying.is)
 
@@ -19,7 +20,7 @@ pub returns-in-Err-judge_initiator_keying-clause-refused :
 returns-in-Err-judge_initiator_keying-clause-refused c =
     let read : InitiatorKeying = initiator_of c.in-Ok.fields in
     judged_some c.args.end.now c.args.place c.args.walk.now c.args.from.now c.args.payload.now read c.in-Err-judge_initiator_keying.cause
-    (sym c.takes.ensures ∙ c.if-not-takes.false) c.if-walk.false (sym c.read_initiator_keying.ensures.fields ∙ ap initiator_read c.in-Ok.is)
+    (ap (takes c.args.place) (sym c.requires.kind) ∙ sym c.takes.ensures ∙ c.if-not-takes.false) c.if-walk.false (sym c.read_initiator_keying.ensures.fields ∙ ap initiator_read c.in-Ok.is)
     (sym (c.judge_initiator_keying.ensures ∙ (λ i. judged_initiator (c.end.view_is i).startup (c.in-Ok.ensures.payload i) c.args.from.now (c.end.view_is i).moment (c.full.ensures i) read))
     ∙ c.in-Err-judge_initiator_keying.is)
 

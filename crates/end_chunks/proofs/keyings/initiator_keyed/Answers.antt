@@ -15,17 +15,17 @@ use Rattle.end_chunks.proofs.keyings.initiator_keyed.Goals as goal
 
 pub invariant_of-end-in-Ok-Change : goal.invariant_of-end-in-Ok-Change
 invariant_of-end-in-Ok-Change c =
-    kept_keying c.end.inside.settings c.end.inside.secret c.end.inside.print c.end.inside.keys c.end.inside.startup c.apply_initiator_keying.new.self
+    kept_keying c.end.inside.settings c.end.inside.print c.end.inside.keys c.end.inside.startup c.apply_initiator_keying.new.self
     c.args.fields.now.payload.now c.args.from.now c.end.inside.moment c.free_from-near.result c.args.draws.now.nonce c.end.invariant c.in-Ok-Change.ensures.ok.1
 
 pub invariant_of-end-in-Ok-Again : goal.invariant_of-end-in-Ok-Again
 invariant_of-end-in-Ok-Again c =
-    kept_keying c.end.inside.settings c.end.inside.secret c.end.inside.print c.end.inside.keys c.end.inside.startup c.apply_initiator_keying.new.self
+    kept_keying c.end.inside.settings c.end.inside.print c.end.inside.keys c.end.inside.startup c.apply_initiator_keying.new.self
     c.args.fields.now.payload.now c.args.from.now c.end.inside.moment c.free_from-near.result c.args.draws.now.nonce c.end.invariant c.in-Ok-Again.ensures.ok.1
 
 pub invariant_of-end-in-Ok-Birth : goal.invariant_of-end-in-Ok-Birth
 invariant_of-end-in-Ok-Birth c =
-    kept_keying c.end.inside.settings c.end.inside.secret c.end.inside.print c.end.inside.keys c.end.inside.startup c.apply_initiator_keying.new.self
+    kept_keying c.end.inside.settings c.end.inside.print c.end.inside.keys c.end.inside.startup c.apply_initiator_keying.new.self
     c.args.fields.now.payload.now c.args.from.now c.end.inside.moment c.free_from-near.result c.args.draws.now.nonce c.end.invariant c.in-Ok-Birth.ensures.ok.1
 
 pub returns-in-Ok-Birth-clause-ok : goal.returns-in-Ok-Birth-clause-ok
@@ -33,8 +33,8 @@ returns-in-Ok-Birth-clause-ok c =
     let v : State = state_of c.end.inside.settings c.end.inside.moment c.end.inside.sealed c.end.inside.startup c.end.inside.sessions.rows in
     let t : State = state_of c.end.inside.settings c.end.inside.moment c.end.inside.sealed c.apply_initiator_keying.new.self c.reserve.new.self.rows in
     let k : Keyed = Birth c.in-Ok-Birth.ended c.in-Ok-Birth.born c.in-Ok-Birth.answer in
-    let kept : IsEnd c.end.inside.settings c.end.inside.secret c.end.inside.print c.end.inside.keys c.apply_initiator_keying.new.self =
-    kept_keying c.end.inside.settings c.end.inside.secret c.end.inside.print c.end.inside.keys c.end.inside.startup c.apply_initiator_keying.new.self
+    let kept : IsEnd c.end.inside.settings c.end.inside.print c.end.inside.keys c.apply_initiator_keying.new.self =
+    kept_keying c.end.inside.settings c.end.inside.print c.end.inside.keys c.end.inside.startup c.apply_initiator_keying.new.self
     c.args.fields.now.payload.now c.args.from.now c.end.inside.moment c.free_from-near.result c.args.draws.now.nonce c.end.invariant c.in-Ok-Birth.ensures.ok.1 in
     let is : keyed c.end.inside.startup c.args.fields.now.payload.now c.args.from.now c.end.inside.moment c.free_from-near.result c.args.draws.now.nonce ≡ Some k =
     c.in-Ok-Birth.ensures.ok.0 ∙ ap (λ (x : Keyed). Some x) c.in-Ok-Birth.field-0-is in
@@ -48,7 +48,7 @@ returns-in-Ok-Birth-clause-ok c =
     (after_keying c.end.inside.startup c.args.fields.now.payload.now c.args.from.now c.end.inside.moment c.free_from-near.result c.args.draws.now.nonce)
     c.end.inside.sessions.rows c.reserve.new.self.rows c.reserve.ensures.rows c.in-Ok-Birth.ensures.ok.1 in
     let bore = born_state c.end.inside.settings c.end.inside.moment c.end.inside.sealed c.apply_initiator_keying.new.self c.reserve.new.self.rows c.keep_born.new.sessions.rows
-    c.in-Ok-Birth.ended c.in-Ok-Birth.born c.args.from.now c.end.inside.print c.end.inside.secret kept.print_is kept.secret_is c.keep_born.ensures in
+    c.in-Ok-Birth.ended c.in-Ok-Birth.born c.args.from.now c.end.inside.print c.secret.result.now kept.print_is c.secret.ensures c.keep_born.ensures in
     let gives : Gives (sent_answer (with_born t c.in-Ok-Birth.ended c.in-Ok-Birth.born c.args.from.now) c.in-Ok-Birth.answer) c.seal_answer-in-Ok-Birth.new.self c.seal_answer-in-Ok-Birth.result =
     subst (λ (u : State). Gives (sent_answer u c.in-Ok-Birth.answer) c.seal_answer-in-Ok-Birth.new.self c.seal_answer-in-Ok-Birth.result) bore c.seal_answer-in-Ok-Birth.ensures in
     let sent = given_done (sent_answer (with_born t c.in-Ok-Birth.ended c.in-Ok-Birth.born c.args.from.now) c.in-Ok-Birth.answer) c.seal_answer-in-Ok-Birth.new.self c.seal_answer-in-Ok-Birth.result c.add.new.self c.add_some-in-Ok-Birth-2.new.self

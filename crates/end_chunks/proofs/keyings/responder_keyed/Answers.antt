@@ -19,15 +19,15 @@ returns-clause-ok c =
     (c.apply_responder_keying-fact.ensures.fact, c.apply_responder_keying-fact.ensures.after) in
     let t : State = state_of c.end.inside.settings c.end.inside.moment c.end.inside.sealed c.apply_responder_keying-fact.new.self c.keep_opened.new.sessions.rows in
     let u : State = state_of c.end.inside.settings c.end.inside.moment c.end.inside.sealed c.apply_responder_keying-fact.new.self c.reserve.new.self.rows in
-    let kept : IsEnd c.end.inside.settings c.end.inside.secret c.end.inside.print c.end.inside.keys c.apply_responder_keying-fact.new.self =
-    kept_opening c.end.inside.settings c.end.inside.secret c.end.inside.print c.end.inside.keys c.end.inside.startup c.apply_responder_keying-fact.new.self
+    let kept : IsEnd c.end.inside.settings c.end.inside.print c.end.inside.keys c.apply_responder_keying-fact.new.self =
+    kept_opening c.end.inside.settings c.end.inside.print c.end.inside.keys c.end.inside.startup c.apply_responder_keying-fact.new.self
     c.args.near c.apply_responder_keying-fact.result c.end.invariant h.1 in
     let put : u ≡ with_startup v (after_opening c.end.inside.startup c.args.near c.apply_responder_keying-fact.result) =
     startup_put c.end.inside.settings c.end.inside.moment c.end.inside.sealed c.end.inside.startup c.apply_responder_keying-fact.new.self
     (after_opening c.end.inside.startup c.args.near c.apply_responder_keying-fact.result) c.end.inside.sessions.rows c.reserve.new.self.rows c.reserve.ensures.rows h.1 in
     let opens : t ≡ with_opened u c.apply_responder_keying-fact.result c.args.from.now =
     opened_state c.end.inside.settings c.end.inside.moment c.end.inside.sealed c.apply_responder_keying-fact.new.self c.reserve.new.self.rows c.keep_opened.new.sessions.rows
-    c.apply_responder_keying-fact.result c.args.from.now c.end.inside.print c.end.inside.secret kept.print_is kept.secret_is c.keep_opened.ensures in
+    c.apply_responder_keying-fact.result c.args.from.now c.end.inside.print c.secret.result.now kept.print_is c.secret.ensures c.keep_opened.ensures in
     let added : IsAdded c.args.out.now c.add.new.self (FactEntry c.apply_responder_keying-fact.result ∷ []) =
     record { entries_are = c.add.ensures.entries ∙ ap (λ xs. xs ++ FactEntry c.apply_responder_keying-fact.result ∷ []) c.make_room.ensures.entries; free = omega (arith, c.add.ensures.free, c.make_room.ensures.free); room = c.add.ensures.room ∙ c.make_room.ensures.room } in
     let sent = given_done (sent_in_session t c.args.near c.args.from.now (chunk_bytes (Ping []))) c.seal_in_session.new.self c.seal_in_session.result c.add.new.self c.add_some.new.self

@@ -18,7 +18,6 @@ invariant_of-self c =
     let i = c.self.inside in
     let secret = ap (λ (s : StartupState). s.secret) (sym c.confirm-fact.ensures.after) in
     record {
-      secret_is = c.self.invariant.secret_is ∙ secret;
       print_is = c.self.invariant.print_is ∙ own_stays i.startup.ledger (confirm_fact i.startup c.joined.result.now.peer) ∙ ap (λ (s : StartupState). s.ledger.own) (sym c.confirm-fact.ensures.after);
       keys_are = c.self.invariant.keys_are ∙ ap (λ x. keys_of x (Startup 0)) secret;
       few = c.self.invariant.few;

@@ -4,7 +4,7 @@ use Rattle.rtmfp_packet.specs.Chunks.{shown}
 use Rattle.endpoint_model.specs.State.{Did}
 use Rattle.end_chunks.specs.Judging.{Stands}
 use Rattle.end_chunks.proofs.Told.{done_as_read, quiet_as_read}
-use Rattle.end_chunks.proofs.judging.judge_other.Goals as goal
+use Rattle.end_chunks.proofs.judging.judge_fields.Goals as goal
 
 pub returns-clause-ok : goal.returns-clause-ok
 returns-clause-ok c =
