@@ -5,7 +5,8 @@ mod datagrams;
 mod side;
 
 use crate::timing::calls::Kind::{
-    Birth, Cancel, Change, Close, Confirm, Discard, Empty, Forget, Hello, Open, Ping, Tick, Unknown,
+    Birth, Cancel, Change, Close, Confirm, Discard, Empty, EndAll, ExpireAll, Flow, Forget, Hello,
+    LoseAll, Open, Ping, Queue, Send, SendAll, Tick, Unknown,
 };
 use crate::timing::calls::{Batch, Kind};
 use crate::timing::side::{Side, Taken};
@@ -19,6 +20,9 @@ const OF_SESSIONS: &[Kind] = &[Ping, Discard, Tick, Birth, Close, Forget];
 
 /// Those that are timed with many attempts.
 const OF_ATTEMPTS: &[Kind] = &[Open, Hello, Empty, Change, Unknown, Tick, Cancel];
+
+/// Those that are timed with many sessions that have a sending flow.
+const OF_SENDING: &[Kind] = &[Send, Queue, SendAll, LoseAll];
 
 /// What a line asks for.
 #[derive(Clone, Copy)]
@@ -47,6 +51,8 @@ impl Job {
             Birth => self.batch(kind, further, self.count),
             Open => self.batch(kind, further, self.count),
             Hello => self.batch(kind, further, self.count),
+            Queue => self.batch(kind, 1, self.size),
+            SendAll | LoseAll | ExpireAll | EndAll => self.batch(kind, 1, 1),
             _ => self.batch(kind, 1, self.count),
         }
     }
@@ -64,7 +70,10 @@ fn number(line: &str, index: usize) -> u32 {
 
 /// Whether a line asks for calls that are timed.
 pub(crate) fn is_timed(line: &str) -> bool {
-    matches!(word(line, 0), "sessions" | "attempts" | "alike")
+    matches!(
+        word(line, 0),
+        "sessions" | "attempts" | "alike" | "sending" | "expiring" | "ending"
+    )
 }
 
 /// What a line asks for.
@@ -92,10 +101,12 @@ fn do_job(rt: &HostRuntime, word: &str, job: Job) -> Option<()> {
     let Some(mut side) = Side::new(rt.alloc()) else {
         return None;
     };
-    if word == "sessions" {
-        run(rt, &mut side, job, &[Birth, Confirm], OF_SESSIONS)
-    } else {
-        run(rt, &mut side, job, &[Open, Hello], OF_ATTEMPTS)
+    match word {
+        "sessions" => run(rt, &mut side, job, &[Birth, Confirm], OF_SESSIONS),
+        "sending" => run(rt, &mut side, job, &[Birth, Confirm, Flow], OF_SENDING),
+        "expiring" => run(rt, &mut side, job, &[Open], &[ExpireAll]),
+        "ending" => run(rt, &mut side, job, &[Birth], &[EndAll]),
+        _ => run(rt, &mut side, job, &[Open, Hello], OF_ATTEMPTS),
     }
 }
 
@@ -120,10 +131,16 @@ fn make(rt: &HostRuntime, side: &mut Side, batch: Batch) -> Option<Taken> {
     Some(side.make_all(rt, calls.as_mut_slice()))
 }
 
-/// Tells what calls of a kind added; the time of one only where it is asked for.
+/// Tells what calls of a kind added; the time of one, or of each entry of one that is for all, only
+/// where it is asked for.
 fn tell(rt: &HostRuntime, kind: Kind, taken: Taken, timed: bool) {
+    let done = if kind.is_for_all() {
+        taken.entries
+    } else {
+        taken.calls
+    };
     let each = if timed {
-        taken.nanos.checked_div(taken.calls as u128).unwrap_or(0)
+        taken.nanos.checked_div(done as u128).unwrap_or(0)
     } else {
         0
     };

@@ -1,5 +1,5 @@
--- A call brings an end from each log that it stands for to that log with its event.
-use Rattle.std.proofs.Common.{◌≡◌, ◌+◌, ℕ, List, [], ◌∷◌, ◌++◌, drop, length, true, false, is_some, Option, Some, None, Ok, Err, Result, OnOk, OnErr, IfErr, IfSome, IfNone, IsSome, refl, sym, ap, ◌∙◌, subst, max, arith}
+-- What a call did, by the clauses of its method, and that it brings an end from each log that it stands for to that log with its event.
+use Rattle.std.proofs.Common.{◌≡◌, ◌+◌, ℕ, List, [], ◌∷◌, ◌++◌, drop, length, Option, Some, None, Ok, Err, Result, OnOk, OnErr, IfErr, IfOk, IfSome, IfNone, IsSome, refl, sym, ap, ◌∙◌, subst, max, arith}
 use Rattle.std.proofs.lemmas.List.{append-nil}
 use Rattle.rtmfp_base.specs.declared.memory.Memory.{Memory}
 use Rattle.rtmfp_forms.specs.Address.{AddressParts}
@@ -7,14 +7,17 @@ use Rattle.introducer.specs.declared.refusal.RowRefusal.{RowRefusal}
 use Rattle.introducer.specs.declared.refusal.RowRefusal.TheVariants.{Memory as NoMemoryForRow}
 use Rattle.introducer.specs.Directory.{row_refusal}
 use Rattle.startup.specs.Attempts.{cancel_fact}
-use Rattle.endpoint_model.specs.declared.config.Draws.{Draws}
-use Rattle.endpoint_model.specs.declared.entry.Entry.{Entry}
-use Rattle.endpoint_model.specs.declared.answers.OpenRefusal.{OpenRefusal}
 use Rattle.session_flows.specs.declared.refusal.CallRefusal.{CallRefusal}
 use Rattle.session_flows.specs.declared.refusal.CallRefusal.TheVariants.{NoAttempt, NoSession, Memory as NoMemory}
+use Rattle.endpoint_model.specs.declared.config.Draws.{Draws}
+use Rattle.endpoint.specs.declared.call.Answered.{Answered}
+use Rattle.endpoint.specs.declared.call.Answered.TheVariants as told
+use Rattle.endpoint_model.specs.declared.answers.OpenRefusal.{OpenRefusal}
+use Rattle.endpoint_model.specs.declared.answers.OpenRefusal.TheVariants.{Memory as NoMemoryToOpen}
 use Rattle.endpoint_model.specs.declared.answers.Stopped.{Stopped as Stop}
+use Rattle.endpoint_model.specs.declared.entry.Entry.{Entry}
 use Rattle.endpoint_model.specs.Added.{Added}
-use Rattle.endpoint_model.specs.Event.{Event, Cancel, AddRow, Introduce, OnFlows, Refused, NotAdded, Done as Finished}
+use Rattle.endpoint_model.specs.Event.{Event, Call, Open, Cancel, Close, AddRow, Introduce, OnFlows, Tick, Answer, Done as IsDone, Refused as IsRefused, NotAdded as IsNotAdded}
 use Rattle.endpoint_model.specs.Introducing.{with_redirect, introducing}
 use Rattle.endpoint_model.specs.State.{State, Did, Does, Done, nothing, fresh, at_moment}
 use Rattle.endpoint_model.specs.Admission.{admission}
@@ -23,7 +26,11 @@ use Rattle.endpoint_model.specs.FlowCall.{FlowCall}
 use Rattle.endpoint_model.specs.OnFlows.{call_refusal, flow_called}
 use Rattle.endpoint_model.specs.FlowTimes.{all_late}
 use Rattle.endpoint_model.specs.Effects.{open_refusal, opening, cancelling, ticks, received, first_due}
-use Rattle.endpoint_model.specs.Log.{Step, Answers, Leads, Extends, IsTaken, StopsSo, not_opened, not_added, open_event, cancel_event, row_event, introduce_event, close_event, flow_event, not_called, receive_event, tick_event}
+use Rattle.endpoint_model.specs.Log.{Step, Answers, Leads, Extends, IsTaken, StopsSo, not_opened, not_added, not_called, answer_of_open, answer_of_call, answer_of_row, answer_of_tick, event, open_event, cancel_event, close_event, flow_event, row_event, introduce_event, tick_event, receive_event}
+use Rattle.endpoint.specs.Calls.{moment_given, answer_of, Gives, Adds, Called, called_event}
+use Rattle.endpoint.specs.Answered.{began, done_as, done, added_row, ticked}
+
+-- ---- a call and its event
 
 leads_more : (s t u : State) (es : List Event) (e : Event) → Leads s es t → Step t e u → Leads s (es ++ e ∷ []) u
 leads_more s t u [] e h step = (u, (let P : State → Type 0 = λ x. Step x e u in subst P (sym h) step), refl)
@@ -36,26 +43,42 @@ added : (before es : List Entry) → drop (length before) (before ++ es) ≡ es
 added [] es = refl
 added (e ∷ before) es = added before es
 
+-- the entries of the event are those that the call added
+pub called_step : (s t : State) (moment : ℕ) (call : Call) (answered : Answered) (before after : Added) → Called s moment call answered t before after →
+    Step s (called_event moment call answered before.entries after.entries) t
+called_step s t moment call answered before after did =
+    let same : drop (length before.entries) after.entries ≡ did.entries = ap (drop (length before.entries)) did.added.entries_are ∙ added before.entries did.entries in
+    subst (λ (es : List Entry). Answers (at_moment s (moment_given call moment)) call (answer_of answered) es t) (sym same) did.answers
+
+pub called_extends : (s t : State) (moment : ℕ) (call : Call) (answered : Answered) (before after : Added) → Called s moment call answered t before after →
+    Extends s t (called_event moment call answered before.entries after.entries)
+called_extends s t moment call answered before after did =
+    extends s t (called_event moment call answered before.entries after.entries) (called_step s t moment call answered before after did)
+
+-- the same of the method of its name, whose answer the log has so
+pub method_extends : (s t : State) (moment : ℕ) (call : Call) (answered : Answered) (before after : Added) (answer : Answer) → answer_of answered ≡ answer → Called s moment call answered t before after →
+    Extends s t (event (moment_given call moment) call answer before.entries after.entries)
+method_extends s t moment call answered before after answer same did =
+    subst (λ (a : Answer). Extends s t (event (moment_given call moment) call a before.entries after.entries)) same (called_extends s t moment call answered before after did)
+
+-- where nothing is added the event has no entry
+silent : (before : List Entry) → drop (length before) before ≡ []
+silent before = ap (drop (length before)) (sym (append-nil before)) ∙ added before []
+
+-- ---- what was done, as the event has it
+
+does : (d : Did) (t : State) (before after : Added) → Done d t before after → Does d t [] d.entries
+does d t before after h = record { state = h.state; entries = refl }
+
 -- what was done, alone
 pub alone : (d : Did) (t : State) (before after : Added) → Done d t before after → Does d t [] (drop (length before.entries) after.entries)
 alone d t before after h = record { state = h.state; entries = ap (drop (length before.entries)) h.entries ∙ added before.entries d.entries }
 
-pub nothing_done : (s : State) (out : Added) → Done (nothing s) s out out
-nothing_done s out = record { state = refl; entries = sym (append-nil out.entries); free = omega arith; room = refl }
+adds : (d : Did) (t : State) (before after : Added) → Done d t before after → Adds d.entries before after
+adds d t before after h = record { entries_are = h.entries; free = h.free; room = h.room }
 
--- ---- the steps of the calls
-
-pub begun_extends : (s t : State) (moment : ℕ) (peer : List ℕ) (candidates : List AddressParts) (draws : Draws) (n : ℕ) (before after : Added) →
-    open_refusal (at_moment s moment) peer candidates ≡ None → n ≡ s.startup.ledger.started + 1 → Done (opening (at_moment s moment) peer candidates draws) t before after →
-    Extends s t (open_event moment peer candidates draws (Ok n) before.entries after.entries)
-begun_extends s t moment peer candidates draws n before after none number done =
-    extends s t (open_event moment peer candidates draws (Ok n) before.entries after.entries) (none, number, alone _ t before after done)
-
-pub not_opened_extends : (s t : State) (moment : ℕ) (peer : List ℕ) (candidates : List AddressParts) (draws : Draws) (refusal : OpenRefusal) (before after : Added) →
-    refusal ≡ not_opened (open_refusal (at_moment s moment) peer candidates) → Done (nothing (at_moment s moment)) t before after →
-    Extends s t (open_event moment peer candidates draws (Err refusal) before.entries after.entries)
-not_opened_extends s t moment peer candidates draws refusal before after is done =
-    extends s t (open_event moment peer candidates draws (Err refusal) before.entries after.entries) (is, alone _ t before after done)
+adds_none : (out : Added) → Adds [] out out
+adds_none out = record { entries_are = sym (append-nil out.entries); free = omega arith; room = refl }
 
 -- a call that gives no moment
 at_zero : (s : State) → at_moment s 0 ≡ s
@@ -63,123 +86,217 @@ at_zero s =
     let same : max s.moment 0 ≡ s.moment = omega arith in
     ap (λ (m : ℕ). record s { moment = m }) same
 
-pub cancelled_extends : (s t : State) (n : ℕ) (done : Unit {0}) (before after : Added) →
-    IsSome (cancel_fact s.startup n) → Done (cancelling s n) t before after →
-    Extends s t (cancel_event n (Ok done) before.entries after.entries)
-cancelled_extends s t n done before after some did =
-    let entries : List Entry = drop (length before.entries) after.entries in
-    extends s t (cancel_event n (Ok done) before.entries after.entries)
-    (subst (λ (x : State). Answers x (Cancel n) Finished entries t) (sym (at_zero s)) (some, alone (cancelling s n) t before after did))
+unnoted : (s t : State) (call : Call) (answer : Answer) (entries : List Entry) → Answers s call answer entries t → Answers (at_moment s 0) call answer entries t
+unnoted s t call answer entries h = subst (λ (x : State). Answers x call answer entries t) (sym (at_zero s)) h
 
--- ---- what an introducer is told
+-- ---- why it is refused
 
-pub on_ok : {A E P Q : Type 0} (r : Result A E) → (P → Q) → OnOk r P → OnOk r Q
-on_ok (Ok x) f h = f h
-on_ok (Err e) f h = tt
+none_by : {A E : Type 0} (o : Option E) (x : A) → IfSome o (λ e. ◌≡◌ {A = Result A E} (Ok x) (Err e)) → o ≡ None
+none_by None x h = refl
+none_by (Some e) x h = absurd (cc)
 
-pub on_err : {A E P Q : Type 0} (r : Result A E) → (P → Q) → OnErr r P → OnErr r Q
-on_err (Ok x) f h = tt
-on_err (Err e) f h = f h
+same_error : (A : Type 0) {E : Type 0} (e f : E) → ◌≡◌ {A = Result A E} (Err e) (Err f) → e ≡ f
+same_error A e f h = cc
 
-pub row_extends : (s t : State) (print : List ℕ) (addresses : List AddressParts) (result : Result (Unit {0}) RowRefusal) →
-    OnOk result (t ≡ with_redirect s print addresses) → OnErr result (t ≡ s) →
-    IfSome (row_refusal s.redirects print (length addresses)) (λ refusal. result ≡ Err refusal) →
-    IfNone (row_refusal s.redirects print (length addresses)) (IfErr result (λ refusal. refusal ≡ NoMemoryForRow)) →
-    Extends s t (row_event print addresses result)
-row_extends s t print addresses (Ok done) ok err refused memory =
-    extends s t (row_event print addresses (Ok done))
-    (subst (λ (x : State). Answers x (AddRow print addresses) Finished [] t) (sym (at_zero s))
-    (none_by (row_refusal s.redirects print (length addresses)) refused, record { state = ok; entries = refl }))
-  where
-    none_by : (o : Option RowRefusal) → IfSome o (λ refusal. Ok done ≡ Err refusal) → o ≡ None
-    none_by None h = refl
-    none_by (Some refusal) h = absurd (cc)
-row_extends s t print addresses (Err refusal) ok err refused memory =
-    extends s t (row_event print addresses (Err refusal))
-    (subst (λ (x : State). Answers x (AddRow print addresses) (NotAdded refusal) [] t) (sym (at_zero s))
-    (why_by (row_refusal s.redirects print (length addresses)) refused memory, record { state = err; entries = refl }))
-  where
-    why_by : (o : Option RowRefusal) → IfSome o (λ r. ◌≡◌ {A = Result (Unit {0}) RowRefusal} (Err refusal) (Err r)) → IfNone o (refusal ≡ NoMemoryForRow) → refusal ≡ not_added o
-    why_by None h m = m
-    why_by (Some r) h m = cc
+why_by : (A : Type 0) {E : Type 0} (o : Option E) (none e : E) (why : Option E → E) → why None ≡ none → ((x : E) → why (Some x) ≡ x) → IfSome o (λ x. ◌≡◌ {A = Result A E} (Err e) (Err x)) → IfNone o (e ≡ none) → e ≡ why o
+why_by A None none e why first rest h m = m ∙ sym first
+why_by A (Some x) none e why first rest h m = same_error A e x h ∙ sym (rest x)
 
-pub introduce_extends : (s t : State) → t ≡ introducing s → Extends s t introduce_event
-introduce_extends s t is =
-    extends s t introduce_event
-    (subst (λ (x : State). Answers x Introduce Finished [] t) (sym (at_zero s)) (record { state = is; entries = refl }))
+some_by : {A B E : Type 0} (o : Option B) (x : A) (e : E) → IfNone o (◌≡◌ {A = Result A E} (Ok x) (Err e)) → IsSome o
+some_by None x e h = absurd (cc)
+some_by (Some y) x e h = refl
 
-refused_extends : (s t : State) (n : ℕ) (refusal : CallRefusal) (before after : Added) →
-    IfNone (cancel_fact s.startup n) (refusal ≡ NoAttempt) × IfSome (cancel_fact s.startup n) (λ _. refusal ≡ NoMemory) → Done (nothing s) t before after →
-    Extends s t (cancel_event n (Err refusal) before.entries after.entries)
-refused_extends s t n refusal before after is did =
-    let entries : List Entry = drop (length before.entries) after.entries in
-    extends s t (cancel_event n (Err refusal) before.entries after.entries)
-    (subst (λ (x : State). Answers x (Cancel n) (Refused refusal) entries t) (sym (at_zero s)) (is.0, is.1, alone (nothing s) t before after did))
+no_other : (A : Type 0) {B E : Type 0} (o : Option B) (e f : E) → IfNone o (◌≡◌ {A = Result A E} (Err e) (Err f)) → IfNone o (e ≡ f)
+no_other A None e f h = same_error A e f h
+no_other A (Some y) e f h = tt
 
-none_there : {A : Type 0} (o : Option A) (none : CallRefusal) → is_some o ≡ false → IfNone o (none ≡ none) × IfSome o (λ _. none ≡ NoMemory)
-none_there None none e = (refl, tt)
-none_there (Some x) none e = absurd (cc)
+-- ---- the calls, by the clauses of their methods
 
-one_there : {A : Type 0} (o : Option A) (none : CallRefusal) → is_some o ≡ true → IfNone o (NoMemory ≡ none) × IfSome o (λ _. NoMemory ≡ NoMemory)
-one_there None none e = absurd (cc)
-one_there (Some x) none e = (tt, refl)
+pub opened : (s t : State) (moment : ℕ) (peer : List ℕ) (candidates : List AddressParts) (draws : Draws) (r : Result ℕ OpenRefusal) (before after : Added) →
+    IfOk r (λ n. n ≡ s.startup.ledger.started + 1) →
+    OnOk r (Done (opening (at_moment s moment) peer candidates draws) t before after) →
+    IfSome (open_refusal (at_moment s moment) peer candidates) (λ refusal. r ≡ Err refusal) →
+    IfNone (open_refusal (at_moment s moment) peer candidates) (IfErr r (λ refusal. refusal ≡ NoMemoryToOpen)) →
+    OnErr r (Done (nothing (at_moment s moment)) t before after) →
+    Called s moment (Open peer candidates draws) (began r) t before after
+opened s t moment peer candidates draws (Ok n) before after number ok refused memory err =
+    let d : Did = opening (at_moment s moment) peer candidates draws in
+    record {
+      entries = d.entries;
+      answers = (none_by (open_refusal (at_moment s moment) peer candidates) n refused, number, does d t before after ok);
+      numbered = tt;
+      added = adds d t before after ok;
+    }
+opened s t moment peer candidates draws (Err refusal) before after number ok refused memory err = record {
+  entries = [];
+  answers = (
+    why_by ℕ (open_refusal (at_moment s moment) peer candidates) NoMemoryToOpen refusal not_opened refl (λ x. refl) refused memory,
+    does (nothing (at_moment s moment)) t before after err,
+  );
+  numbered = tt;
+  added = adds (nothing (at_moment s moment)) t before after err;
+}
 
-pub no_attempt_extends : (s : State) (n : ℕ) (out : Added) → is_some (cancel_fact s.startup n) ≡ false → Extends s s (cancel_event n (Err NoAttempt) out.entries out.entries)
-no_attempt_extends s n out none = refused_extends s s n NoAttempt out out (none_there (cancel_fact s.startup n) NoAttempt none) (nothing_done s out)
+pub cancelled : (s t : State) (moment n : ℕ) (r : Result (Unit {0}) CallRefusal) (before after : Added) →
+    OnOk r (Done (cancelling s n) t before after) →
+    IfNone (cancel_fact s.startup n) (r ≡ Err NoAttempt) →
+    IfSome (cancel_fact s.startup n) (λ _. IfErr r (λ refusal. refusal ≡ NoMemory)) →
+    OnErr r (Done (nothing s) t before after) →
+    Called s moment (Cancel n) (done r) t before after
+cancelled s t moment n (Ok x) before after ok refused memory err = record {
+  entries = (cancelling s n).entries;
+  answers = unnoted s t (Cancel n) IsDone (cancelling s n).entries (some_by (cancel_fact s.startup n) x NoAttempt refused, does (cancelling s n) t before after ok);
+  numbered = tt;
+  added = adds (cancelling s n) t before after ok;
+}
+cancelled s t moment n (Err refusal) before after ok refused memory err = record {
+  entries = [];
+  answers = unnoted s t (Cancel n) (IsRefused refusal) [] (no_other (Unit {0}) (cancel_fact s.startup n) refusal NoAttempt refused, memory, does (nothing s) t before after err);
+  numbered = tt;
+  added = adds (nothing s) t before after err;
+}
 
-pub no_memory_extends : (s t : State) (n : ℕ) (before after : Added) → is_some (cancel_fact s.startup n) ≡ true → Done (nothing s) t before after →
-    Extends s t (cancel_event n (Err NoMemory) before.entries after.entries)
-no_memory_extends s t n before after some did = refused_extends s t n NoMemory before after (one_there (cancel_fact s.startup n) NoAttempt some) did
+pub closed : (s t : State) (moment near : ℕ) (r : Result (Unit {0}) CallRefusal) (before after : Added) →
+    OnOk r (Done (closing (at_moment s moment) near) t before after) →
+    IfNone (held_row s near) (r ≡ Err NoSession) →
+    IfSome (held_row s near) (λ _. IfErr r (λ refusal. refusal ≡ NoMemory)) →
+    OnErr r (Done (nothing (at_moment s moment)) t before after) →
+    Called s moment (Close near) (done r) t before after
+closed s t moment near (Ok x) before after ok refused memory err = record {
+  entries = (closing (at_moment s moment) near).entries;
+  answers = (some_by (held_row s near) x NoSession refused, does (closing (at_moment s moment) near) t before after ok);
+  numbered = tt;
+  added = adds (closing (at_moment s moment) near) t before after ok;
+}
+closed s t moment near (Err refusal) before after ok refused memory err = record {
+  entries = [];
+  answers = (no_other (Unit {0}) (held_row s near) refusal NoSession refused, memory, does (nothing (at_moment s moment)) t before after err);
+  numbered = tt;
+  added = adds (nothing (at_moment s moment)) t before after err;
+}
 
-pub closing_extends : (s t : State) (near moment : ℕ) (done : Unit {0}) (before after : Added) →
-    IsSome (held_row s near) → Done (closing (at_moment s moment) near) t before after →
-    Extends s t (close_event near moment (Ok done) before.entries after.entries)
-closing_extends s t near moment done before after some did =
-    extends s t (close_event near moment (Ok done) before.entries after.entries) (some, alone (closing (at_moment s moment) near) t before after did)
+-- a call on flows, which gives such a number where it is done
+pub on_flows : {A : Type 0} (P : A → Type 0) (answer : A → Answered) (s t : State) (moment near : ℕ) (call : FlowCall) (r : Result A CallRefusal) (before after : Added) →
+    ((x : A) → P x → (answer_of (answer x) ≡ IsDone) × Gives near call (answer x) (flow_called s near call).entries) →
+    IfOk r P →
+    OnOk r (Done (flow_called s near call) t before after) →
+    IfSome (call_refusal s near call) (λ refusal. r ≡ Err refusal) →
+    IfNone (call_refusal s near call) (IfErr r (λ refusal. refusal ≡ NoMemory)) →
+    OnErr r (Done (nothing s) t before after) →
+    Called s moment (OnFlows near call) (done_as answer r) t before after
+on_flows {A} P answer s t moment near call (Ok x) before after gives number ok refused memory err =
+    let d : Did = flow_called s near call in
+    record {
+      entries = d.entries;
+      answers = subst (λ (a : Answer). Answers (at_moment s 0) (OnFlows near call) a d.entries t) (sym (gives x number).0)
+          (unnoted s t (OnFlows near call) IsDone d.entries (none_by (call_refusal s near call) x refused, does d t before after ok));
+      numbered = (gives x number).1;
+      added = adds d t before after ok;
+    }
+on_flows {A} P answer s t moment near call (Err refusal) before after gives number ok refused memory err = record {
+  entries = [];
+  answers = unnoted s t (OnFlows near call) (IsRefused refusal) [] (why_by A (call_refusal s near call) NoMemory refusal not_called refl (λ x. refl) refused memory, does (nothing s) t before after err);
+  numbered = tt;
+  added = adds (nothing s) t before after err;
+}
 
-unclosed_extends : (s t : State) (near moment : ℕ) (refusal : CallRefusal) (before after : Added) →
-    IfNone (held_row s near) (refusal ≡ NoSession) × IfSome (held_row s near) (λ _. refusal ≡ NoMemory) → Done (nothing (at_moment s moment)) t before after →
-    Extends s t (close_event near moment (Err refusal) before.entries after.entries)
-unclosed_extends s t near moment refusal before after is did =
-    extends s t (close_event near moment (Err refusal) before.entries after.entries) (is.0, is.1, alone (nothing (at_moment s moment)) t before after did)
+pub always : {A E : Type 0} (r : Result A E) → IfOk r (λ _. Unit {0})
+always (Ok x) = tt
+always (Err e) = tt
 
-pub no_session_extends : (s t : State) (near moment : ℕ) (out : Added) → is_some (held_row s near) ≡ false → t ≡ at_moment s moment →
-    Extends s t (close_event near moment (Err NoSession) out.entries out.entries)
-no_session_extends s t near moment out none is =
-    unclosed_extends s t near moment NoSession out out (none_there (held_row s near) NoSession none)
-    (subst (λ (x : State). Done (nothing (at_moment s moment)) x out out) (sym is) (nothing_done (at_moment s moment) out))
+pub row_added : (s t : State) (moment : ℕ) (print : List ℕ) (addresses : List AddressParts) (r : Result (Unit {0}) RowRefusal) (out : Added) →
+    OnOk r (t ≡ with_redirect s print addresses) →
+    IfSome (row_refusal s.redirects print (length addresses)) (λ refusal. r ≡ Err refusal) →
+    IfNone (row_refusal s.redirects print (length addresses)) (IfErr r (λ refusal. refusal ≡ NoMemoryForRow)) →
+    OnErr r (t ≡ s) →
+    Called s moment (AddRow print addresses) (added_row r) t out out
+row_added s t moment print addresses (Ok x) out ok refused memory err = record {
+  entries = [];
+  answers = unnoted s t (AddRow print addresses) IsDone [] (none_by (row_refusal s.redirects print (length addresses)) x refused, record { state = ok; entries = refl });
+  numbered = tt;
+  added = adds_none out;
+}
+row_added s t moment print addresses (Err refusal) out ok refused memory err = record {
+  entries = [];
+  answers = unnoted s t (AddRow print addresses) (IsNotAdded refusal) [] (
+    why_by (Unit {0}) (row_refusal s.redirects print (length addresses)) NoMemoryForRow refusal not_added refl (λ x. refl) refused memory,
+    record { state = err; entries = refl },
+  );
+  numbered = tt;
+  added = adds_none out;
+}
 
-pub no_room_extends : (s t : State) (near moment : ℕ) (before after : Added) → is_some (held_row s near) ≡ true → Done (nothing (at_moment s moment)) t before after →
-    Extends s t (close_event near moment (Err NoMemory) before.entries after.entries)
-no_room_extends s t near moment before after some did = unclosed_extends s t near moment NoMemory before after (one_there (held_row s near) NoSession some) did
+pub introduced : (s t : State) (moment : ℕ) (out : Added) → t ≡ introducing s → Called s moment Introduce told.Done t out out
+introduced s t moment out is = record {
+  entries = [];
+  answers = unnoted s t Introduce IsDone [] (record { state = is; entries = refl });
+  numbered = tt;
+  added = adds_none out;
+}
 
--- ---- calls on flows
-
-pub called_extends : {A : Type 0} (s t : State) (near : ℕ) (call : FlowCall) (answer : A) (before after : Added) → call_refusal s near call ≡ None → Done (flow_called s near call) t before after →
-    Extends s t (flow_event near call (Ok answer) before.entries after.entries)
-called_extends s t near call answer before after none did =
-    let entries : List Entry = drop (length before.entries) after.entries in
-    extends s t (flow_event near call (Ok answer) before.entries after.entries)
-    (subst (λ (x : State). Answers x (OnFlows near call) Finished entries t) (sym (at_zero s)) (none, alone (flow_called s near call) t before after did))
-
-pub uncalled_extends : (A : Type 0) (s t : State) (near : ℕ) (call : FlowCall) (refusal : CallRefusal) (before after : Added) → refusal ≡ not_called (call_refusal s near call) → Done (nothing s) t before after →
-    Extends s t (flow_event {A = A} near call (Err refusal) before.entries after.entries)
-uncalled_extends A s t near call refusal before after is did =
-    let entries : List Entry = drop (length before.entries) after.entries in
-    extends s t (flow_event {A = A} near call (Err refusal) before.entries after.entries)
-    (subst (λ (x : State). Answers x (OnFlows near call) (Refused refusal) entries t) (sym (at_zero s)) (is, alone (nothing s) t before after did))
-
-tick_steps : (s t : State) (moment : ℕ) (draws : Draws) (r : Result (Unit {0}) Memory) (before after : Added) →
+pub ticked_as : (s t : State) (moment : ℕ) (draws : Draws) (r : Result (Unit {0}) Memory) (before after : Added) →
     (count : ℕ) × Done (ticks count (all_late (at_moment s moment))) t before after → OnOk r (first_due t ≡ None) → OnErr r (IsSome (first_due t)) →
-    Step s (tick_event moment draws r before.entries after.entries) t
-tick_steps s t moment draws (Ok done) before after some all left = ((some.0, alone (ticks some.0 (all_late (at_moment s moment))) t before after some.1), all)
-tick_steps s t moment draws (Err memory) before after some all left = ((some.0, alone (ticks some.0 (all_late (at_moment s moment))) t before after some.1), left)
+    Called s moment (Tick draws) (ticked r) t before after
+ticked_as s t moment draws (Ok x) before after some all left =
+    let d : Did = ticks some.0 (all_late (at_moment s moment)) in
+    record { entries = d.entries; answers = ((some.0, does d t before after some.1), all); numbered = tt; added = adds d t before after some.1 }
+ticked_as s t moment draws (Err memory) before after some all left =
+    let d : Did = ticks some.0 (all_late (at_moment s moment)) in
+    record { entries = d.entries; answers = ((some.0, does d t before after some.1), left); numbered = tt; added = adds d t before after some.1 }
 
-pub tick_extends : (s t : State) (moment : ℕ) (draws : Draws) (r : Result (Unit {0}) Memory) (before after : Added) →
-    (count : ℕ) × Done (ticks count (all_late (at_moment s moment))) t before after → OnOk r (first_due t ≡ None) → OnErr r (IsSome (first_due t)) →
-    Extends s t (tick_event moment draws r before.entries after.entries)
-tick_extends s t moment draws r before after some all left =
-    extends s t (tick_event moment draws r before.entries after.entries) (tick_steps s t moment draws r before after some all left)
+-- ---- the answers of their methods, as the log has them
+
+pub answer_of_began : (r : Result ℕ OpenRefusal) → answer_of (began r) ≡ answer_of_open r
+answer_of_began (Ok n) = refl
+answer_of_began (Err refusal) = refl
+
+pub answer_of_done : {A : Type 0} (answer : A → Answered) (r : Result A CallRefusal) → ((x : A) → answer_of (answer x) ≡ IsDone) → answer_of (done_as answer r) ≡ answer_of_call r
+answer_of_done answer (Ok x) is = is x
+answer_of_done answer (Err refusal) is = refl
+
+answer_of_added : (r : Result (Unit {0}) RowRefusal) → answer_of (added_row r) ≡ answer_of_row r
+answer_of_added (Ok x) = refl
+answer_of_added (Err refusal) = refl
+
+pub answer_of_ticked : (r : Result (Unit {0}) Memory) → answer_of (ticked r) ≡ answer_of_tick r
+answer_of_ticked (Ok x) = refl
+answer_of_ticked (Err memory) = refl
+
+-- ---- their events
+
+pub open_stands : (s t : State) (moment : ℕ) (peer : List ℕ) (candidates : List AddressParts) (draws : Draws) (r : Result ℕ OpenRefusal) (before after : Added) →
+    Called s moment (Open peer candidates draws) (began r) t before after → Extends s t (open_event moment peer candidates draws r before.entries after.entries)
+open_stands s t moment peer candidates draws r before after did =
+    method_extends s t moment (Open peer candidates draws) (began r) before after (answer_of_open r) (answer_of_began r) did
+
+pub cancel_stands : (s t : State) (n : ℕ) (r : Result (Unit {0}) CallRefusal) (before after : Added) → Called s 0 (Cancel n) (done r) t before after → Extends s t (cancel_event n r before.entries after.entries)
+cancel_stands s t n r before after did = method_extends s t 0 (Cancel n) (done r) before after (answer_of_call r) (answer_of_done (λ _. told.Done) r (λ x. refl)) did
+
+pub close_stands : (s t : State) (near moment : ℕ) (r : Result (Unit {0}) CallRefusal) (before after : Added) → Called s moment (Close near) (done r) t before after → Extends s t (close_event near moment r before.entries after.entries)
+close_stands s t near moment r before after did = method_extends s t moment (Close near) (done r) before after (answer_of_call r) (answer_of_done (λ _. told.Done) r (λ x. refl)) did
+
+pub flow_stands : {A : Type 0} (answer : A → Answered) (s t : State) (near : ℕ) (call : FlowCall) (r : Result A CallRefusal) (before after : Added) → ((x : A) → answer_of (answer x) ≡ IsDone) →
+    Called s 0 (OnFlows near call) (done_as answer r) t before after → Extends s t (flow_event near call r before.entries after.entries)
+flow_stands answer s t near call r before after is did = method_extends s t 0 (OnFlows near call) (done_as answer r) before after (answer_of_call r) (answer_of_done answer r is) did
+
+-- a call that is given no outbox
+abbrev none : Added
+none = record { entries = []; free = 0; room = 0 }
+
+pub row_stands : (s t : State) (print : List ℕ) (addresses : List AddressParts) (r : Result (Unit {0}) RowRefusal) → ((out : Added) → Called s 0 (AddRow print addresses) (added_row r) t out out) → Extends s t (row_event print addresses r)
+row_stands s t print addresses r did = method_extends s t 0 (AddRow print addresses) (added_row r) none none (answer_of_row r) (answer_of_added r) (did none)
+
+pub introduce_stands : (s t : State) → t ≡ introducing s → Extends s t introduce_event
+introduce_stands s t is = method_extends s t 0 Introduce told.Done none none IsDone refl (introduced s t 0 none is)
+
+pub tick_stands : (s t : State) (moment : ℕ) (draws : Draws) (r : Result (Unit {0}) Memory) (before after : Added) → Called s moment (Tick draws) (ticked r) t before after → Extends s t (tick_event moment draws r before.entries after.entries)
+tick_stands s t moment draws r before after did = method_extends s t moment (Tick draws) (ticked r) before after (answer_of_tick r) (answer_of_ticked r) did
+
+-- an end whose state is seen so
+pub seen : (s o t : State) (e : Event) → s ≡ o → Extends s t e → Extends o t e
+seen s o t e is h = subst (λ (x : State). Extends x t e) is h
+
+-- ---- a datagram
 
 receive_steps : (s t : State) (moment : ℕ) (from : AddressParts) (datagram : List ℕ) (draws : Draws) (r : Result (Unit {0}) Stop) (before after : Added) →
     OnOk r (Done (received from draws (admission (at_moment s moment) datagram)) t before after) →

@@ -3,6 +3,7 @@ mod Confirms
 mod Begun
 mod Taking
 mod NamedContexts
+mod StreamKeys
 mod Endings
 mod Walking
 pub mod Reaching

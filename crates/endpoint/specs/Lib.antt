@@ -1,3 +1,5 @@
+pub mod Calls
+pub mod Answered
 pub mod Keeps
 pub mod Kinds
 pub mod StreamKeys

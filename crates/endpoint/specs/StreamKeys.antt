@@ -1,5 +1,5 @@
 -- The keys of the keystreams in which an end's sessions seal.
-use Rattle.std.specs.Prelude.{ℕ, true, false, if◌then◌else◌, ◌&&◌, bytes_eq, List, Option, Some, None}
+use Rattle.std.specs.Prelude.{ℕ, Bool, true, false, if◌then◌else◌, ◌&&◌, bytes_eq, List, Option, Some, None}
 use Rattle.std.specs.FinMap.{get}
 use Rattle.crypto_profile.specs.declared.keys.Context.{Context}
 use Rattle.crypto_profile.specs.declared.keys.Context.TheVariants.{Startup, Session}
@@ -14,12 +14,13 @@ sealer_of (Startup generation) = 0
 sealer_of (Session generation ni nr fp_i fp_r sid_i sid_r true) = sid_i
 sealer_of (Session generation ni nr fp_i fp_r sid_i sid_r false) = sid_r
 
--- that of a session's keystream, where it seals in this context under this secret
-abbrev pub stream_key_in : List ℕ → Context → Option Row → Option (List ℕ)
-stream_key_in secret context None = None
-stream_key_in secret context (Some row) =
-    if same_context (context_of row.session true) context && bytes_eq row.session.secret secret
-    then Some (keys_of secret context).enc else None
+-- whether a session seals in this context
+abbrev pub seals_in : Context → Option Row → Bool
+seals_in context None = false
+seals_in context (Some row) = same_context (context_of row.session true) context
 
+-- that of a session's keystream, where it seals in this context and the secret is the group's
 abbrev pub stream_key : State → List ℕ → Context → Option (List ℕ)
-stream_key s secret context = stream_key_in secret context (get s.sessions (sealer_of context))
+stream_key s secret context =
+    if seals_in context (get s.sessions (sealer_of context)) && bytes_eq s.startup.secret secret
+    then Some (keys_of secret context).enc else None

@@ -47,15 +47,7 @@ impl Endpoint {
     {
         are_thirty_two(&epd.print);
         are_sized(draws);
-        self.end.advance(moment);
-        if let Some(refusal) = open_refusal(&self.end, epd, candidates) {
-            return Err(refusal);
-        }
-        let n = match begin(&mut self.end, epd, candidates, draws, out) {
-            Ok(n) => n,
-            Err(_) => return Err(OpenRefusal::Memory),
-        };
-        Ok(n)
+        open_attempt(&mut self.end, epd, candidates, moment, draws, out)
     }
 
     /// Gives up the held attempt with this number.
@@ -74,14 +66,36 @@ impl Endpoint {
         ensures stands { Extends self.old self.new
             (cancel_event n result out.old.entries out.new.entries) }
     {
-        if !self.end.has_number(n) {
-            return Err(CallRefusal::NoAttempt);
-        }
-        match give_up(&mut self.end, n, out) {
-            Ok(()) => {}
-            Err(_) => return Err(CallRefusal::Memory),
-        }
-        Ok(())
+        give_up(&mut self.end, n, out)
+    }
+}
+
+/// Opens an attempt, or tells why not.
+fn open_attempt(
+    end: &mut EndState,
+    epd: &Epd,
+    candidates: &[Address],
+    moment: u64,
+    draws: &Draws,
+    out: &mut Outbox,
+) -> Result<u64, OpenRefusal>
+    ensures number { IfOk result (λ n. n ≡ end.old.startup.ledger.started + 1) }
+    ensures ok { OnOk result (Done (opening (at_moment end.old moment) epd.now.print candidates.now
+        draws.now) end.new out.old out.new) }
+    ensures refused { IfSome (open_refusal (at_moment end.old moment) epd.now.print candidates.now)
+        (λ refusal. result ≡ Err refusal) }
+    ensures memory { IfNone (open_refusal (at_moment end.old moment) epd.now.print candidates.now)
+        (IfErr result (λ refusal. refusal ≡ OpenRefusal.Memory)) }
+    ensures err { OnErr result (Done (nothing (at_moment end.old moment)) end.new out.old
+        out.new) }
+{
+    end.advance(moment);
+    if let Some(refusal) = open_refusal(end, epd, candidates) {
+        return Err(refusal);
+    }
+    match begin(end, epd, candidates, draws, out) {
+        Ok(n) => Ok(n),
+        Err(_) => Err(OpenRefusal::Memory),
     }
 }
 
@@ -133,12 +147,20 @@ fn begin(
     }
 }
 
-/// Gives up the attempt with this number, if there is one.
-fn give_up(end: &mut EndState, n: u64, out: &mut Outbox) -> Result<(), AllocError>
+/// Gives up the attempt with this number, or tells why not.
+fn give_up(end: &mut EndState, n: u64, out: &mut Outbox) -> Result<(), CallRefusal>
     ensures ok { OnOk result (Done (cancelling end.old n) end.new out.old out.new) }
+    ensures refused { IfNone (cancel_fact end.old.startup n) (result ≡ Err CallRefusal.NoAttempt) }
+    ensures memory { IfSome (cancel_fact end.old.startup n)
+        (λ _. IfErr result (λ refusal. refusal ≡ CallRefusal.Memory)) }
     ensures err { OnErr result (Done (nothing end.old) end.new out.old out.new) }
 {
-    out.make_room(1)?;
+    if !end.has_number(n) {
+        return Err(CallRefusal::NoAttempt);
+    }
+    if out.make_room(1).is_err() {
+        return Err(CallRefusal::Memory);
+    }
     if let Some(fact) = end.startup.cancel(n) {
         out.add(Entry::Fact(fact));
     }

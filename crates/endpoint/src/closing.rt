@@ -33,15 +33,32 @@ impl Endpoint {
         ensures stands { Extends self.old self.new
             (close_event near moment result out.old.entries out.new.entries) }
     {
-        self.end.advance(moment);
-        if !self.end.holds(near) {
-            return Err(CallRefusal::NoSession);
-        }
-        match close_held(&mut self.end, near, out) {
-            Ok(()) => {}
-            Err(_) => return Err(CallRefusal::Memory),
-        }
-        Ok(())
+        close_session(&mut self.end, near, moment, out)
+    }
+}
+
+/// Closes a session, or tells why not.
+fn close_session(
+    end: &mut EndState,
+    near: u32,
+    moment: u64,
+    out: &mut Outbox,
+) -> Result<(), CallRefusal>
+    ensures ok { OnOk result (Done (closing (at_moment end.old moment) near) end.new out.old
+        out.new) }
+    ensures refused { IfNone (held_row end.old near) (result ≡ Err CallRefusal.NoSession) }
+    ensures memory { IfSome (held_row end.old near)
+        (λ _. IfErr result (λ refusal. refusal ≡ CallRefusal.Memory)) }
+    ensures err { OnErr result (Done (nothing (at_moment end.old moment)) end.new out.old
+        out.new) }
+{
+    end.advance(moment);
+    if !end.holds(near) {
+        return Err(CallRefusal::NoSession);
+    }
+    match close_held(end, near, out) {
+        Ok(()) => Ok(()),
+        Err(_) => Err(CallRefusal::Memory),
     }
 }
 

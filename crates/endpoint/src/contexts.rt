@@ -4,7 +4,7 @@ ghost use Rattle.std.specs.Prelude.{◌≡◌, ◌≤◌, ◌↔◌, IsTrue, Som
 ghost use Rattle.end_state.specs.NamedContext.{named_context};
 ghost use Rattle.endpoint_laws.specs.OpensIn.{OpensByTheLog, opens_in};
 ghost use Rattle.std.specs.Prelude.{option_copied};
-ghost use Rattle.endpoint.specs.StreamKeys.{sealer_of, stream_key, stream_key_in};
+ghost use Rattle.endpoint.specs.StreamKeys.{sealer_of, seals_in, stream_key};
 
 use crate::endpoint::Endpoint;
 use crypto_profile::{Context, StreamKey};
@@ -42,14 +42,18 @@ impl Endpoint {
         }
     }
 
-    /// The key of the keystream of a context under this secret, where a session of this end seals
-    /// in it. It isn't derived.
+    /// The key of the keystream of a context under this secret, where it is the group's and a
+    /// session of this end seals in the context. It isn't derived.
     pub fn stream_key(&self, secret: &[u8; 32], context: &Context) -> Option<&StreamKey>
         ensures { option_copied result ≡ stream_key self.now secret.now context.now }
     {
-        match self.end.sessions.row(sealer_of(context)) {
-            Some(row) => stream_key_in(row, secret, context),
-            None => None,
+        let Some(row) = self.end.sessions.row(sealer_of(context)) else {
+            return None;
+        };
+        if seals_in(row, context) && self.end.has_secret(secret) {
+            Some(row.session.stream_key())
+        } else {
+            None
         }
     }
 }
@@ -69,13 +73,9 @@ fn sealer_of(context: &Context) -> u32
     }
 }
 
-/// The key of a session's keystream, where it seals in this context under this secret.
-fn stream_key_in<'a>(row: &'a Row, secret: &[u8; 32], context: &Context) -> Option<&'a StreamKey>
-    ensures { option_copied result ≡ stream_key_in secret.now context.now (Some row.now) }
+/// Whether a session seals in this context.
+fn seals_in(row: &Row, context: &Context) -> bool
+    ensures { result ≡ seals_in context.now (Some row.now) }
 {
-    if row.session.context(true).is_same(context) && *row.session.secret() == *secret {
-        Some(row.session.stream_key())
-    } else {
-        None
-    }
+    row.session.context(true).is_same(context)
 }

@@ -2,6 +2,8 @@
 #![tactic(auto)]
 
 mod attempts;
+mod call;
+mod calling;
 mod closing;
 mod contexts;
 mod endpoint;
@@ -14,6 +16,7 @@ mod receiving;
 pub mod sizes;
 mod ticking;
 
+pub use call::{Answered, EndCall};
 pub use end_state::Outbox;
 pub use endpoint::Endpoint;
 pub use endpoint_model::{CallRefusal, Config, Draws, Entry, OpenRefusal, Stopped};

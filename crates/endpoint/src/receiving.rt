@@ -43,8 +43,7 @@ impl Endpoint {
         are_bytes(datagram);
         are_sized(draws);
         self.end.advance(moment);
-        self.end.look_up(datagram);
-        let place = match open_datagram(&self.end, datagram) {
+        let place = match open_datagram(&mut self.end, datagram) {
             Ok(place) => place,
             Err(cause) => return refuse_unopened(&mut self.end, cause, out),
         };

@@ -30,6 +30,30 @@ pub enum Kind {
     Close,
     /// The answer to a close, with which the session is forgotten.
     Forget,
+    /// A flow that is opened in a session.
+    Flow,
+    /// A message of a byte that is queued in that flow.
+    Queue,
+    /// The same, and a tick, which sends it.
+    Send,
+    /// A tick that sends what was queued in all sessions.
+    SendAll,
+    /// A tick at which all that was sent is lost by time, and is sent again.
+    LoseAll,
+    /// A tick at which all attempts expire.
+    ExpireAll,
+    /// A tick at which all half-open sessions end.
+    EndAll,
+}
+
+impl Kind {
+    /// Whether one call does something for each session or attempt.
+    pub fn is_for_all(self) -> bool {
+        matches!(
+            self,
+            Kind::SendAll | Kind::LoseAll | Kind::ExpireAll | Kind::EndAll
+        )
+    }
 }
 
 /// A call, the number of the end that it has to do with, and that end's discriminator.

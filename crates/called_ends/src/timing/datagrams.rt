@@ -26,7 +26,6 @@ const UNKNOWN: u32 = 0x4000_0000;
 pub fn write(kind: Kind, number: u32, alike: bool, bytes: &mut Vec<u8>) -> Result<(), AllocError> {
     let known = cookie_of(if alike { 0 } else { number });
     match kind {
-        Kind::Open | Kind::Tick | Kind::Cancel | Kind::Close => Ok(()),
         Kind::Hello => write_hello(number, &[74, 16], &draws(number).tag, &known, bytes),
         Kind::Empty => write_hello(number, &[58, 0], &[], &known, bytes),
         Kind::Change => write_change(number, &known, bytes),
@@ -36,6 +35,7 @@ pub fn write(kind: Kind, number: u32, alike: bool, bytes: &mut Vec<u8>) -> Resul
         Kind::Ping => write_packet(number, 2, &[1, 1, 0, 0], bytes),
         Kind::Discard => write_bent(number, bytes),
         Kind::Forget => write_packet(number, 4, &[1, 0x4c, 0, 0], bytes),
+        _ => Ok(()),
     }
 }
 

@@ -2,13 +2,22 @@
 
 use crate::timing::calls::{Call, Kind, cert_of, draws, place_of, word_of};
 use crate::timing::datagrams::{COOKIE_SECRET, GROUP};
-use endpoint::{Config, Endpoint, Entry, Outbox};
+use endpoint::{Config, Endpoint, Entry, MessageOptions, Outbox};
 use identity::Certificate;
 use std::alloc::Global;
 use std::time::CpuClock;
 
-/// All is done at one moment.
+/// All is done at this moment, but for what comes with time.
 const MOMENT: u64 = 0;
+
+/// A moment at which what was sent at first is lost, before any keepalive.
+const LOST: u64 = 9_000;
+
+/// One at which a half-open session ends that was born at first.
+const UNCONFIRMED: u64 = 20_000;
+
+/// One at which an attempt expires that was opened at first.
+const EXPIRED: u64 = 95_000;
 
 /// An end, and what its last call added.
 #[derive(Drop)]
@@ -61,7 +70,16 @@ impl Side {
         self.out.clear();
         match call.kind {
             Kind::Open => self.open(call),
-            Kind::Tick => self.tick(),
+            Kind::Tick | Kind::SendAll => self.tick(MOMENT),
+            Kind::LoseAll => self.tick(LOST),
+            Kind::EndAll => self.tick(UNCONFIRMED),
+            Kind::ExpireAll => self.tick(EXPIRED),
+            Kind::Flow => self.open_flow(call.number),
+            Kind::Queue => self.queue(call.number),
+            Kind::Send => {
+                self.queue(call.number);
+                self.tick(MOMENT)
+            }
             Kind::Cancel => self.cancel(call.number),
             Kind::Close => self.close(call.number),
             _ => self.take(call.number, call.datagram.as_mut_slice()),
@@ -74,8 +92,22 @@ impl Side {
         let _ = self.end.open(&call.epd, &at, MOMENT, &drawn, &mut self.out);
     }
 
-    fn tick(&mut self) {
-        let _ = self.end.tick(MOMENT, &draws(0), &mut self.out);
+    fn tick(&mut self, moment: u64) {
+        let _ = self.end.tick(moment, &draws(0), &mut self.out);
+    }
+
+    fn open_flow(&mut self, number: u32) {
+        let near = word_of(number);
+        let _ = self.end.open_flow(near, 0, &[], None, &mut self.out);
+    }
+
+    fn queue(&mut self, number: u32) {
+        let near = word_of(number);
+        let options = MessageOptions {
+            deadline: None,
+            resends: None,
+        };
+        let _ = self.end.queue(near, 0, &[0x61], options, &mut self.out);
     }
 
     fn cancel(&mut self, number: u32) {

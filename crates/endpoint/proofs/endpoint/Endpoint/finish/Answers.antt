@@ -1,37 +1,21 @@
-use Rattle.std.proofs.Common.{sym, ap, ◌∙◌, subst}
-use Rattle.session_flows.specs.declared.refusal.CallRefusal.TheVariants.{Memory as NoMemory}
+use Rattle.std.proofs.Common.{refl}
+use Rattle.endpoint.specs.declared.call.Answered.TheVariants as told
 use Rattle.endpoint_model.specs.FlowCall.{Finish}
-use Rattle.endpoint_model.specs.OnFlows.{call_refusal, flow_called}
-use Rattle.endpoint_model.specs.Log.{not_called}
-use Rattle.endpoint_model.specs.State.{State, Done, nothing}
-use Rattle.endpoint.proofs.Extending.{called_extends, uncalled_extends, nothing_done}
+use Rattle.endpoint.proofs.Extending.{on_flows, always, flow_stands, seen}
 use Rattle.endpoint.proofs.Reaching.{reached_more}
 use Rattle.endpoint.proofs.endpoint.Endpoint.finish.Goals as goal
 
-pub returns-in-Some-clause-stands : goal.returns-in-Some-clause-stands
-returns-in-Some-clause-stands c =
-    uncalled_extends (Unit {0}) c.args.self.now c.args.self.now c.args.near (Finish c.args.flow) c.in-Some.refusal c.args.out.now c.args.out.now
-    (ap not_called (c.in-Some.ensures ∙ ap (λ (s : State). call_refusal s c.args.near (Finish c.args.flow)) c.self.view_is))
-    (nothing_done c.args.self.now c.args.out.now)
-
 pub returns-clause-stands : goal.returns-clause-stands
 returns-clause-stands c =
-    called_extends {A = Unit {0}} c.args.self.now c.finish_held.new.end c.args.near (Finish c.args.flow) tt c.args.out.now c.finish_held.new.out
-    (sym (c.in_default.ensures ∙ ap (λ (s : State). call_refusal s c.args.near (Finish c.args.flow)) c.self.view_is))
-    (subst (λ (s : State). Done (flow_called s c.args.near (Finish c.args.flow)) c.finish_held.new.end c.args.out.now c.finish_held.new.out) c.self.view_is c.in-Ok.ensures.ok)
-
-pub returns-in-Err-clause-stands : goal.returns-in-Err-clause-stands
-returns-in-Err-clause-stands c =
-    uncalled_extends (Unit {0}) c.args.self.now c.finish_held.new.end c.args.near (Finish c.args.flow) NoMemory c.args.out.now c.finish_held.new.out
-    (ap not_called (c.in_default.ensures ∙ ap (λ (s : State). call_refusal s c.args.near (Finish c.args.flow)) c.self.view_is))
-    (subst (λ (s : State). Done (nothing s) c.finish_held.new.end c.args.out.now c.finish_held.new.out) c.self.view_is c.in-Err.ensures.err)
+    seen _ _ _ _ c.self.view_is (
+    flow_stands (λ _. told.Done) c.self.inside.end c.finish.new.end c.args.near (Finish c.args.flow) c.finish.result c.args.out.now c.finish.new.out (λ x. refl)
+    (on_flows (λ _. Unit {0}) (λ _. told.Done) c.self.inside.end c.finish.new.end 0 c.args.near (Finish c.args.flow) c.finish.result c.args.out.now c.finish.new.out
+    (λ x e. (refl, tt)) (always c.finish.result) c.finish.ensures.ok c.finish.ensures.refused c.finish.ensures.memory c.finish.ensures.err))
 
 pub invariant_of-self : goal.invariant_of-self
 invariant_of-self c =
-    reached_more c.self.inside.end c.finish_held.new.end _ c.self.invariant
-    (uncalled_extends (Unit {0}) c.self.inside.end c.finish_held.new.end c.args.near (Finish c.args.flow) NoMemory c.args.out.now c.finish_held.new.out (ap not_called c.in_default.ensures) c.in-Err.ensures.err) tt
-
-pub invariant_of-self-2 : goal.invariant_of-self-2
-invariant_of-self-2 c =
-    reached_more c.self.inside.end c.finish_held.new.end _ c.self.invariant
-    (called_extends {A = Unit {0}} c.self.inside.end c.finish_held.new.end c.args.near (Finish c.args.flow) tt c.args.out.now c.finish_held.new.out (sym c.in_default.ensures) c.in-Ok.ensures.ok) tt
+    reached_more c.self.inside.end c.finish.new.end _ c.self.invariant (
+    flow_stands (λ _. told.Done) c.self.inside.end c.finish.new.end c.args.near (Finish c.args.flow) c.finish.result c.args.out.now c.finish.new.out (λ x. refl)
+    (on_flows (λ _. Unit {0}) (λ _. told.Done) c.self.inside.end c.finish.new.end 0 c.args.near (Finish c.args.flow) c.finish.result c.args.out.now c.finish.new.out
+    (λ x e. (refl, tt)) (always c.finish.result) c.finish.ensures.ok c.finish.ensures.refused c.finish.ensures.memory c.finish.ensures.err))
+    tt

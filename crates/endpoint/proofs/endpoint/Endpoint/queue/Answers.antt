@@ -1,37 +1,23 @@
-use Rattle.std.proofs.Common.{ℕ, sym, ap, ◌∙◌, subst}
-use Rattle.session_flows.specs.declared.refusal.CallRefusal.TheVariants.{Memory as NoMemory}
+use Rattle.std.proofs.Common.{◌≡◌, [], ◌∷◌, refl}
+use Rattle.endpoint.specs.declared.call.Answered.TheVariants as told
+use Rattle.endpoint_model.specs.declared.entry.Entry.TheVariants as entry
 use Rattle.endpoint_model.specs.FlowCall.{Queue}
-use Rattle.endpoint_model.specs.OnFlows.{call_refusal, flow_called}
-use Rattle.endpoint_model.specs.Log.{not_called}
-use Rattle.endpoint_model.specs.State.{State, Done, nothing}
-use Rattle.endpoint.proofs.Extending.{called_extends, uncalled_extends, nothing_done}
+use Rattle.endpoint_model.specs.OnFlows.{flow_called}
+use Rattle.endpoint.proofs.Extending.{on_flows, flow_stands, seen}
 use Rattle.endpoint.proofs.Reaching.{reached_more}
 use Rattle.endpoint.proofs.endpoint.Endpoint.queue.Goals as goal
 
-pub returns-in-Some-clause-stands : goal.returns-in-Some-clause-stands
-returns-in-Some-clause-stands c =
-    uncalled_extends ℕ c.args.self.now c.args.self.now c.args.near (Queue c.args.flow c.args.message.now c.args.options) c.in-Some.refusal c.args.out.now c.args.out.now
-    (ap not_called (c.in-Some.ensures ∙ ap (λ (s : State). call_refusal s c.args.near (Queue c.args.flow c.args.message.now c.args.options)) c.self.view_is))
-    (nothing_done c.args.self.now c.args.out.now)
-
 pub returns-clause-stands : goal.returns-clause-stands
 returns-clause-stands c =
-    called_extends {A = ℕ} c.args.self.now c.queue_held.new.end c.args.near (Queue c.args.flow c.args.message.now c.args.options) c.in-Ok.seq c.args.out.now c.queue_held.new.out
-    (sym (c.in_default.ensures ∙ ap (λ (s : State). call_refusal s c.args.near (Queue c.args.flow c.args.message.now c.args.options)) c.self.view_is))
-    (subst (λ (s : State). Done (flow_called s c.args.near (Queue c.args.flow c.args.message.now c.args.options)) c.queue_held.new.end c.args.out.now c.queue_held.new.out) c.self.view_is c.in-Ok.ensures.ok)
-
-pub returns-in-Err-clause-stands : goal.returns-in-Err-clause-stands
-returns-in-Err-clause-stands c =
-    uncalled_extends ℕ c.args.self.now c.queue_held.new.end c.args.near (Queue c.args.flow c.args.message.now c.args.options) NoMemory c.args.out.now c.queue_held.new.out
-    (ap not_called (c.in_default.ensures ∙ ap (λ (s : State). call_refusal s c.args.near (Queue c.args.flow c.args.message.now c.args.options)) c.self.view_is))
-    (subst (λ (s : State). Done (nothing s) c.queue_held.new.end c.args.out.now c.queue_held.new.out) c.self.view_is c.in-Err.ensures.err)
+    seen _ _ _ _ c.self.view_is (
+    flow_stands (λ seq. told.Queued seq) c.self.inside.end c.queue.new.end c.args.near (Queue c.args.flow c.args.message.now c.args.options) c.queue.result c.args.out.now c.queue.new.out (λ x. refl)
+    (on_flows (λ seq. (flow_called c.self.inside.end c.args.near (Queue c.args.flow c.args.message.now c.args.options)).entries ≡ entry.Queued c.args.near c.args.flow seq c.args.message.now ∷ []) (λ seq. told.Queued seq) c.self.inside.end c.queue.new.end 0 c.args.near (Queue c.args.flow c.args.message.now c.args.options) c.queue.result c.args.out.now c.queue.new.out
+    (λ x e. (refl, e)) c.queue.ensures.number c.queue.ensures.ok c.queue.ensures.refused c.queue.ensures.memory c.queue.ensures.err))
 
 pub invariant_of-self : goal.invariant_of-self
 invariant_of-self c =
-    reached_more c.self.inside.end c.queue_held.new.end _ c.self.invariant
-    (uncalled_extends ℕ c.self.inside.end c.queue_held.new.end c.args.near (Queue c.args.flow c.args.message.now c.args.options) NoMemory c.args.out.now c.queue_held.new.out (ap not_called c.in_default.ensures) c.in-Err.ensures.err) tt
-
-pub invariant_of-self-2 : goal.invariant_of-self-2
-invariant_of-self-2 c =
-    reached_more c.self.inside.end c.queue_held.new.end _ c.self.invariant
-    (called_extends {A = ℕ} c.self.inside.end c.queue_held.new.end c.args.near (Queue c.args.flow c.args.message.now c.args.options) c.in-Ok.seq c.args.out.now c.queue_held.new.out (sym c.in_default.ensures) c.in-Ok.ensures.ok) tt
+    reached_more c.self.inside.end c.queue.new.end _ c.self.invariant (
+    flow_stands (λ seq. told.Queued seq) c.self.inside.end c.queue.new.end c.args.near (Queue c.args.flow c.args.message.now c.args.options) c.queue.result c.args.out.now c.queue.new.out (λ x. refl)
+    (on_flows (λ seq. (flow_called c.self.inside.end c.args.near (Queue c.args.flow c.args.message.now c.args.options)).entries ≡ entry.Queued c.args.near c.args.flow seq c.args.message.now ∷ []) (λ seq. told.Queued seq) c.self.inside.end c.queue.new.end 0 c.args.near (Queue c.args.flow c.args.message.now c.args.options) c.queue.result c.args.out.now c.queue.new.out
+    (λ x e. (refl, e)) c.queue.ensures.number c.queue.ensures.ok c.queue.ensures.refused c.queue.ensures.memory c.queue.ensures.err))
+    tt
