@@ -1,24 +1,239 @@
--- The event of a step that brings a datagram.
-use Rattle.std.proofs.Common.{◌≡◌, ℕ, List, Option, sym, subst}
+-- The events of steps: of one that makes a call, and of one that brings a datagram.
+use Rattle.std.proofs.Common.{◌≡◌, ℕ, ◌==◌, ◌||◌, nat_lt, Bool, List, [], ◌∷◌, ◌++◌, length, Option, Some, None, IsSome, IfNone, true, false, max, refl, sym, ap, ◌∙◌, subst, arith}
+use Rattle.rtmfp_base.specs.Reasons.{first_that_stands, where_true}
 use Rattle.rtmfp_forms.specs.Address.{AddressParts}
+use Rattle.glare_core.specs.declared.answers.StartRefusal.{StartRefusal}
+use Rattle.glare_core.specs.Calls.{start_refusal}
+use Rattle.endpoint_model.specs.Added.{Added}
 use Rattle.endpoint_model.specs.declared.config.Draws.{Draws}
 use Rattle.endpoint_model.specs.declared.entry.Entry.{Entry}
+use Rattle.endpoint_model.specs.declared.answers.OpenRefusal.{OpenRefusal}
+use Rattle.endpoint_model.specs.declared.answers.OpenRefusal.TheVariants.{Candidates, Memory as NoMemoryToOpen}
+use Rattle.session_flows.specs.declared.refusal.CallRefusal.{CallRefusal}
+use Rattle.session_flows.specs.declared.refusal.CallRefusal.TheVariants.{NoSession, Memory as NoMemoryToCall}
+use Rattle.introducer.specs.declared.refusal.RowRefusal.{RowRefusal}
+use Rattle.introducer.specs.declared.refusal.RowRefusal.TheVariants.{Memory as NoMemoryForRow}
 use Rattle.endpoint_model.specs.declared.answers.Stopped.{Stopped as Stop}
-use Rattle.endpoint_model.specs.Event.{Receive, Event}
-use Rattle.endpoint_model.specs.State.{State}
-use Rattle.endpoint_model.specs.Log.{Step as StepOf}
+use Rattle.endpoint_model.specs.Event.{Call, Receive, Answer, Began, Done, NotOpened, Refused as RefusedCall, NotAdded, OutOfMemory, Event}
+use Rattle.endpoint_model.specs.State.{State, at_moment, full}
+use Rattle.endpoint_model.specs.InSessions.{held_row}
+use Rattle.endpoint_model.specs.Effects.{candidates_refusal, start_refused, full_refused}
+use Rattle.endpoint_model.specs.Log.{Answers, Step as StepOf, not_opened}
+use Rattle.endpoint.specs.declared.call.Answered.{Answered}
+use Rattle.endpoint.specs.Calls.{moment_given as given_to, answer_of as told_by, Called}
 use Rattle.rendezvous_world.specs.declared.journal.Refused.{Refused}
+use Rattle.rendezvous_world.specs.declared.journal.Refused.TheVariants.{Open as OpenRefused, Call as CallRefused, Row as RowRefused}
 use Rattle.rendezvous_world.specs.declared.step.Step.{Step}
+use Rattle.rendezvous_world.specs.declared.step.DeedCall.{DeedCall}
+use Rattle.rendezvous_world.specs.declared.step.Source.{Source}
+use Rattle.rendezvous_world.specs.declared.step.Source.TheVariants.{Delivered, Turned, Injected, Sealed}
+use Rattle.rendezvous_world.specs.Deed.{StepCall, Opens, Cancels, Closes, CallsFlows, Introduces, Redirects, Ticks, Deed, Calls, deed_of}
 use Rattle.rendezvous_world.specs.Draws.{draws_of}
-use Rattle.rendezvous_world.specs.Entering.{event_by}
-use Rattle.rendezvous_world.specs.Calls.{answer_to_datagram}
+use Rattle.rendezvous_world.specs.Calls.{made, moment_in, number_started, answer_in, answer_to_datagram, IsDoneOrRefused, MayAnswer, LeavesUndone}
+use Rattle.rendezvous_world.specs.History.{call_by, moment_given, answer_by}
+use Rattle.rendezvous_world.specs.Stepping.{HasAnswer, HasItsAnswer}
+use Rattle.rendezvous_world.specs.Entering.{bringing, made_by, IsCallBy, IsCallOf, peer_by, event_by, refused_in, stopped_in, FoundNone, IsUndoneIn, IsUndone}
+
+-- ---- a call
+
+-- the moment that it is given
+moment_same : (call : StepCall) (print : List ℕ) (draws : Draws) (moment : ℕ) → given_to (made call print draws) moment ≡ moment_in moment call
+moment_same (Opens peer list) print draws moment = refl
+moment_same (Cancels n) print draws moment = refl
+moment_same (Closes near) print draws moment = refl
+moment_same (CallsFlows near call) print draws moment = refl
+moment_same Introduces print draws moment = refl
+moment_same (Redirects peer list) print draws moment = refl
+moment_same Ticks print draws moment = refl
+
+-- what a line tells of its answer says what it answered
+fits : (call : StepCall) (print : List ℕ) (draws : Draws) (s t : State) (answer : Answer) (entries : List Entry) → Answers s (made call print draws) answer entries t →
+    answer ≡ answer_in call (refused_in answer) (stopped_in answer) entries
+fits (Opens peer list) print draws s t (Began n) entries h = ap Began h.1 ∙ ap (λ (es : List Entry). Began (number_started es)) (sym h.2.entries)
+fits (Opens peer list) print draws s t (NotOpened refusal) entries h = refl
+fits (Opens peer list) print draws s t answer entries h = absurd h
+fits (Cancels n) print draws s t Done entries h = refl
+fits (Cancels n) print draws s t (RefusedCall refusal) entries h = refl
+fits (Cancels n) print draws s t answer entries h = absurd h
+fits (Closes near) print draws s t Done entries h = refl
+fits (Closes near) print draws s t (RefusedCall refusal) entries h = refl
+fits (Closes near) print draws s t answer entries h = absurd h
+fits (CallsFlows near call) print draws s t Done entries h = refl
+fits (CallsFlows near call) print draws s t (RefusedCall refusal) entries h = refl
+fits (CallsFlows near call) print draws s t answer entries h = absurd h
+fits Introduces print draws s t Done entries h = refl
+fits Introduces print draws s t answer entries h = absurd h
+fits (Redirects peer list) print draws s t Done entries h = refl
+fits (Redirects peer list) print draws s t (NotAdded refusal) entries h = refl
+fits (Redirects peer list) print draws s t answer entries h = absurd h
+fits Ticks print draws s t Done entries h = refl
+fits Ticks print draws s t OutOfMemory entries h = refl
+fits Ticks print draws s t answer entries h = absurd h
+
+no_refusal : IsDoneOrRefused None
+no_refusal = record { opened = λ e. absurd (cc); called = λ e. absurd (cc); added = λ e. absurd (cc) }
+
+not_opened_for : (refusal : OpenRefusal) → (refusal ≡ NoMemoryToOpen → ⊥) → IsDoneOrRefused (Some (OpenRefused refusal))
+not_opened_for refusal other = record { opened = λ e. other (cc); called = λ e. absurd (cc); added = λ e. absurd (cc) }
+
+not_called_for : (refusal : CallRefusal) → (refusal ≡ NoMemoryToCall → ⊥) → IsDoneOrRefused (Some (CallRefused refusal))
+not_called_for refusal other = record { opened = λ e. absurd (cc); called = λ e. other (cc); added = λ e. absurd (cc) }
+
+not_added_for : (refusal : RowRefusal) → (refusal ≡ NoMemoryForRow → ⊥) → IsDoneOrRefused (Some (RowRefused refusal))
+not_added_for refusal other = record { opened = λ e. absurd (cc); called = λ e. absurd (cc); added = λ e. other (cc) }
+
+-- where it wasn't refused for want of memory a line can tell it
+may : (call : StepCall) (print : List ℕ) (draws : Draws) (s t : State) (answer : Answer) (entries : List Entry) → Answers s (made call print draws) answer entries t → (FoundNone answer → ⊥) →
+    MayAnswer call (refused_in answer) (stopped_in answer)
+may (Opens peer list) print draws s t (Began n) entries h other = (refl, no_refusal)
+may (Opens peer list) print draws s t (NotOpened refusal) entries h other = (refl, not_opened_for refusal other)
+may (Opens peer list) print draws s t answer entries h other = absurd h
+may (Cancels n) print draws s t Done entries h other = (refl, no_refusal)
+may (Cancels n) print draws s t (RefusedCall refusal) entries h other = (refl, not_called_for refusal other)
+may (Cancels n) print draws s t answer entries h other = absurd h
+may (Closes near) print draws s t Done entries h other = (refl, no_refusal)
+may (Closes near) print draws s t (RefusedCall refusal) entries h other = (refl, not_called_for refusal other)
+may (Closes near) print draws s t answer entries h other = absurd h
+may (CallsFlows near call) print draws s t Done entries h other = (refl, no_refusal)
+may (CallsFlows near call) print draws s t (RefusedCall refusal) entries h other = (refl, not_called_for refusal other)
+may (CallsFlows near call) print draws s t answer entries h other = absurd h
+may Introduces print draws s t Done entries h other = (refl, refl)
+may Introduces print draws s t answer entries h other = absurd h
+may (Redirects peer list) print draws s t Done entries h other = (refl, no_refusal)
+may (Redirects peer list) print draws s t (NotAdded refusal) entries h other = (refl, not_added_for refusal other)
+may (Redirects peer list) print draws s t answer entries h other = absurd h
+may Ticks print draws s t Done entries h other = (refl, tt)
+may Ticks print draws s t OutOfMemory entries h other = (refl, refl)
+may Ticks print draws s t answer entries h other = absurd h
+
+-- ---- a call that found no memory
+
+at_zero : (s : State) → at_moment s 0 ≡ s
+at_zero s =
+    let same : max s.moment 0 ≡ s.moment = omega arith in
+    ap (λ (m : ℕ). record s { moment = m }) same
+
+no_other : (candidates : Option OpenRefusal) (start : Option StartRefusal) (limit : Option ℕ) → (candidates ≡ Some NoMemoryToOpen → ⊥) →
+    NoMemoryToOpen ≡ not_opened (first_that_stands (candidates ∷ start_refused start ∷ full_refused limit ∷ [])) → first_that_stands (candidates ∷ start_refused start ∷ full_refused limit ∷ []) ≡ None
+no_other None None None other e = refl
+no_other None None (Some limit) other e = absurd (cc)
+no_other None (Some refusal) limit other e = absurd (cc)
+no_other (Some refusal) start limit other e = absurd (other (ap (λ (x : OpenRefusal). Some x) (sym e)))
+
+never_memory : (b : Bool) (refusal : OpenRefusal) → (refusal ≡ NoMemoryToOpen → ⊥) → where_true b refusal ≡ Some NoMemoryToOpen → ⊥
+never_memory true refusal other e = other (cc)
+never_memory false refusal other e = absurd (cc)
+
+held_there : {A : Type 0} (o : Option A) → IfNone o (◌≡◌ {A = CallRefusal} NoMemoryToCall NoSession) → IsSome o
+held_there None e = absurd (cc)
+held_there (Some x) e = refl
+
+-- what it leaves; an open and a close have noted the moment
+left : (call : StepCall) (print : List ℕ) (draws : Draws) (moment : ℕ) (s t : State) (answer : Answer) (entries : List Entry) → Answers (at_moment s (moment_in moment call)) (made call print draws) answer entries t → FoundNone answer →
+    LeavesUndone print moment call s t
+left (Opens peer list) print draws moment s t (NotOpened refusal) entries h none =
+    (no_other (candidates_refusal (length list)) (start_refusal s.startup.ledger print) (full s) (never_memory ((length list == 0) || nat_lt 16 (length list)) (Candidates (length list)) (λ e. absurd (cc))) (sym none ∙ h.0), h.1.state)
+left (Opens peer list) print draws moment s t (Began n) entries h none = absurd none
+left (Opens peer list) print draws moment s t answer entries h none = absurd h
+left (Cancels n) print draws moment s t (RefusedCall refusal) entries h none = h.2.state ∙ at_zero s
+left (Cancels n) print draws moment s t Done entries h none = absurd none
+left (Cancels n) print draws moment s t answer entries h none = absurd h
+left (Closes near) print draws moment s t (RefusedCall refusal) entries h none =
+    (held_there (held_row s near) (subst (λ (r : CallRefusal). IfNone (held_row s near) (r ≡ NoSession)) none h.0), h.2.state)
+left (Closes near) print draws moment s t Done entries h none = absurd none
+left (Closes near) print draws moment s t answer entries h none = absurd h
+left (CallsFlows near call) print draws moment s t (RefusedCall refusal) entries h none = h.1.state ∙ at_zero s
+left (CallsFlows near call) print draws moment s t Done entries h none = absurd none
+left (CallsFlows near call) print draws moment s t answer entries h none = absurd h
+left Introduces print draws moment s t Done entries h none = absurd none
+left Introduces print draws moment s t answer entries h none = absurd h
+left (Redirects peer list) print draws moment s t (NotAdded refusal) entries h none = h.1.state ∙ at_zero s
+left (Redirects peer list) print draws moment s t Done entries h none = absurd none
+left (Redirects peer list) print draws moment s t answer entries h none = absurd h
+left Ticks print draws moment s t Done entries h none = absurd none
+left Ticks print draws moment s t OutOfMemory entries h none = absurd none
+left Ticks print draws moment s t answer entries h none = absurd h
+
+-- ---- the step that makes it
+
+-- what a call did whose outbox was empty
+did_alone : (s t : State) (moment : ℕ) (call : StepCall) (print : List ℕ) (draws : Draws) (answered : Answered) (before after : Added) → before.entries ≡ [] → Called s moment (made call print draws) answered t before after →
+    Answers (at_moment s (moment_in moment call)) (made call print draws) (told_by answered) after.entries t
+did_alone s t moment call print draws answered before after empty did =
+    let same : did.entries ≡ after.entries = sym (did.added.entries_are ∙ ap (λ (es : List Entry). es ++ did.entries) empty) in
+    subst (λ (es : List Entry). Answers (at_moment s (moment_in moment call)) (made call print draws) (told_by answered) es t) same
+    (subst (λ (m : ℕ). Answers (at_moment s m) (made call print draws) (told_by answered) did.entries t) (moment_same call print draws moment) did.answers)
+
+-- the call of a step, what it answered, and what an end did by it
+pub record IsCallDone (s t : State) (end line moment : ℕ) (by : DeedCall) (print : List ℕ) (deed : Deed) (answered : Answered) (before after : Added) : Type 0 where
+  pub is : IsCallBy end by deed
+  pub empty : before.entries ≡ []
+  pub called : Called s moment (made_by by print (draws_of line)) answered t before after
+
+deed_event : (s t : State) (end line moment : ℕ) (by : DeedCall) (print bytes : List ℕ) (deed : Deed) (answered : Answered) (before after : Added) (refused : Option Refused) (stopped : Option Stop) →
+    IsCallDone s t end line moment by print deed answered before after → refused ≡ refused_in (told_by answered) → stopped ≡ stopped_in (told_by answered) →
+    Answers (at_moment s (moment_given moment deed)) (call_by print line bytes deed) (answer_by deed refused stopped after.entries) after.entries t
+deed_event s t end line moment by print bytes (Calls who call) answered before after refused stopped done r p =
+    let did : Called s moment (made call print (draws_of line)) answered t before after =
+    subst (λ (c : Call). Called s moment c answered t before after) (sym (done.is.1.same print (draws_of line))) done.called in
+    let alone : Answers (at_moment s (moment_in moment call)) (made call print (draws_of line)) (told_by answered) after.entries t =
+    did_alone s t moment call print (draws_of line) answered before after done.empty did in
+    let told : told_by answered ≡ answer_in call refused stopped after.entries =
+    fits call print (draws_of line) (at_moment s (moment_in moment call)) t (told_by answered) after.entries alone
+    ∙ ap (λ (o : Option Refused). answer_in call o (stopped_in (told_by answered)) after.entries) (sym r)
+    ∙ ap (λ (o : Option Stop). answer_in call refused o after.entries) (sym p) in
+    subst (λ (a : Answer). Answers (at_moment s (moment_in moment call)) (made call print (draws_of line)) a after.entries t) told alone
+deed_event s t end line moment by print bytes deed answered before after refused stopped done r p = absurd done.is
+
+deed_may : (s t : State) (end line moment : ℕ) (by : DeedCall) (print : List ℕ) (deed : Deed) (answered : Answered) (before after : Added) (refused : Option Refused) (stopped : Option Stop) →
+    IsCallDone s t end line moment by print deed answered before after → refused ≡ refused_in (told_by answered) → stopped ≡ stopped_in (told_by answered) → (FoundNone (told_by answered) → ⊥) → HasAnswer deed refused stopped
+deed_may s t end line moment by print (Calls who call) answered before after refused stopped done r p other =
+    let did : Called s moment (made call print (draws_of line)) answered t before after =
+    subst (λ (c : Call). Called s moment c answered t before after) (sym (done.is.1.same print (draws_of line))) done.called in
+    let told : MayAnswer call (refused_in (told_by answered)) (stopped_in (told_by answered)) =
+    may call print (draws_of line) (at_moment s (moment_in moment call)) t (told_by answered) after.entries (did_alone s t moment call print (draws_of line) answered before after done.empty did) other in
+    subst (λ (o : Option Refused). MayAnswer call o stopped) (sym r) (subst (λ (o : Option Stop). MayAnswer call (refused_in (told_by answered)) o) (sym p) told)
+deed_may s t end line moment by print deed answered before after refused stopped done r p other = absurd done.is
+
+deed_left : (s t : State) (end line moment : ℕ) (by : DeedCall) (print : List ℕ) (deed : Deed) (answered : Answered) (before after : Added) →
+    IsCallDone s t end line moment by print deed answered before after → FoundNone (told_by answered) → IsUndoneIn print moment deed s t
+deed_left s t end line moment by print (Calls who call) answered before after done none =
+    let did : Called s moment (made call print (draws_of line)) answered t before after =
+    subst (λ (c : Call). Called s moment c answered t before after) (sym (done.is.1.same print (draws_of line))) done.called in
+    left call print (draws_of line) moment s t (told_by answered) after.entries (did_alone s t moment call print (draws_of line) answered before after done.empty did) none
+deed_left s t end line moment by print deed answered before after done none = absurd done.is
+
+pub called_event : (s t : State) (end line moment : ℕ) (by : DeedCall) (print bytes : List ℕ) (step : Step) (answered : Answered) (before after : Added) (refused : Option Refused) (stopped : Option Stop) →
+    IsCallDone s t end line moment by print (deed_of step) answered before after → refused ≡ refused_in (told_by answered) → stopped ≡ stopped_in (told_by answered) →
+    StepOf s (event_by print line moment step bytes refused stopped after.entries) t
+called_event s t end line moment by print bytes step answered before after refused stopped done r p = deed_event s t end line moment by print bytes (deed_of step) answered before after refused stopped done r p
+
+pub called_may : (s t : State) (end line moment : ℕ) (by : DeedCall) (print : List ℕ) (step : Step) (answered : Answered) (before after : Added) (refused : Option Refused) (stopped : Option Stop) →
+    IsCallDone s t end line moment by print (deed_of step) answered before after → refused ≡ refused_in (told_by answered) → stopped ≡ stopped_in (told_by answered) → (FoundNone (told_by answered) → ⊥) → HasItsAnswer step refused stopped
+called_may s t end line moment by print step answered before after refused stopped done r p other = deed_may s t end line moment by print (deed_of step) answered before after refused stopped done r p other
+
+pub called_left : (s t : State) (end line moment : ℕ) (by : DeedCall) (print : List ℕ) (step : Step) (answered : Answered) (before after : Added) →
+    IsCallDone s t end line moment by print (deed_of step) answered before after → FoundNone (told_by answered) → IsUndone print moment step s t
+called_left s t end line moment by print step answered before after done none = deed_left s t end line moment by print (deed_of step) answered before after done none
+
+-- the call names the end that the deed names
+pub call_is : (end : ℕ) (by : DeedCall) (peer : Option ℕ) (deed : Deed) → IsCallBy end by deed → peer ≡ peer_by by → IsCallOf end peer deed
+call_is end by peer (Calls who call) is same = (is.0, is.1.peer ∙ sym same)
+call_is end by peer deed is same = absurd is
+
+-- ---- a datagram
+
+same_event : (print : List ℕ) (line moment end : ℕ) (from : AddressParts) (source : Source) (bytes : List ℕ) (refused : Option Refused) (stopped : Option Stop) (entries : List Entry) →
+    event_by print line moment (bringing end from source) bytes refused stopped entries ≡ record { moment = moment; call = Receive from bytes (draws_of line); answer = answer_to_datagram stopped; entries = entries }
+same_event print line moment end from (Delivered number) bytes refused stopped entries = refl
+same_event print line moment end from (Turned number place) bytes refused stopped entries = refl
+same_event print line moment end from (Injected injected) bytes refused stopped entries = refl
+same_event print line moment end from (Sealed plain) bytes refused stopped entries = refl
 
 -- the event of a step that brings a datagram
-pub brought : (s t : State) (print : List ℕ) (line moment : ℕ) (step brings : Step) (from : AddressParts) (bytes : List ℕ) (draws : Draws) (refused : Option Refused) (stopped : Option Stop) (entries : List Entry) →
-    step ≡ brings → draws ≡ draws_of line →
-    event_by print line moment brings bytes refused stopped entries ≡ record { moment = moment; call = Receive from bytes (draws_of line); answer = answer_to_datagram stopped; entries = entries } →
-    StepOf s (record { moment = moment; call = Receive from bytes draws; answer = answer_to_datagram stopped; entries = entries }) t → StepOf s (event_by print line moment step bytes refused stopped entries) t
-brought s t print line moment step brings from bytes draws refused stopped entries is drawn same event =
+pub brought : (s t : State) (print : List ℕ) (line moment : ℕ) (step : Step) (end : ℕ) (from : AddressParts) (source : Source) (bytes : List ℕ) (draws : Draws) (refused : Option Refused) (stopped : Option Stop) (entries : List Entry) →
+    step ≡ bringing end from source → draws ≡ draws_of line → StepOf s (record { moment = moment; call = Receive from bytes draws; answer = answer_to_datagram stopped; entries = entries }) t → StepOf s (event_by print line moment step bytes refused stopped entries) t
+brought s t print line moment step end from source bytes draws refused stopped entries is drawn event =
     let here : StepOf s (record { moment = moment; call = Receive from bytes (draws_of line); answer = answer_to_datagram stopped; entries = entries }) t =
     subst (λ (d : Draws). StepOf s (record { moment = moment; call = Receive from bytes d; answer = answer_to_datagram stopped; entries = entries }) t) drawn event in
-    subst (λ (x : Step). StepOf s (event_by print line moment x bytes refused stopped entries) t) (sym is) (subst (λ (e : Event). StepOf s e t) (sym same) here)
+    subst (λ (x : Step). StepOf s (event_by print line moment x bytes refused stopped entries) t) (sym is) (subst (λ (e : Event). StepOf s e t) (sym (same_event print line moment end from source bytes refused stopped entries)) here)

@@ -33,6 +33,7 @@ use Rattle.rendezvous_world.specs.Seen.{EndSeen, Seen}
 use Rattle.rendezvous_world.specs.Same.{AreSameWorlds, without_room}
 use Rattle.rendezvous_world.specs.Sent.{Sent, sent_among, sent_in}
 use Rattle.rendezvous_world.specs.Datagrams.{datagram_of}
+use Rattle.rendezvous_world.specs.Entering.{refused_in}
 use Rattle.rendezvous_world.specs.History.{answer_by, answer_of, call_of, event_of, moment_given}
 use Rattle.rendezvous_world.specs.Stepping.{Called, HasAnswer, HasItsAnswer, SteppedAs, Stepped, new_end, new_setup, with_end, with_moment, with_state}
 
@@ -210,21 +211,13 @@ whole (Brings end from source) refused stopped entries h none = brought_whole st
 whole deed refused stopped entries h none = absurd h
 
 -- why a call was refused, by its answer
-refused_in : Answer → Option Refused
-refused_in (NotOpened refusal) = Some (OpenRefused refusal)
-refused_in (RefusedCall refusal) = Some (CallRefused refusal)
-refused_in (NotAdded refusal) = Some (RowRefused refusal)
-refused_in answer = None
-
 called_for : (refused : Option Refused) → refused_in (answer_to_call refused) ≡ refused
-unfolding refused_in
 called_for None = refl
 called_for (Some (OpenRefused refusal)) = refl
 called_for (Some (CallRefused refusal)) = refl
 called_for (Some (RowRefused refusal)) = refl
 
 opened_for : (refused : Option Refused) (entries : List Entry) → refused_in (answer_to_open refused entries) ≡ refused
-unfolding refused_in
 opened_for None entries = refl
 opened_for (Some (OpenRefused refusal)) entries = refl
 opened_for (Some (CallRefused refusal)) entries = refl

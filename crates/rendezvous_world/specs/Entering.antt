@@ -4,22 +4,31 @@ use Rattle.endpoint_model.specs.declared.entry.Entry.{Entry}
 use Rattle.endpoint_model.specs.declared.answers.Stopped.{Stopped as Stop}
 use Rattle.endpoint_laws.specs.Laws.{AreBytes}
 use Rattle.endpoint_model.specs.State.{State}
-use Rattle.endpoint_model.specs.Event.{Event}
+use Rattle.endpoint_model.specs.declared.config.Draws.{Draws}
+use Rattle.endpoint_model.specs.declared.answers.OpenRefusal.TheVariants.{Memory as NoMemoryToOpen}
+use Rattle.session_flows.specs.declared.refusal.CallRefusal.TheVariants.{Memory as NoMemoryToCall}
+use Rattle.introducer.specs.declared.refusal.RowRefusal.TheVariants.{Memory as NoMemoryForRow}
+use Rattle.endpoint_model.specs.Event.{Call, Open as OpenCall, AddRow, Answer, NotOpened, Refused as RefusedCall, NotAdded, Stopped, OutOfMemory, Event}
+use Rattle.endpoint_model.specs.Log.{not_taken}
+use Rattle.endpoint.specs.Calls.{call_of}
 use Rattle.rendezvous_world.specs.declared.bringing.Fetched.{Fetched}
 use Rattle.rendezvous_world.specs.declared.bringing.Fetched.TheVariants.{Missing, Forged as IsForged, Sent as IsSent}
 use Rattle.rendezvous_world.specs.declared.journal.JournalLine.{JournalLine}
 use Rattle.rendezvous_world.specs.declared.journal.Refused.{Refused}
+use Rattle.rendezvous_world.specs.declared.journal.Refused.TheVariants.{Open as OpenRefused, Call as CallRefused, Row as RowRefused}
 use Rattle.rendezvous_world.specs.declared.step.Step.{Step}
 use Rattle.rendezvous_world.specs.declared.step.Step.TheVariants.{End, At, Deliver, Bent, Inject, Forge}
 use Rattle.rendezvous_world.specs.declared.step.Deed.{Deed as DeedTaken}
 use Rattle.rendezvous_world.specs.declared.step.Deed.TheVariants.{NewEnd as NewEndBy, NewMoment as NewMomentBy, Call as CallBy, Bring as BringBy}
+use Rattle.rendezvous_world.specs.declared.step.DeedCall.{DeedCall}
+use Rattle.rendezvous_world.specs.declared.step.DeedCall.TheVariants.{Open as OpenBy, AddRow as AddRowBy, Plain as PlainBy}
 use Rattle.rendezvous_world.specs.declared.step.Source.{Source as SourceTaken}
 use Rattle.rendezvous_world.specs.declared.step.Source.TheVariants.{Delivered as DeliveredBy, Turned as TurnedBy, Injected as InjectedBy, Sealed as SealedBy}
 use Rattle.rendezvous_world.specs.declared.step.StepFault.{StepFault}
 use Rattle.rendezvous_world.specs.declared.step.StepFault.TheVariants.{Forged, Memory}
 use Rattle.rtmfp_forms.specs.Address.{AddressParts}
-use Rattle.rendezvous_world.specs.Deed.{Deed, Calls, deed_of, IsCalling}
-use Rattle.rendezvous_world.specs.Calls.{peer_in, LeavesUndone}
+use Rattle.rendezvous_world.specs.Deed.{StepCall, Deed, Calls, deed_of, IsCalling}
+use Rattle.rendezvous_world.specs.Calls.{made, peer_in, LeavesUndone}
 use Rattle.rendezvous_world.specs.Seen.{Seen}
 use Rattle.rendezvous_world.specs.Sent.{Sent, sent_in}
 use Rattle.rendezvous_world.specs.Datagrams.{datagram_of}
@@ -40,6 +49,28 @@ abbrev pub IsCallOf : ℕ → Option ℕ → Deed → Type 0
 IsCallOf end peer (Calls who call) = (who ≡ end) × (peer_in call ≡ peer)
 IsCallOf end peer deed = ⊥
 
+-- the call as an end is called with it, by the fingerprint of the end that it names, and by its
+-- draws
+abbrev pub made_by : DeedCall → List ℕ → Draws → Call
+made_by (OpenBy peer list) print draws = OpenCall print list.now draws
+made_by (AddRowBy peer list) print draws = AddRow print list.now
+made_by (PlainBy call) print draws = call_of call draws
+
+-- the end that it names
+abbrev pub peer_by : DeedCall → Option ℕ
+peer_by (OpenBy peer list) = Some peer
+peer_by (AddRowBy peer list) = Some peer
+peer_by (PlainBy call) = None
+
+-- This is the call that a step makes.
+pub record IsMadeBy (by : DeedCall) (call : StepCall) : Type 0 where
+  pub peer : peer_in call ≡ peer_by by
+  pub same : (print : List ℕ) (draws : Draws) → made call print draws ≡ made_by by print draws
+
+abbrev pub IsCallBy : ℕ → DeedCall → Deed → Type 0
+IsCallBy end by (Calls who call) = (who ≡ end) × IsMadeBy by call
+IsCallBy end by deed = ⊥
+
 -- the step that brings a datagram which is had so
 abbrev pub bringing : ℕ → AddressParts → SourceTaken → Step
 bringing end from (DeliveredBy number) = Deliver number end from
@@ -52,7 +83,7 @@ abbrev pub IsDeed : Step → DeedTaken → Type 0
 IsDeed step (NewEndBy name max_peers max_sessions cert) =
     step ≡ End name.now max_peers max_sessions cert.now
 IsDeed step (NewMomentBy moment) = step ≡ At moment
-IsDeed step (CallBy end peer) = IsCallOf end peer (deed_of step)
+IsDeed step (CallBy end by) = IsCallBy end by (deed_of step)
 IsDeed step (BringBy end from source) = step ≡ bringing end from.now source
 
 abbrev pub event_by : List ℕ → ℕ → ℕ → Step → List ℕ → Option Refused → Option Stop → List Entry →
@@ -71,6 +102,28 @@ IsUndoneIn print moment deed old new = ⊥
 
 abbrev pub IsUndone : List ℕ → ℕ → Step → State → State → Type 0
 IsUndone print moment step old new = IsUndoneIn print moment (deed_of step) old new
+
+-- ---- its answer
+
+-- why a call was refused
+abbrev pub refused_in : Answer → Option Refused
+refused_in (NotOpened refusal) = Some (OpenRefused refusal)
+refused_in (RefusedCall refusal) = Some (CallRefused refusal)
+refused_in (NotAdded refusal) = Some (RowRefused refusal)
+refused_in answer = None
+
+-- how far it came, if it was stopped
+abbrev pub stopped_in : Answer → Option Stop
+stopped_in (Stopped stop) = Some stop
+stopped_in OutOfMemory = Some not_taken
+stopped_in answer = None
+
+-- It was refused for want of memory.
+abbrev pub FoundNone : Answer → Type 0
+FoundNone (NotOpened refusal) = refusal ≡ NoMemoryToOpen
+FoundNone (RefusedCall refusal) = refusal ≡ NoMemoryToCall
+FoundNone (NotAdded refusal) = refusal ≡ NoMemoryForRow
+FoundNone answer = ⊥
 
 -- ---- its line
 

@@ -4,12 +4,12 @@ use Rattle.rtmfp_forms.specs.Address.{AddressParts}
 use Rattle.endpoint_model.specs.Added.{Added}
 use Rattle.endpoint_model.specs.declared.answers.Stopped.{Stopped as Stop}
 use Rattle.rendezvous_world.specs.declared.journal.Refused.{Refused}
-use Rattle.rendezvous_world.specs.declared.journal.Answered.{Answered}
-use Rattle.rendezvous_world.specs.declared.journal.Answered.TheVariants.{Refused as IsRefused, Stopped as IsStopped}
+use Rattle.rendezvous_world.specs.declared.journal.LineAnswer.{LineAnswer}
+use Rattle.rendezvous_world.specs.declared.journal.LineAnswer.TheVariants.{Refused as IsRefused, Stopped as IsStopped}
 use Rattle.rendezvous_world.specs.declared.kept.KeptStep.{KeptStep}
-use Rattle.rendezvous_world.specs.declared.kept.KeptStep.TheVariants.{Open as KeptOpen, Cancel as KeptCancel, Close as KeptClose, Flow as KeptFlow, Queue as KeptQueue, Abandon as KeptAbandon, Finish as KeptFinish, Introduce as KeptIntroduce, Redirect as KeptRedirect, Deliver as KeptDeliver, Bent as KeptBent, Inject as KeptInject, Forge as KeptForge, Tick as KeptTick}
+use Rattle.rendezvous_world.specs.declared.kept.KeptStep.TheVariants.{Deliver as KeptDeliver, Inject as KeptInject, Tick as KeptTick, Other as KeptOther}
 use Rattle.rendezvous_world.specs.declared.step.Step.{Step}
-use Rattle.rendezvous_world.specs.declared.step.Step.TheVariants.{Introduce, Redirect, Open, Cancel, Close, Flow, Queue, Abandon, Finish, Deliver, Bent, Inject, Forge, Tick}
+use Rattle.rendezvous_world.specs.declared.step.Step.TheVariants.{Deliver, Inject, Tick}
 
 -- A step that called an end.
 pub record LineSeen : Type 0 where
@@ -39,22 +39,10 @@ inject_kept end from (Some bytes) = Inject end from bytes
 
 -- the step that called this end, on a line with this datagram
 abbrev pub step_kept : ℕ → Option (List ℕ) → KeptStep → Step
-step_kept end datagram (KeptOpen peer list) = Open end peer list
-step_kept end datagram (KeptCancel n) = Cancel end n
-step_kept end datagram (KeptClose near) = Close end near
-step_kept end datagram (KeptFlow kept) =
-    Flow end kept.value.near kept.value.priority kept.value.metadata kept.value.answers
-step_kept end datagram (KeptQueue kept) =
-    Queue end kept.value.near kept.value.flow kept.value.options kept.value.message
-step_kept end datagram (KeptAbandon near flow seq) = Abandon end near flow seq
-step_kept end datagram (KeptFinish near flow) = Finish end near flow
-step_kept end datagram KeptIntroduce = Introduce end
-step_kept end datagram (KeptRedirect peer list) = Redirect end peer list
 step_kept end datagram (KeptDeliver from number) = Deliver number end from
-step_kept end datagram (KeptBent from place number) = Bent number place end from
 step_kept end datagram (KeptInject from) = inject_kept end from datagram
-step_kept end datagram (KeptForge from plain) = Forge end from plain.value
 step_kept end datagram KeptTick = Tick end
+step_kept end datagram (KeptOther step) = step.value
 
 -- The datagram is the one that the step injects; of other steps it says nothing.
 abbrev pub IsWith : Option (List ℕ) → Step → Type 0
@@ -67,11 +55,11 @@ IsKeptAs end step kept = (datagram : Option (List ℕ)) → IsWith datagram step
     step_kept end datagram kept ≡ step
 
 -- why a call was refused, by what is kept of its answer
-abbrev pub refused_kept : Answered → Option Refused
+abbrev pub refused_kept : LineAnswer → Option Refused
 refused_kept (IsRefused refusal) = Some refusal
 refused_kept answer = None
 
 -- how far it came, if it was stopped
-abbrev pub stopped_kept : Answered → Option Stop
+abbrev pub stopped_kept : LineAnswer → Option Stop
 stopped_kept (IsStopped stop) = Some stop
 stopped_kept answer = None

@@ -2,13 +2,13 @@
 
 ghost use Rattle.std.specs.Prelude.{◌≡◌, ◌<◌, ◌^◌, ◌++◌, ◌∷◌, [], IfOk, OnOk, get_or, length, vec_capacity, vec_len};
 ghost use Rattle.rendezvous_world.specs.Deed.{deed_of};
-ghost use Rattle.rendezvous_world.specs.Entering.{CallsAnEnd, IsEntered, IsEntering, answered};
+ghost use Rattle.rendezvous_world.specs.Entering.{IsEntered, IsEntering, answered};
 ghost use Rattle.rendezvous_world.specs.History.{peer_of};
 ghost use Rattle.rendezvous_world.specs.Line.{IsKeptAs, refused_kept, step_kept, stopped_kept};
 ghost use Rattle.rendezvous_world.specs.Stepping.{called_by};
 
 use crate::calls::call_end;
-use crate::journal::{Answered, JournalLine};
+use crate::journal::{JournalLine, LineAnswer};
 use crate::kept::{KeptStep, in_32_bits};
 use crate::sent::count_among;
 use crate::step::{Step, StepFault};
@@ -51,8 +51,7 @@ fn make_ready(
     lines: &mut Vec<JournalLine>,
     starts: &mut Vec<u128>,
 ) -> Result<Ready, Memory>
-    requires calls { CallsAnEnd step.now }
-    requires called { called_by step.now ≡ end }
+    requires { called_by step.now ≡ end }
     ensures lines { lines.new.items ≡ lines.old.items }
     ensures starts { starts.new.items ≡ starts.old.items }
     ensures room { OnOk result (vec_len lines.new < vec_capacity lines.new) }
@@ -102,7 +101,7 @@ fn line_of(
     moment: u64,
     step: KeptStep,
     datagram: Option<Message>,
-    answer: Answered,
+    answer: LineAnswer,
     out: Outbox,
 ) -> JournalLine
     requires { line < 2 ^ 32 }

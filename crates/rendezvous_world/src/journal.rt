@@ -21,19 +21,19 @@ pub enum Refused {
 
 /// What the call of a line answered, beside what it gave.
 #[derive(Clone, Copy)]
-pub(crate) enum Answered {
+pub(crate) enum LineAnswer {
     Done,
     Refused(Refused),
     Stopped(Stopped),
 }
 
-impl Answered {
+impl LineAnswer {
     /// Whether the call was stopped.
     pub(crate) fn is_stopped(&self) -> bool
         ensures { result ≡ is_some (stopped_kept self.now) }
     {
         match self {
-            Answered::Stopped(_) => true,
+            LineAnswer::Stopped(_) => true,
             _ => false,
         }
     }
@@ -52,7 +52,7 @@ pub struct JournalLine {
     pub(crate) moment: u64,
     pub(crate) step: KeptStep,
     pub(crate) datagram: Option<Message>,
-    pub(crate) answer: Answered,
+    pub(crate) answer: LineAnswer,
     pub(crate) out: Outbox,
 }
 
@@ -109,7 +109,7 @@ impl JournalLine {
         ensures { result ≡ self.now.refused }
     {
         match self.answer {
-            Answered::Refused(refusal) => Some(refusal),
+            LineAnswer::Refused(refusal) => Some(refusal),
             _ => None,
         }
     }
@@ -118,7 +118,7 @@ impl JournalLine {
         ensures { result ≡ self.now.stopped }
     {
         match self.answer {
-            Answered::Stopped(stop) => Some(stop),
+            LineAnswer::Stopped(stop) => Some(stop),
             _ => None,
         }
     }

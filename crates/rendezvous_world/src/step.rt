@@ -1,9 +1,9 @@
 //! The steps of a script, what each does, and why one is refused.
 
 ghost use Rattle.std.specs.Prelude.{◌≡◌, IfOk};
-ghost use Rattle.rendezvous_world.specs.Entering.{IsDeed};
+ghost use Rattle.rendezvous_world.specs.Entering.{IsDeed, peer_by};
 
-use endpoint::MessageOptions;
+use endpoint::{EndCall, MessageOptions};
 use identity::Certificate;
 use rtmfp_base::{Memory, Message};
 use rtmfp_forms::Address;
@@ -169,6 +169,28 @@ pub(crate) enum Source<'a> {
     Sealed(&'a Message),
 }
 
+/// The call that a step makes. An open and a row name another end by its number.
+#[derive(Drop)]
+pub(crate) enum DeedCall<'a> {
+    Open(usize, &'a Addresses),
+    AddRow(usize, &'a Addresses),
+    /// A call that names no other end.
+    Plain(EndCall<'a>),
+}
+
+impl DeedCall<'_> {
+    /// The number of the other end, if the call names one.
+    pub(crate) fn peer(&self) -> Option<usize>
+        ensures { result ≡ peer_by self.now }
+    {
+        match self {
+            DeedCall::Open(peer, _) => Some(*peer),
+            DeedCall::AddRow(peer, _) => Some(*peer),
+            DeedCall::Plain(_) => None,
+        }
+    }
+}
+
 /// What a step does.
 #[derive(Drop)]
 pub(crate) enum Deed<'a> {
@@ -179,15 +201,120 @@ pub(crate) enum Deed<'a> {
         cert: &'a Certificate,
     },
     NewMoment(u64),
-    /// The end with this number makes a call, which may name a peer by its number.
-    Call(usize, Option<usize>),
+    /// The end with this number makes a call.
+    Call(usize, DeedCall<'a>),
     /// A datagram reaches the end with this number from an address.
     Bring(usize, &'a Address, Source<'a>),
 }
 
 impl Step {
+    /// The same step again.
+    pub(crate) fn again(&self, alloc: Global) -> Result<Step, Memory>
+        ensures { IfOk result (λ step. step ≡ self.now) }
+    {
+        Ok(match self {
+            Step::End {
+                name,
+                max_peers,
+                max_sessions,
+                cert,
+            } => Step::End {
+                name: name.again(),
+                max_peers: *max_peers,
+                max_sessions: *max_sessions,
+                cert: *cert,
+            },
+            Step::At { moment } => Step::At { moment: *moment },
+            Step::Open { end, peer, list } => Step::Open {
+                end: *end,
+                peer: *peer,
+                list: list.copy(alloc)?,
+            },
+            Step::Cancel { end, n } => Step::Cancel { end: *end, n: *n },
+            Step::Close { end, near } => Step::Close {
+                end: *end,
+                near: *near,
+            },
+            Step::Flow {
+                end,
+                near,
+                priority,
+                metadata,
+                answers,
+            } => Step::Flow {
+                end: *end,
+                near: *near,
+                priority: *priority,
+                metadata: Message::copy_of(alloc, metadata.bytes())?,
+                answers: *answers,
+            },
+            Step::Queue {
+                end,
+                near,
+                flow,
+                options,
+                message,
+            } => Step::Queue {
+                end: *end,
+                near: *near,
+                flow: *flow,
+                options: *options,
+                message: Message::copy_of(alloc, message.bytes())?,
+            },
+            Step::Abandon {
+                end,
+                near,
+                flow,
+                seq,
+            } => Step::Abandon {
+                end: *end,
+                near: *near,
+                flow: *flow,
+                seq: *seq,
+            },
+            Step::Finish { end, near, flow } => Step::Finish {
+                end: *end,
+                near: *near,
+                flow: *flow,
+            },
+            Step::Introduce { end } => Step::Introduce { end: *end },
+            Step::Redirect { end, peer, list } => Step::Redirect {
+                end: *end,
+                peer: *peer,
+                list: list.copy(alloc)?,
+            },
+            Step::Deliver { number, end, from } => Step::Deliver {
+                number: *number,
+                end: *end,
+                from: *from,
+            },
+            Step::Bent {
+                number,
+                place,
+                end,
+                from,
+            } => Step::Bent {
+                number: *number,
+                place: *place,
+                end: *end,
+                from: *from,
+            },
+            Step::Inject { end, from, bytes } => Step::Inject {
+                end: *end,
+                from: *from,
+                bytes: Message::copy_of(alloc, bytes.bytes())?,
+            },
+            Step::Forge { end, from, plain } => Step::Forge {
+                end: *end,
+                from: *from,
+                plain: Message::copy_of(alloc, plain.bytes())?,
+            },
+            Step::Tick { end } => Step::Tick { end: *end },
+        })
+    }
+
     /// What the step does. Steps are told apart here; what else is done with them goes by their
-    /// deeds, but that a call is made and kept by its step.
+    /// deeds, but that a line of the journal keeps the step.
     pub(crate) fn deed(&self) -> Deed<'_>
         ensures { IsDeed self.now result }
     {
@@ -204,15 +331,64 @@ impl Step {
                 cert,
             },
             Step::At { moment } => Deed::NewMoment(*moment),
-            Step::Open { end, peer, .. } => Deed::Call(*end, Some(*peer)),
-            Step::Cancel { end, .. } => Deed::Call(*end, None),
-            Step::Close { end, .. } => Deed::Call(*end, None),
-            Step::Flow { end, .. } => Deed::Call(*end, None),
-            Step::Queue { end, .. } => Deed::Call(*end, None),
-            Step::Abandon { end, .. } => Deed::Call(*end, None),
-            Step::Finish { end, .. } => Deed::Call(*end, None),
-            Step::Introduce { end } => Deed::Call(*end, None),
-            Step::Redirect { end, peer, .. } => Deed::Call(*end, Some(*peer)),
+            Step::Open { end, peer, list } => Deed::Call(*end, DeedCall::Open(*peer, list)),
+            Step::Cancel { end, n } => Deed::Call(*end, DeedCall::Plain(EndCall::Cancel { n: *n })),
+            Step::Close { end, near } => Deed::Call(
+                *end,
+                DeedCall::Plain(EndCall::Close { near: *near }),
+            ),
+            Step::Flow {
+                end,
+                near,
+                priority,
+                metadata,
+                answers,
+            } => Deed::Call(
+                *end,
+                DeedCall::Plain(EndCall::OpenFlow {
+                    near: *near,
+                    priority: *priority,
+                    metadata: metadata.bytes(),
+                    answers: *answers,
+                }),
+            ),
+            Step::Queue {
+                end,
+                near,
+                flow,
+                options,
+                message,
+            } => Deed::Call(
+                *end,
+                DeedCall::Plain(EndCall::Queue {
+                    near: *near,
+                    flow: *flow,
+                    message: message.bytes(),
+                    options: *options,
+                }),
+            ),
+            Step::Abandon {
+                end,
+                near,
+                flow,
+                seq,
+            } => Deed::Call(
+                *end,
+                DeedCall::Plain(EndCall::Abandon {
+                    near: *near,
+                    flow: *flow,
+                    seq: *seq,
+                }),
+            ),
+            Step::Finish { end, near, flow } => Deed::Call(
+                *end,
+                DeedCall::Plain(EndCall::Finish {
+                    near: *near,
+                    flow: *flow,
+                }),
+            ),
+            Step::Introduce { end } => Deed::Call(*end, DeedCall::Plain(EndCall::Introduce)),
+            Step::Redirect { end, peer, list } => Deed::Call(*end, DeedCall::AddRow(*peer, list)),
             Step::Deliver { number, end, from } => {
                 Deed::Bring(*end, from, Source::Delivered(*number))
             }
@@ -224,7 +400,7 @@ impl Step {
             } => Deed::Bring(*end, from, Source::Turned(*number, *place)),
             Step::Inject { end, from, bytes } => Deed::Bring(*end, from, Source::Injected(bytes)),
             Step::Forge { end, from, plain } => Deed::Bring(*end, from, Source::Sealed(plain)),
-            Step::Tick { end } => Deed::Call(*end, None),
+            Step::Tick { end } => Deed::Call(*end, DeedCall::Plain(EndCall::Tick)),
         }
     }
 }

@@ -143,7 +143,7 @@ impl World {
                 cert,
             } => self.add_end(line, name, max_peers, max_sessions, cert),
             Deed::NewMoment(moment) => self.set_moment(line, moment),
-            Deed::Call(end, peer) => self.call(line, end, peer, step),
+            Deed::Call(end, call) => self.call(line, end, call.peer(), step),
             Deed::Bring(end, from, source) => self.bring_by(line, end, from, &source, step),
         }
     }
