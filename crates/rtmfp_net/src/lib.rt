@@ -5,6 +5,7 @@
 mod generator;
 mod places;
 mod program_spawner;
+mod running;
 mod system_clock;
 mod udp_link;
 

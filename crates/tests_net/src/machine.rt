@@ -4,6 +4,7 @@ use rtmfp_forms::Address;
 use rtmfp_host::{Begun, Bound, Drawn, Entropy, Got, Link, Moments, Ran, Sent, Spawner};
 use rtmfp_net::{Generator, ProgramSpawner, SystemClock, UdpLink};
 use std::alloc::{AllocError, Global};
+use std::net::UdpSocket;
 use std::process;
 use std::test::Fail;
 
@@ -12,30 +13,56 @@ fn here(port: u16) -> Address {
     Address::v4([127, 0, 0, 1], port)
 }
 
+/// A host of IPv6, all of whose bytes but the last are 0.
+fn v6_host(last: u8, port: u16) -> Address {
+    Address {
+        v6: true,
+        origin: 0,
+        host: [0, 0, 0, 0, 0, 0, 0, 0, 0, 0, 0, 0, 0, 0, 0, last],
+        port,
+    }
+}
+
+/// This machine by IPv4 or by IPv6, or all of it by IPv6, at a port.
+fn host(name: &str, port: u16) -> Address {
+    match name {
+        "4" => here(port),
+        "6" => v6_host(1, port),
+        _ => v6_host(0, port),
+    }
+}
+
 /// Binds a link to the first free port of some that follow each other.
-fn bind_somewhere(link: &mut UdpLink<HostRuntime>, first: u16) -> Option<Address> {
+fn bind_somewhere(link: &mut UdpLink<HostRuntime>, name: &str, first: u16) -> Option<u16> {
     for port in first..first.saturating_add(20) {
-        let place = here(port);
-        if link.bind(&place) == Bound::Done {
-            return Some(place);
+        if link.bind(&host(name, port)) == Bound::Done {
+            return Some(port);
         }
     }
     None
 }
 
-/// A link, and where it is bound.
+/// A link, and the place at which it is reached.
 #[derive(Drop)]
 struct Node {
     link: UdpLink<HostRuntime>,
     at: Address,
 }
 
-/// A link at a free port of this machine.
-fn bound_node(rt: &HostRuntime) -> Result<Node, Fail> {
+/// A link at a free port of a host, and reached by another one.
+fn node_at(rt: &HostRuntime, bound: &str, reached: &str) -> Result<Node, Fail> {
     let first = 20_000 + (process::id(rt.process()) % 40_000) as u16;
     let mut link = UdpLink::new(rt.clone()?);
-    let at = bind_somewhere(&mut link, first).ok_or("no port")?;
-    Ok(Node { link, at })
+    let port = bind_somewhere(&mut link, bound, first).ok_or("no port")?;
+    Ok(Node {
+        link,
+        at: host(reached, port),
+    })
+}
+
+/// A link at a free port of this machine.
+fn bound_node(rt: &HostRuntime) -> Result<Node, Fail> {
+    node_at(rt, "4", "4")
 }
 
 /// The moment so many milliseconds from now on.
@@ -88,6 +115,30 @@ fn datagrams_go_there_and_back(rt: HostRuntime) -> Result<(), Fail> {
     let mut other = bound_node(&rt)?;
     for length in LENGTHS.split(' ') {
         assert!(rt; goes(&rt, &mut one, &mut other, length)?, "{length} bytes");
+    }
+    Ok(())
+}
+
+/// Rows: where one link is bound, where another is, and by which host they reach each other. A link
+/// that is bound to all of the machine is heard, and told of, by either kind.
+const KINDS: &str = "\
+4 all 4|all 4 4|all all 4|6 6 6|6 all 6|all all 6";
+
+/// Whether two links that are bound so reach each other.
+fn reach_each_other(rt: &HostRuntime, row: &str) -> Result<bool, Fail> {
+    let (one, rest) = sides(row, " ");
+    let (other, reached) = sides(rest, " ");
+    let mut one = node_at(rt, one, reached)?;
+    let mut other = node_at(rt, other, reached)?;
+    goes(rt, &mut one, &mut other, "1")
+}
+
+/// Of a machine without IPv6 only that is asked which it has.
+#[test]
+fn a_link_of_ipv6_hears_ipv4(rt: HostRuntime) -> Result<(), Fail> {
+    let has_v6 = UdpSocket::bind(&rt, "[::1]:0").is_ok();
+    for row in KINDS.split('|') {
+        assert!(rt; !has_v6 || reach_each_other(&rt, row)?, "{row}");
     }
     Ok(())
 }
@@ -255,6 +306,63 @@ fn a_child_writes_more_than_a_pipe_holds(rt: HostRuntime) -> Result<(), Fail> {
     let words = Vec::from_array(rt.alloc(), [word.clone()?])?;
     let ran = run(&rt, "printf", words.as_slice())?;
     assert!(rt; ended(&ran, 0, word.as_bytes()));
+    Ok(())
+}
+
+/// What a child does: it writes a megabyte of its letter. The first one ends behind the others,
+/// which leave a folder each.
+const WRITES: &str = "-c,head -c 1048576 /dev/zero | tr '\\0' $0
+at=/tmp/rtmfp-$PPID
+[ $0 = a ] || exec mkdir $at-$0
+for other in b c; do
+  tries=0
+  until rmdir $at-$other 2>/dev/null; do
+    tries=$((tries + 1))
+    [ $tries -lt 300 ] || exit 1
+    sleep 0.1
+  done
+done";
+
+/// Starts the child of a letter.
+fn start_writer(
+    alloc: Global,
+    spawner: &mut ProgramSpawner<HostRuntime>,
+    letter: u8,
+) -> Result<Begun, AllocError> {
+    let mut words = words_of(alloc, WRITES)?;
+    let mut name = String::new(alloc);
+    name.push(char::from(letter))?;
+    words.push(name)?;
+    Ok(spawner.start(words.as_slice()))
+}
+
+/// Whether a child ended with 0 and a megabyte of its letter.
+fn wrote_all(ran: &Ran, letter: u8) -> bool {
+    match ran {
+        Ran::Ended { status, text } => {
+            *status == 0
+                && text.len() == 1_048_576
+                && text.bytes().iter().all(|byte| *byte == letter)
+        }
+        _ => false,
+    }
+}
+
+#[test]
+fn no_child_waits_for_a_full_pipe(rt: HostRuntime) -> Result<(), Fail> {
+    let alloc = rt.alloc();
+    let shell = String::from_str(alloc, "sh")?;
+    let mut spawner = ProgramSpawner::new(rt.clone()?, alloc, shell);
+    for child in 0..3u8 {
+        let begun = start_writer(alloc, &mut spawner, b'a' + child)?;
+        assert!(rt; begun == Begun::Child(u32::from(child)));
+    }
+    for child in 0..3u8 {
+        assert!(rt;
+            wrote_all(&spawner.wait(u32::from(child)), b'a' + child),
+            "{child}"
+        );
+    }
     Ok(())
 }
 
