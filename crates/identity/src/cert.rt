@@ -1,6 +1,6 @@
 //! Certificates (own form).
 
-ghost use Rattle.std.specs.Prelude.{◌≡◌, ◌≤◌, ◌-◌, ◌++◌, length, nat_lt, replicate, None, Ok, Err, IfSome};
+ghost use Rattle.std.specs.Prelude.{◌≡◌, ◌≤◌, ◌-◌, ◌++◌, drop, length, nat_lt, replicate, None, Ok, Err, IfSome};
 ghost use Rattle.std.specs.List.{list_all};
 ghost use Rattle.sha2.specs.Sha256.{sha256};
 ghost use Rattle.identity.specs.Certificates.{IsCertificate, certificate_fault};
@@ -54,7 +54,7 @@ impl Model for Certificate {
 }
 
 /// Whether each byte is an ASCII character.
-fn is_ascii(name: &[u8]) -> bool
+pub(crate) fn is_ascii(name: &[u8]) -> bool
     ensures { result ≡ list_all (λ b. nat_lt b 0x80) name.now }
 {
     name.iter().all(|b| *b < 0x80)
@@ -108,6 +108,13 @@ impl Certificate {
         ensures form { IsCertificate self.now }
     {
         &self.bytes[..self.len]
+    }
+
+    /// Its name, 1 to 64 bytes: what stands behind its instance bytes.
+    pub fn name(&self) -> &[u8]
+        ensures { result.now ≡ drop 16 self.now }
+    {
+        &self.bytes()[INSTANCE_BYTES..]
     }
 
     /// Its fingerprint: the SHA-256 (FIPS 180-4) of its bytes.
