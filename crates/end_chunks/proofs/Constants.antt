@@ -21,7 +21,8 @@ use Rattle.startup.specs.Aims.{end_of_aim}
 use Rattle.startup.specs.State.{AttemptState, StartupState}
 use Rattle.startup.specs.Attempts.{with_ledger, without_attempt_by, after_end_of, after_answer, after_change}
 use Rattle.startup.specs.Judging.{after_extension_of}
-use Rattle.startup.specs.Keyings.{InitiatorKeying, initiator_keying_in, keying_of, after_again_or_birth, after_keyed_with, after_keyed_reading, after_keying, after_opening}
+use Rattle.startup_packets.specs.Readings.{InitiatorKeying, initiator_keying_in}
+use Rattle.startup.specs.Keyings.{keying_of, after_again_or_birth, after_keyed_with, after_keyed_reading, after_keying, after_opening}
 use Rattle.end_state.specs.declared.settings.Settings.{Settings}
 use Rattle.end_state.specs.Stored.{IsEnd}
 

@@ -11,7 +11,7 @@ use Rattle.rtmfp_base.specs.declared.cause.Cause.TheVariants.{Wide}
 use Rattle.startup.specs.State.{AttemptState}
 use Rattle.startup.specs.Attempts.{wide, hello_spread}
 use Rattle.startup.specs.Redirects.{sent_by_spread, redirect_spread_of, after_redirect_of, after_extension, new_candidates}
-use Rattle.startup.proofs.Sizes.{fihello_length}
+use Rattle.startup_packets.proofs.Sizes.{fihello_length}
 use Rattle.endpoint_model.specs.State.{State, nothing, with_startup}
 use Rattle.endpoint_model.specs.Effects.{sent_spread_if}
 use Rattle.endpoint_laws.proofs.Replies.{discriminator_length}

@@ -5,7 +5,8 @@ use Rattle.rtmfp_base.specs.Reasons.{where_true, first_that_stands}
 use Rattle.rtmfp_base.specs.declared.cause.Cause.{Cause}
 use Rattle.rtmfp_base.specs.declared.cause.Cause.TheVariants.{WrongPlace, SecondKeying}
 use Rattle.startup.specs.declared.judging.Hearing.{Hearing}
-use Rattle.startup.specs.Keyings.{InitiatorKeying, initiator_keying_in, initiator_cause, keying_fault, fault_in, cause_by}
+use Rattle.startup_packets.specs.Readings.{InitiatorKeying, initiator_keying_in}
+use Rattle.startup.specs.Keyings.{initiator_cause, keying_fault, fault_in, cause_by}
 use Rattle.startup.specs.Judging.{unless_cause, hearing, judged_initiator}
 use Rattle.cookies.specs.Cookie.{cookie_test}
 use Rattle.endpoint_model.specs.declared.place.Place.{Place}

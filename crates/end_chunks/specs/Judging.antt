@@ -18,8 +18,9 @@ use Rattle.rtmfp_base.specs.declared.cause.Cause.TheVariants.{WrongPlace, WrongS
 use Rattle.startup.specs.State.{AttemptState, peer_of_attempt}
 use Rattle.startup.specs.Attempts.{wide, changed, after_answer, answer_keying, after_change}
 use Rattle.startup.specs.Attempts.{change_keying}
-use Rattle.startup.specs.Keyings.{initiator_keying_in, responder_keying_in, initiator_hello_answer}
-use Rattle.startup.specs.Read.{initiator_of, responder_of}
+use Rattle.startup_packets.specs.Readings.{initiator_keying_in, responder_keying_in}
+use Rattle.startup.specs.Keyings.{initiator_hello_answer}
+use Rattle.startup_packets.specs.Read.{initiator_of, responder_of}
 use Rattle.startup.specs.Judging.{judged_initiator, IsFound, found_in, Extends}
 use Rattle.startup.specs.Judging.{after_extension_of, extension_spread}
 use Rattle.endpoint_model.specs.declared.config.Draws.{Draws}

@@ -61,12 +61,13 @@ pub(crate) fn judge_hello<'a>(
     if let Some(cause) = wide(tag) {
         return Err(cause);
     }
+    if end.startup.is_selected_by(epd) {
+        return Ok(Verdict::Hello { tag, to: *from });
+    }
+    // A name is nobody's fingerprint, so nobody is introduced for it.
     let Some(selected) = Epd::read(epd) else {
         return Err(Cause::NotSelected);
     };
-    if end.startup.is_selected_by(&selected) {
-        return Ok(Verdict::Hello { tag, to: *from });
-    }
     let near = end.forwarded_to(&selected.print);
     let row = end.redirected_to(&selected);
     if near.is_none() && row.is_none() {

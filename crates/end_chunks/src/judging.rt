@@ -31,9 +31,9 @@ use rtmfp_chunks::kinds::FRAGMENT;
 use rtmfp_chunks::{ChunkFault, ChunkView, read_chunk};
 use rtmfp_forms::Address;
 use rtmfp_packet::RawChunk;
-use startup::{
-    Extension, Found, Hearing, InitiatorFields, ResponderFields, read_initiator_keying,
-    read_responder_keying,
+use startup::{Extension, Found, Hearing};
+use startup_packets::{
+    InitiatorFields, ResponderFields, read_initiator_keying, read_responder_keying,
 };
 
 /// The most bytes of a ping that is answered (own).

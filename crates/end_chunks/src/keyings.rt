@@ -3,8 +3,8 @@
 ghost use Rattle.std.specs.Prelude.{◌≡◌, ◌<◌, ◌≤◌, Ok, OnErr, OnOk, Some};
 ghost use Rattle.std.specs.FinMap.{get};
 ghost use Rattle.startup.specs.State.{peer_of_attempt};
-ghost use Rattle.startup.specs.Keyings.{initiator_keying_in, responder_keying_in};
-ghost use Rattle.startup.specs.Read.{initiator_of, responder_of};
+ghost use Rattle.startup_packets.specs.Readings.{initiator_keying_in, responder_keying_in};
+ghost use Rattle.startup_packets.specs.Read.{initiator_of, responder_of};
 ghost use Rattle.startup.specs.Judging.{judged_initiator};
 ghost use Rattle.endpoint_model.specs.Effects.{initiator_keyed, responder_keyed, sessions_born};
 ghost use Rattle.endpoint_model.specs.Effects.{sessions_opened, without_ended};
@@ -18,7 +18,8 @@ use rtmfp_chunks::ChunkView;
 use rtmfp_forms::Address;
 use session_core::{Role, Session};
 use session_table::SessionTable;
-use startup::{Hearing, InitiatorFields, Keyed, ResponderFields};
+use startup::{Hearing, Keyed};
+use startup_packets::{InitiatorFields, ResponderFields};
 use std::alloc::AllocError;
 
 /// Hears an initiator's keying that was found to be this, which came from an address.

@@ -11,6 +11,7 @@ use Rattle.rtmfp_chunks.specs.Chunk.{Chunk, IHello, FIHello, RHello, Redirect, C
 use Rattle.sha2.specs.Sha256.{sha256}
 use Rattle.identity.specs.declared.discriminator.Epd.{Epd}
 use Rattle.identity.specs.Discriminators.{discriminator_of}
+use Rattle.identity.specs.Targets.{selects, target_of}
 use Rattle.glare_core.specs.declared.facts.Why.{Why}
 use Rattle.glare_core.specs.declared.facts.Fact.{Fact}
 use Rattle.glare_core.specs.declared.facts.Fact.TheVariants.{Started, Confirmed, Ended}
@@ -20,7 +21,7 @@ use Rattle.rtmfp_base.specs.declared.cause.Cause.{Cause}
 use Rattle.rtmfp_base.specs.declared.cause.Cause.TheVariants.{Wide}
 use Rattle.startup.specs.State.{StartupState}
 use Rattle.startup.specs.Attempts.{wide}
-use Rattle.startup.specs.Keyings.{selects, initiator_hello_answer}
+use Rattle.startup.specs.Keyings.{initiator_hello_answer}
 use Rattle.endpoint_model.specs.declared.place.Place.{Place}
 use Rattle.endpoint_model.specs.declared.row.Row.{Row}
 use Rattle.endpoint_model.specs.declared.entry.Entry.{Entry}
@@ -141,7 +142,7 @@ introduced_bare s epd tag from short None is = tt
 introduced_bare s epd tag from short (Some selected) is = hello_none epd tag from (discriminator_length epd selected is) short
 
 hello_bare : (s : State) (epd tag : List ℕ) (from : AddressParts) → hello_cause s epd tag ≡ None → Carries IsBare (hello_reply s epd tag from)
-hello_bare s epd tag from none = by (selects (discriminator_of epd) (sha256 s.startup.cert)) (narrow 128 tag (first_none (wide tag) _ none))
+hello_bare s epd tag from none = by (selects (target_of epd) s.startup.cert) (narrow 128 tag (first_none (wide tag) _ none))
   where
     by : (own : Bool) → length tag ≤ 128 → Carries IsBare (if own then InStartup (Some (initiator_hello_answer s.startup tag from s.moment)) else introduction s (discriminator_of epd) epd tag from)
     by true short = tt

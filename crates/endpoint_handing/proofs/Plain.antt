@@ -5,7 +5,7 @@ use Rattle.rtmfp_chunks.specs.Chunk.{IIKeying, RIKeying, Ping, PingReply, Close,
 use Rattle.rtmfp_chunks.specs.Chunk.{kind_of}
 use Rattle.rtmfp_chunks.specs.Writing.{payload_bytes, chunk_bytes}
 use Rattle.rtmfp_packet.specs.Spelling.{Chunk as Written}
-use Rattle.startup.proofs.Sizes.{fihello_length}
+use Rattle.startup_packets.proofs.Sizes.{fihello_length}
 use Rattle.rtmfp_forms.specs.Address.{AddressParts}
 use Rattle.cookies.specs.Cookie.{observed}
 use Rattle.endpoint_handing.proofs.Bodies.{IsBeside, body_pieces, one_beside}

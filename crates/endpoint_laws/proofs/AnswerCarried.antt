@@ -20,8 +20,8 @@ use Rattle.packet_scramble.specs.Datagram.{datagram, sid_of, first_word, second_
 use Rattle.packet_scramble.proofs.Words.{first_word_bytes, second_word_bytes}
 use Rattle.packet_scramble.proofs.Scrambling.{xor_both_twice}
 use Rattle.glare_core.specs.declared.facts.Joined.{Joined}
-use Rattle.startup.specs.Packets.{startup_packet, responder_part, rikeying_packet, rikeying_signed}
-use Rattle.startup.proofs.Sizes.{startup_length, rikeying_length}
+use Rattle.startup_packets.specs.Packets.{startup_packet, responder_part, rikeying_packet, rikeying_signed}
+use Rattle.startup_packets.proofs.Sizes.{startup_length, rikeying_length}
 use Rattle.endpoint_model.specs.Event.{Setup, own_of}
 use Rattle.endpoint_laws.specs.Contexts.{OpensUnder}
 use Rattle.endpoint_laws.specs.Lawful.{AnswersAttempt}

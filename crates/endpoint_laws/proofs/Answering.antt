@@ -16,12 +16,13 @@ use Rattle.glare_core.specs.Ledger.{held_with, noted_if}
 use Rattle.glare_core.specs.Calls.{opened_fact}
 use Rattle.glare_core.specs.Account.{Gave}
 use Rattle.glare_core.proofs.Giving.{gave_opened}
-use Rattle.startup.specs.Packets.{is_signed}
+use Rattle.startup_packets.specs.Packets.{is_signed}
 use Rattle.startup.specs.declared.aim.Aim.{Aim}
 use Rattle.startup.specs.declared.aim.Aim.TheVariants.{AtPeer}
 use Rattle.startup.specs.Aims.{IsHeldAs}
 use Rattle.startup.specs.State.{AttemptState}
-use Rattle.startup.specs.Keyings.{ResponderKeying, responder_keying_in, opened_as, opened_reading, opened, after_opening}
+use Rattle.startup_packets.specs.Readings.{ResponderKeying, responder_keying_in}
+use Rattle.startup.specs.Keyings.{opened_as, opened_reading, opened, after_opening}
 use Rattle.session_core.specs.declared.stage.Role.TheVariants.{Initiator}
 use Rattle.session_core.specs.Session.{new_session}
 use Rattle.session_core.proofs.Keyed.{keyed_begun}

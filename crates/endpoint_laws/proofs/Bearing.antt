@@ -32,8 +32,9 @@ use Rattle.rtmfp_base.specs.Reasons.{where_true, first_that_stands}
 use Rattle.glare_core.specs.Calls.{is_born_of, again_of, glare_of, peers_full, birth_refusal, hear_refusal}
 use Rattle.glare_core.proofs.Accounts.{reads_held, reads_floor, reads_knows, reads_rows}
 use Rattle.rtmfp_base.specs.declared.cause.Cause.TheVariants.{WrongResponder, OwnCertificate}
-use Rattle.startup.specs.Packets.{is_signed}
-use Rattle.startup.specs.Keyings.{InitiatorKeying, initiator_keying_in, keying_of, is_own, heard_cause, named_cause, cookie_cause, repeated_session}
+use Rattle.startup_packets.specs.Packets.{is_signed}
+use Rattle.startup_packets.specs.Readings.{InitiatorKeying, initiator_keying_in}
+use Rattle.startup.specs.Keyings.{keying_of, is_own, heard_cause, named_cause, cookie_cause, repeated_session}
 use Rattle.endpoint_model.specs.Event.{Setup, own_of}
 use Rattle.endpoint_laws.specs.Past.{Past, facts_of}
 use Rattle.endpoint_model.specs.Keying.{IsFirst, IsSigned, chunks_of, initiator_part, IsAmong}

@@ -9,7 +9,8 @@ use Rattle.rtmfp_chunks.specs.FieldReading.{chunk_reading}
 use Rattle.rtmfp_data_chunks.specs.Reader.{data_reading}
 use Rattle.rtmfp_base.specs.declared.cause.Cause.{Cause}
 use Rattle.rtmfp_base.specs.declared.cause.Cause.TheVariants.{UnknownChunk, WrongPlace, WrongState, Fragment as FragmentCause}
-use Rattle.startup.specs.Keyings.{initiator_keying_in, responder_keying_in, fault_in}
+use Rattle.startup_packets.specs.Readings.{initiator_keying_in, responder_keying_in}
+use Rattle.startup.specs.Keyings.{fault_in}
 use Rattle.rtmfp_base.specs.Reasons.{where_true, first_that_stands}
 use Rattle.endpoint_model.specs.declared.walk.Walk.{Walk}
 use Rattle.endpoint_model.specs.declared.config.Draws.{Draws}

@@ -14,8 +14,9 @@ use Rattle.startup.specs.declared.aim.Aim.{Aim}
 use Rattle.startup.specs.declared.aim.Aim.TheVariants.{AtPeer}
 use Rattle.startup.specs.Aims.{is_towards}
 use Rattle.startup.specs.State.{AttemptState}
-use Rattle.startup.specs.Packets.{is_signed}
-use Rattle.startup.specs.Keyings.{InitiatorKeying, ResponderKeying, initiator_keying_in, responder_keying_in, fault_in, cause_by, named_cause, cookie_cause, initiator_cause, iikeying_cause, is_in_hello, attempt_cause, responder_cause, rikeying_cause}
+use Rattle.startup_packets.specs.Packets.{is_signed}
+use Rattle.startup_packets.specs.Readings.{InitiatorKeying, ResponderKeying, initiator_keying_in, responder_keying_in}
+use Rattle.startup.specs.Keyings.{fault_in, cause_by, named_cause, cookie_cause, initiator_cause, iikeying_cause, is_in_hello, attempt_cause, responder_cause, rikeying_cause}
 use Rattle.cookies.specs.Cookie.{cookie_test}
 use Rattle.rtmfp_base.specs.Reasons.{where_true, first_that_stands}
 use Rattle.endpoint_model.specs.declared.walk.Walk.{Walk}

@@ -39,8 +39,9 @@ use Rattle.rtmfp_base.specs.declared.cause.Cause.{Cause}
 use Rattle.rtmfp_base.specs.declared.cause.Cause.TheVariants.{Short, WrongPlace, SecondKeying}
 use Rattle.startup.specs.declared.answer.Answer.{Answer}
 use Rattle.startup.specs.State.{StartupState}
-use Rattle.startup.specs.Packets.{rikeying_packet}
-use Rattle.startup.specs.Keyings.{InitiatorKeying, keying_of, fault_in, iikeying_cause, responder_keying_in, session_answer, born_session, again_or_birth, keyed_with, keyed_reading, after_again_or_birth, after_keyed_with, after_keyed_reading, opened, opened_as as opened_by_aim, opened_reading, after_opening}
+use Rattle.startup_packets.specs.Packets.{rikeying_packet}
+use Rattle.startup_packets.specs.Readings.{InitiatorKeying, responder_keying_in}
+use Rattle.startup.specs.Keyings.{keying_of, fault_in, iikeying_cause, session_answer, born_session, again_or_birth, keyed_with, keyed_reading, after_again_or_birth, after_keyed_with, after_keyed_reading, opened, opened_as as opened_by_aim, opened_reading, after_opening}
 use Rattle.session_core.specs.Session.{new_session, head_at}
 use Rattle.session_core.specs.Sealed.{number_bytes}
 use Rattle.glare_core.specs.Tells.{as_initiator}

@@ -32,7 +32,8 @@ use Rattle.glare_core.proofs.Giving.{gave_heard}
 use Rattle.std.specs.Str.{bytes_eq}
 use Rattle.startup.specs.declared.answer.Answer.{Answer}
 use Rattle.startup.specs.declared.answer.Keyed.TheVariants.{Birth as BirthKeyed}
-use Rattle.startup.specs.Keyings.{InitiatorKeying, keying_of, change_answer, session_answer, born_session, repeated_session, again_or_birth, keyed_with, keyed_reading, opening_id, without, after_again_or_birth, after_keyed_with, after_keyed_reading}
+use Rattle.startup_packets.specs.Readings.{InitiatorKeying}
+use Rattle.startup.specs.Keyings.{keying_of, change_answer, session_answer, born_session, repeated_session, again_or_birth, keyed_with, keyed_reading, opening_id, without, after_again_or_birth, after_keyed_with, after_keyed_reading}
 use Rattle.session_core.specs.declared.stage.Role.TheVariants.{Responder}
 use Rattle.session_core.specs.Session.{new_session}
 use Rattle.session_core.proofs.Keyed.{keyed_begun}

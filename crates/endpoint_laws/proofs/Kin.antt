@@ -19,7 +19,8 @@ use Rattle.startup.specs.Attempts.{lowest, has_tag, changed, confirm_fact}
 use Rattle.startup.specs.Attempts.{after_confirm, end_fact, after_end, after_answer, after_rhello}
 use Rattle.startup.specs.Attempts.{after_change}
 use Rattle.startup.specs.Attempts.{after_cookie_change}
-use Rattle.startup.specs.Keyings.{InitiatorKeying, initiator_keying_in, keying_of, repeated_session}
+use Rattle.startup_packets.specs.Readings.{InitiatorKeying, initiator_keying_in}
+use Rattle.startup.specs.Keyings.{keying_of, repeated_session}
 use Rattle.startup.specs.Keyings.{after_again_or_birth, after_keyed_with, after_keyed_reading}
 use Rattle.startup.specs.Keyings.{after_keying}
 use Rattle.startup.specs.Redirects.{told_addresses, new_candidates, after_extension}

@@ -33,7 +33,8 @@ use Rattle.glare_core.specs.declared.facts.Held.{Held}
 use Rattle.startup.specs.declared.attempt.Stage.TheVariants.{Hello, Keying}
 use Rattle.endpoint_model.specs.Effects.{Hellos, InSession, InStartup, Introduction, Reply, Silence, cancelling, chunk_did, chunks_did, due_done, forwarded, initiator_keyed, keying_done, most_acks, opening, opening_done, outset, part_received, read_done, read_left, read_reply, received, replied, responder_keyed, tick_once, ticks, walked, walked_and_acked, with_opened}
 use Rattle.session_core.specs.declared.stage.SessionDue.TheVariants.{Idle, Over, RepeatClose, Unconfirmed}
-use Rattle.startup.specs.Keyings.{InitiatorKeying, ResponderKeying, after_keying, after_opening, again_or_birth, born_session, change_answer, initiator_keying_in, keyed_reading, keyed_with, keying_of, opened_as, opened_reading, opened_with, repeated_session, responder_keying_in, session_answer}
+use Rattle.startup_packets.specs.Readings.{InitiatorKeying, ResponderKeying, initiator_keying_in, responder_keying_in}
+use Rattle.startup.specs.Keyings.{after_keying, after_opening, again_or_birth, born_session, change_answer, keyed_reading, keyed_with, keying_of, opened_as, opened_reading, opened_with, repeated_session, session_answer}
 use Rattle.glare_core.specs.declared.facts.Joined.{Joined}
 use Rattle.rtmfp_packet.specs.declared.head.PacketFault.{PacketFault}
 use Rattle.rtmfp_packet.specs.declared.head.PacketHead.{PacketHead}

@@ -33,12 +33,13 @@ use Rattle.glare_core.proofs.Tails.{same_end}
 use Rattle.startup.specs.declared.answer.Keyed.TheVariants.{Change, Birth}
 use Rattle.rtmfp_base.specs.declared.cause.Cause.{Cause}
 use Rattle.rtmfp_base.specs.declared.cause.Cause.TheVariants.{SecondKeying, BadSignature, Wide}
-use Rattle.startup.specs.Packets.{initiator_part_in, is_signed}
+use Rattle.startup_packets.specs.Packets.{initiator_part_in, is_signed}
 use Rattle.startup.specs.declared.aim.Aim.{Aim}
 use Rattle.startup.specs.declared.aim.Aim.TheVariants.{AtPeer}
 use Rattle.startup.specs.State.{AttemptState, Attempts, StartupState}
 use Rattle.startup.specs.Attempts.{wide}
-use Rattle.startup.specs.Keyings.{InitiatorKeying, ResponderKeying, initiator_keying_in, initiator_fields, with_initiator_part, cause_by, cookie_cause, named_cause, initiator_cause, keying_of, session_answer, change_answer, repeated_session, born_session, again_or_birth, keyed_with, keyed_reading, opening_id, without, after_again_or_birth, after_keyed_with, after_keyed_reading, opened_as, opened_reading, after_opening, responder_keying_in}
+use Rattle.startup_packets.specs.Readings.{InitiatorKeying, ResponderKeying, initiator_keying_in, initiator_fields, with_initiator_part, responder_keying_in}
+use Rattle.startup.specs.Keyings.{cause_by, cookie_cause, named_cause, initiator_cause, keying_of, session_answer, change_answer, repeated_session, born_session, again_or_birth, keyed_with, keyed_reading, opening_id, without, after_again_or_birth, after_keyed_with, after_keyed_reading, opened_as, opened_reading, after_opening}
 use Rattle.session_core.specs.declared.stage.Role.TheVariants.{Initiator, Responder}
 use Rattle.session_core.specs.Session.{new_session}
 use Rattle.session_core.proofs.Keyed.{keyed_begun}

@@ -16,7 +16,7 @@ use Rattle.startup.specs.declared.answer.Due.TheVariants.{Ended as EndDue}
 use Rattle.rtmfp_base.specs.declared.cause.Cause.{Cause}
 use Rattle.startup.specs.declared.attempt.Stage.{Stage}
 use Rattle.startup.specs.declared.attempt.Stage.TheVariants.{Hello, Keying}
-use Rattle.startup.specs.Packets.{ihello_packet}
+use Rattle.startup_packets.specs.Packets.{ihello_packet}
 use Rattle.glare_core.specs.declared.facts.Fact.TheVariants.{Ended}
 use Rattle.startup.specs.declared.aim.Aim.{Aim}
 use Rattle.startup.specs.declared.aim.Aim.TheVariants.{AtPeer}

@@ -13,9 +13,9 @@ use Rattle.sha2.proofs.Facts256.{length-sha256}
 use Rattle.glare_core.specs.declared.facts.Held.TheVariants.{Opening}
 use Rattle.glare_core.specs.declared.facts.Joined.{Joined}
 use Rattle.glare_core.specs.Standing.{held}
-use Rattle.startup.specs.Packets.{startup_packet, ihello_packet, rhello_packet, cookiechange_packet, initiator_part, responder_part, iikeying_packet, iikeying_signed, rikeying_packet, rikeying_signed}
-use Rattle.startup.specs.Redirects.{addresses_bytes, redirect_packet}
-use Rattle.startup.proofs.Sizes.{startup_length, ihello_length, rhello_length, redirect_length, length-addresses_bytes, cookiechange_length, iikeying_length, rikeying_length}
+use Rattle.startup_packets.specs.Packets.{startup_packet, ihello_packet, rhello_packet, cookiechange_packet, initiator_part, responder_part, iikeying_packet, iikeying_signed, rikeying_packet, rikeying_signed}
+use Rattle.startup_packets.specs.Packets.{addresses_bytes, redirect_packet}
+use Rattle.startup_packets.proofs.Sizes.{startup_length, ihello_length, rhello_length, redirect_length, length-addresses_bytes, cookiechange_length, iikeying_length, rikeying_length}
 use Rattle.endpoint_model.specs.Event.{Setup, own_of}
 use Rattle.endpoint_laws.specs.Past.{Past, facts_of}
 use Rattle.endpoint_laws.specs.Lawful.{IsBornHere}

@@ -15,7 +15,7 @@ use Rattle.rtmfp_chunks.specs.Chunk.{Chunk, IHello, FIHello, RHello, Redirect, C
 use Rattle.rtmfp_chunks.specs.Writing.{payload_bytes, PartsFit, chunk_bytes}
 use Rattle.rtmfp_chunks.proofs.ReadingLaws.{reading_same}
 use Rattle.rtmfp_chunks.proofs.WritingLaws.{parts_bytes-spell}
-use Rattle.startup.specs.Packets.{startup_packet}
+use Rattle.startup_packets.specs.Packets.{startup_packet}
 use Rattle.session_core.specs.Session.{SessionState, head_at}
 use Rattle.session_core.specs.declared.stamps.Stamp.{Stamp}
 use Rattle.session_core.specs.Stamps.{tick_of, echo_of}

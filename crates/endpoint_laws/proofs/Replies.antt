@@ -12,6 +12,7 @@ use Rattle.rtmfp_chunks.specs.Writing.{chunk_bytes}
 use Rattle.cookies.specs.Cookie.{cookie_of, observed}
 use Rattle.identity.specs.declared.discriminator.Epd.{Epd}
 use Rattle.identity.specs.Discriminators.{discriminator_of}
+use Rattle.identity.specs.Targets.{selects, target_of}
 use Rattle.rtmfp_base.specs.Reasons.{where_true, first_that_stands}
 use Rattle.rtmfp_base.specs.declared.cause.Cause.{Cause}
 use Rattle.rtmfp_base.specs.declared.cause.Cause.TheVariants.{Wide, NotSelected}
@@ -20,9 +21,9 @@ use Rattle.startup.specs.declared.attempt.Stage.TheVariants.{Hello, Keying}
 use Rattle.startup.specs.declared.answer.Answer.{Answer}
 use Rattle.startup.specs.State.{AttemptState, Attempts, StartupState}
 use Rattle.startup.specs.Attempts.{lowest, has_tag, has_cookie, if_cookie, changed, wide, hello_cause_at, none_to_change, after_answer, answer_keying, answered, with_cookie, recookied, after_change, again_signed, change_keying}
-use Rattle.startup.specs.Keyings.{selects, initiator_hello_answer}
+use Rattle.startup.specs.Keyings.{initiator_hello_answer}
 use Rattle.startup.specs.Redirects.{told_addresses, new_candidates, extended, after_extension, after_redirect_of, redirect_spread_of}
-use Rattle.startup.proofs.Sizes.{fihello_length}
+use Rattle.startup_packets.proofs.Sizes.{fihello_length}
 use Rattle.session_core.specs.Session.{context_of}
 use Rattle.session_core.specs.Sealed.{after_seal}
 use Rattle.crypto_profile.specs.Keys.{sign_key_of}
@@ -179,10 +180,10 @@ module _ (setup : Setup) (past : Past) (s : State) (sent : Sent setup past s) (t
       let own : length s.startup.cert ≤ 80 = subst (λ (c : List ℕ). length c ≤ 80) (sym tied.cert) cert in
       record { sent = sent; may = rhello_may setup past 0 tag (cookie_of s.startup.cookie_secret to s.moment) s.startup.cert short (length-cookie_of s.startup.cookie_secret to s.moment) own }
 
-  hello_fits : (epd tag : List ℕ) (to : AddressParts) → first_that_stands (wide tag ∷ where_true (not (selects (discriminator_of epd) (sha256 s.startup.cert))) NotSelected ∷ []) ≡ None →
+  hello_fits : (epd tag : List ℕ) (to : AddressParts) → first_that_stands (wide tag ∷ where_true (not (selects (target_of epd) s.startup.cert)) NotSelected ∷ []) ≡ None →
       Fits setup past s (InStartup (Some (initiator_hello_answer s.startup tag to s.moment)))
   hello_fits epd tag to none =
-      own_fits tag to (narrow 128 tag (first_none (wide tag) (where_true (not (selects (discriminator_of epd) (sha256 s.startup.cert))) NotSelected) none))
+      own_fits tag to (narrow 128 tag (first_none (wide tag) (where_true (not (selects (target_of epd) s.startup.cert)) NotSelected) none))
 
   -- a hello for this end, or for one that is introduced
   redirect_fits : (tag : List ℕ) (to : AddressParts) → length tag ≤ 128 → (o : Option (List AddressParts)) → ((addresses : List AddressParts) → o ≡ Some addresses → length addresses ≤ 16) → MayAlways setup (redirect_of tag to o)
@@ -200,7 +201,7 @@ module _ (setup : Setup) (past : Past) (s : State) (sent : Sent setup past s) (t
   any_hello_fits : (epd tag : List ℕ) (from : AddressParts) → hello_cause s epd tag ≡ None → Fits setup past s (hello_reply s epd tag from)
   any_hello_fits epd tag from none =
       let short : length tag ≤ 128 = narrow 128 tag (first_none (wide tag) _ none) in
-      by (selects (discriminator_of epd) (sha256 s.startup.cert)) short
+      by (selects (target_of epd) s.startup.cert) short
     where
       by : (own : Bool) → length tag ≤ 128 → Fits setup past s (if own then InStartup (Some (initiator_hello_answer s.startup tag from s.moment)) else introduction s (discriminator_of epd) epd tag from)
       by true short = own_fits tag from short

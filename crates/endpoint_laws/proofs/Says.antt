@@ -9,9 +9,9 @@ use Rattle.rtmfp_chunks.specs.Chunk.{Chunk, IHello, FIHello, RHello, Redirect, C
 use Rattle.rtmfp_chunks.specs.FieldReading.{chunk_reading}
 use Rattle.identity.specs.Certificates.{certificate_fault}
 use Rattle.rtmfp_base.specs.declared.cause.Cause.TheVariants.{Malformed}
-use Rattle.startup.specs.Packets.{initiator_part_in, responder_part_in}
-use Rattle.startup.specs.Keyings.{InitiatorKeying, ResponderKeying, part_offset, cert_offset, with_initiator_part, formed_initiator, initiator_fields, initiator_keying_in, with_responder_part, formed_responder, responder_fields, responder_keying_in}
-use Rattle.startup.proofs.Components.{initiator_again, responder_again}
+use Rattle.startup_packets.specs.Packets.{initiator_part_in, responder_part_in}
+use Rattle.startup_packets.specs.Readings.{InitiatorKeying, ResponderKeying, part_offset, cert_offset, with_initiator_part, formed_initiator, initiator_fields, initiator_keying_in, with_responder_part, formed_responder, responder_fields, responder_keying_in}
+use Rattle.startup_packets.proofs.Components.{initiator_again, responder_again}
 use Rattle.endpoint_model.specs.Keying.{initiator_part, responder_part}
 use Rattle.endpoint_laws.proofs.Bytes.{front_are, back_are}
 use Rattle.endpoint_model.proofs.Members.{tested}

@@ -12,7 +12,7 @@ use Rattle.rtmfp_chunks.specs.Chunk.{Chunk, IIKeying, RIKeying, Spells, row_of, 
 use Rattle.rtmfp_chunks.specs.FieldReading.{field_then, list_at, row_at, typed, chunk_at, chunk_with, known_chunk, chunk_or_fault, chunk_reading}
 use Rattle.rtmfp_chunks.proofs.FieldLaws.{FieldIs, field_is}
 use Rattle.rtmfp_chunks.proofs.RowLaws.{row_of_parts, RowIs, row_is}
-use Rattle.startup.specs.Packets.{is_signed, is_signed_by, before_signature}
+use Rattle.startup_packets.specs.Packets.{is_signed, is_signed_by, before_signature}
 use Rattle.endpoint_model.specs.Keying.{IsSigned}
 
 -- ---- what is read has the row's form

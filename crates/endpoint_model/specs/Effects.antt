@@ -14,6 +14,7 @@ use Rattle.sha2.specs.Sha256.{sha256}
 use Rattle.cookies.specs.Cookie.{observed}
 use Rattle.identity.specs.declared.discriminator.Epd.{Epd}
 use Rattle.identity.specs.Discriminators.{discriminator_of}
+use Rattle.identity.specs.Targets.{selects, target_of}
 use Rattle.glare_core.specs.declared.facts.Fact.{Fact}
 use Rattle.glare_core.specs.declared.facts.Fact.TheVariants.{Started, Born, Opened, Confirmed, Ended}
 use Rattle.glare_core.specs.declared.answers.StartRefusal.{StartRefusal}
@@ -29,7 +30,7 @@ use Rattle.startup.specs.Attempts.{begin_spread, after_begin, cancel_fact, after
 use Rattle.startup.specs.State.{SpreadParts}
 use Rattle.startup.specs.Redirects.{after_redirect, redirect_spread, sent_by_spread}
 use Rattle.startup.specs.Due.{due, after_due}
-use Rattle.startup.specs.Keyings.{selects, initiator_hello_answer, keyed, after_keying, opened, after_opening}
+use Rattle.startup.specs.Keyings.{initiator_hello_answer, keyed, after_keying, opened, after_opening}
 use Rattle.session_core.specs.declared.stage.Role.TheVariants.{Initiator, Responder}
 use Rattle.session_core.specs.Session.{new_session_under}
 use Rattle.endpoint_model.specs.declared.config.Draws.{Draws}
@@ -244,7 +245,7 @@ introduction s (Some selected) epd tag from =
 -- A hello for this end is answered by the own hello, and does nothing else.
 abbrev pub hello_reply : State → List ℕ → List ℕ → AddressParts → Reply
 hello_reply s epd tag from =
-    if selects (discriminator_of epd) (sha256 s.startup.cert)
+    if selects (target_of epd) s.startup.cert
     then InStartup (Some (initiator_hello_answer s.startup tag from s.moment))
     else introduction s (discriminator_of epd) epd tag from
 

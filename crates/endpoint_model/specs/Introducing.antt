@@ -15,7 +15,7 @@ use Rattle.startup.specs.declared.answer.Answer.{Answer}
 use Rattle.rtmfp_base.specs.declared.cause.Cause.{Cause}
 use Rattle.rtmfp_base.specs.declared.cause.Cause.TheVariants.{NotSelected}
 use Rattle.startup.specs.Attempts.{wide}
-use Rattle.startup.specs.Keyings.{selects}
+use Rattle.identity.specs.Targets.{selects, target_of}
 use Rattle.startup.specs.Redirects.{redirect_answer}
 use Rattle.endpoint_model.specs.State.{State}
 
@@ -56,12 +56,13 @@ introduces_to s (Some epd) =
 
 -- ---- why a hello isn't answered
 
--- Its tag is wide, or its discriminator selects neither this end nor one that is introduced.
+-- Its tag is wide, or its discriminator selects neither this end nor one that is introduced; only
+-- ends that are named by their fingerprints are introduced.
 abbrev pub hello_cause : State → List ℕ → List ℕ → Option Cause
 hello_cause s epd tag =
     first_that_stands (
     wide tag
-    ∷ where_true (not (selects (discriminator_of epd) (sha256 s.startup.cert)
+    ∷ where_true (not (selects (target_of epd) s.startup.cert
     || introduces_to s (discriminator_of epd))) NotSelected
     ∷ [])
 

@@ -22,9 +22,10 @@ use Rattle.startup.specs.declared.answer.Keyed.{Keyed}
 use Rattle.startup.specs.declared.answer.Keyed.TheVariants as keyed
 use Rattle.startup.specs.declared.judging.Hearing.TheVariants.{Change, Again, Birth}
 use Rattle.startup.specs.State.{StartupState}
-use Rattle.startup.specs.Packets.{is_signed}
+use Rattle.startup_packets.specs.Packets.{is_signed}
 use Rattle.startup.specs.Attempts.{wide}
-use Rattle.startup.specs.Keyings.{InitiatorKeying, is_own, heard_cause, cookie_cause, named_cause, keying_of, repeated_session, initiator_cause, change_answer, session_answer, again_or_birth, after_again_or_birth, keyed_with, after_keyed_with, needs_row_with}
+use Rattle.startup_packets.specs.Readings.{InitiatorKeying}
+use Rattle.startup.specs.Keyings.{is_own, heard_cause, cookie_cause, named_cause, keying_of, repeated_session, initiator_cause, change_answer, session_answer, again_or_birth, after_again_or_birth, keyed_with, after_keyed_with, needs_row_with}
 use Rattle.startup.specs.Judging.{unless_cause, heard_as, hearing, judged_initiator}
 use Rattle.glare_core.proofs.Judging.{unrefused}
 use Rattle.startup.proofs.Uncaused.{IsHeard, no_cause_is_heard}

@@ -1,7 +1,4 @@
 pub mod Sound
-pub mod Sizes
-pub mod Components
-pub mod Offsets
 pub mod Stepping
 pub mod Uncaused
 pub mod Keeping
@@ -9,7 +6,6 @@ pub mod Choices
 pub mod Startups
 pub mod Falling
 pub mod Chosen
-pub mod Standing
 pub mod Judged
 pub mod Redirected
 pub mod Seats

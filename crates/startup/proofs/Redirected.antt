@@ -1,11 +1,10 @@
--- Redirects: the addresses that join the candidates, and addresses that are spelled one after another.
+-- Redirects: the addresses that join the candidates.
 use Rattle.std.proofs.Common.{◌≡◌, ℕ, ◌≤◌, Bool, true, false, if◌then◌else◌, List, [], ◌∷◌, ◌++◌, length, Some, None, refl, sym, ap, ◌∙◌, arith, append_assoc, append-nil, length-append}
 use Rattle.std.specs.List.{fold, list_any}
-use Rattle.rtmfp_forms.specs.Address.{AddressParts, AddressSpells, address_bytes, is_same_place}
-use Rattle.rtmfp_chunks.specs.Fields.{AddressesSpell, AreAddresses}
+use Rattle.rtmfp_forms.specs.Address.{AddressParts, is_same_place}
 use Rattle.startup.specs.State.{AttemptState, StartupState}
 use Rattle.startup.specs.Attempts.{has_tag, lowest}
-use Rattle.startup.specs.Redirects.{joined_beside, new_candidates, addresses_bytes, redirect_cause_among, redirect_spread_of, sent_by_spread, added, after_extension, after_redirect_of}
+use Rattle.startup.specs.Redirects.{joined_beside, new_candidates, redirect_cause_among, redirect_spread_of, sent_by_spread, added, after_extension, after_redirect_of}
 use Rattle.startup.specs.Sought.{IsExtension}
 use Rattle.startup.specs.Judging.{IsFound, ExtensionParts, Extends, after_extension_of, extension_spread}
 
@@ -52,22 +51,3 @@ module _ (s : StartupState) (tag : List ℕ) (told : List AddressParts) (e : Ext
   left_is moment =
       ap (λ o. after_extension_of s o e.new moment) is.chosen_is ∙ ap (λ l. after_extension s (e.found.near, is.attempt) l moment) is.new_is
       ∙ sym (ap (λ o. after_redirect_of s o told moment) is.chosen_is)
-
--- ---- addresses that are spelled
-
-spelled_end : (addresses : List AddressParts) (b : List ℕ) (a : AddressParts) (front : List ℕ) → AddressesSpell addresses b → AddressSpells a front → AddressesSpell (addresses ++ a ∷ []) (b ++ front)
-spelled_end [] b a front is one = (front, [], ap (λ (x : List ℕ). x ++ front) is ∙ sym (append-nil front), one, refl)
-spelled_end (x ∷ addresses) b a front is one =
-    (is.0, is.1 ++ front, ap (λ (y : List ℕ). y ++ front) is.2 ∙ append_assoc is.0 is.1 front, is.3, spelled_end addresses is.1 a front is.4 one)
-
--- one more address
-pub are_more : (b : List ℕ) (a : AddressParts) (front : List ℕ) → AreAddresses b → AddressSpells a front → AreAddresses (b ++ front)
-are_more b a front are one = (are.0 ++ a ∷ [], spelled_end are.0 b a front are.1 one)
-
-put_last : (done : List AddressParts) (a : AddressParts) (bytes : List ℕ) →
-    fold (λ all address. all ++ address_bytes address) bytes (done ++ a ∷ []) ≡ fold (λ all address. all ++ address_bytes address) bytes done ++ address_bytes a
-put_last [] a bytes = refl
-put_last (x ∷ done) a bytes = put_last done a (bytes ++ address_bytes x)
-
-pub bytes_more : (done : List AddressParts) (a : AddressParts) → addresses_bytes (done ++ a ∷ []) ≡ addresses_bytes done ++ address_bytes a
-bytes_more done a = put_last done a []

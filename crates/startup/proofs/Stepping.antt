@@ -29,7 +29,8 @@ use Rattle.startup.specs.declared.aim.Aim.{Aim}
 use Rattle.startup.specs.declared.aim.Aim.TheVariants.{AtPeer}
 use Rattle.startup.specs.Aims.{peer_of_aim, IsHeldAs}
 use Rattle.startup.specs.State.{AttemptState, Attempts, StartupState, IsSound, peer_of_attempt}
-use Rattle.startup.specs.Keyings.{again_or_birth, session_answer, born_session, ResponderKeying, repeated_session, attempt_gone, opening_id, without, after_again_or_birth, opened_with, after_opening}
+use Rattle.startup.specs.Keyings.{again_or_birth, session_answer, born_session, repeated_session, attempt_gone, opening_id, without, after_again_or_birth, opened_with, after_opening}
+use Rattle.startup_packets.specs.Readings.{ResponderKeying}
 
 -- ---- the ledger
 

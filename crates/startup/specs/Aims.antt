@@ -8,7 +8,7 @@ use Rattle.glare_core.specs.declared.facts.Held.TheVariants.{Opening}
 use Rattle.glare_core.specs.Ledger.{Ledger, held_with}
 use Rattle.startup.specs.declared.aim.Aim.{Aim}
 use Rattle.startup.specs.declared.aim.Aim.TheVariants.{AtPeer}
-use Rattle.startup.specs.Packets.{iikeying_signed}
+use Rattle.startup_packets.specs.Packets.{iikeying_signed}
 
 -- the peer that is aimed at, where it is known
 abbrev pub peer_of_aim : Aim → Option (List ℕ)

@@ -23,7 +23,7 @@ use Rattle.startup.specs.declared.aim.Aim.{Aim}
 use Rattle.startup.specs.declared.aim.Aim.TheVariants.{AtPeer}
 use Rattle.startup.specs.Aims.{is_numbered, is_towards, discriminator_of_aim, keying_of_aim, end_of_aim}
 use Rattle.startup.specs.State.{AttemptState, Attempts, StartupState, SpreadParts}
-use Rattle.startup.specs.Packets.{ihello_packet}
+use Rattle.startup_packets.specs.Packets.{ihello_packet}
 
 -- ---- finding attempts
 

@@ -19,7 +19,8 @@ use Rattle.startup.specs.declared.leaving.Found.{Found}
 use Rattle.startup.specs.State.{AttemptState, StartupState, SpreadParts}
 use Rattle.startup.specs.Attempts.{hello_spread}
 use Rattle.startup.specs.Redirects.{after_extension}
-use Rattle.startup.specs.Keyings.{InitiatorKeying, keying_of, repeated_session, initiator_cause}
+use Rattle.startup_packets.specs.Readings.{InitiatorKeying}
+use Rattle.startup.specs.Keyings.{keying_of, repeated_session, initiator_cause}
 
 -- what was found, where no cause stands
 abbrev pub unless_cause : {A : Type 0} → A → Option Cause → Result A Cause

@@ -1,23 +1,15 @@
 -- The keyings that bear and open sessions: how they read, why they are discarded, and what they
 -- make.
-use Rattle.std.specs.Prelude.{ℕ, List, [], ◌∷◌, ◌+◌, ◌-◌, ◌==◌, ◌||◌, Bool, true, false, not, length, drop, Option, Some, None, is_some, is_none, Result, Ok, Err, if◌then◌else◌}
+use Rattle.std.specs.Prelude.{ℕ, List, [], ◌∷◌, ◌-◌, ◌==◌, ◌||◌, Bool, true, false, not, Option, Some, None, is_none, Result, Ok, Err, if◌then◌else◌}
 use Rattle.std.specs.Str.{bytes_eq}
 use Rattle.std.specs.FinMap.{contains_key, get, remove}
 use Rattle.sha2.specs.Sha256.{sha256}
-use Rattle.rtmfp_vlu.specs.declared.reading.VluFault.{VluFault}
-use Rattle.rtmfp_vlu.specs.Reading.{number_at}
 use Rattle.rtmfp_forms.specs.Address.{AddressParts}
 use Rattle.rtmfp_chunks.specs.declared.kinds.TheConstants.{IIKEYING, RIKEYING}
-use Rattle.rtmfp_chunks.specs.declared.reading.ChunkFault.{ChunkFault}
-use Rattle.rtmfp_chunks.specs.declared.reading.ChunkFault.TheVariants.{Unknown, Malformed as BadField}
-use Rattle.rtmfp_chunks.specs.Chunk.{Chunk, IIKeying, RIKeying}
-use Rattle.rtmfp_chunks.specs.FieldReading.{chunk_reading}
 use Rattle.cookies.specs.declared.CookieTest.{CookieTest}
 use Rattle.cookies.specs.declared.CookieTest.TheVariants.{Bad, Moved, Expired, Current}
 use Rattle.cookies.specs.Cookie.{cookie_of, cookie_test}
-use Rattle.identity.specs.declared.discriminator.Epd.{Epd}
-use Rattle.identity.specs.Certificates.{certificate_fault}
-use Rattle.identity.specs.Discriminators.{discriminator_of}
+use Rattle.identity.specs.Targets.{selects, target_of}
 use Rattle.glare_core.specs.declared.facts.Fact.{Fact}
 use Rattle.glare_core.specs.declared.facts.Fact.TheVariants.{Opened, Ended}
 use Rattle.glare_core.specs.declared.facts.Why.{Why}
@@ -32,7 +24,7 @@ use Rattle.glare_core.specs.Ledger.{Ledger, held_with, knows}
 use Rattle.rtmfp_base.specs.Reasons.{where_true, first_that_stands}
 use Rattle.glare_core.specs.Calls.{is_born_of, hear_refusal, heard, heard_noted, way_made, born_fact}
 use Rattle.rtmfp_base.specs.declared.cause.Cause.{Cause}
-use Rattle.rtmfp_base.specs.declared.cause.Cause.TheVariants.{UnknownChunk, Malformed, NotSelected, NoAttempt, WrongPeer, WrongState, BadCookie, BadSignature, WrongResponder, OwnCertificate, Stale, Glare, PeersFull, SessionsFull}
+use Rattle.rtmfp_base.specs.declared.cause.Cause.TheVariants.{NotSelected, NoAttempt, WrongPeer, WrongState, BadCookie, BadSignature, WrongResponder, OwnCertificate, Stale, Glare, PeersFull, SessionsFull}
 use Rattle.startup.specs.declared.answer.Answer.{Answer}
 use Rattle.startup.specs.declared.answer.Keyed.{Keyed}
 use Rattle.startup.specs.declared.answer.Keyed.TheVariants.{Change, Again, Birth}
@@ -40,99 +32,13 @@ use Rattle.startup.specs.declared.aim.Aim.{Aim}
 use Rattle.startup.specs.declared.aim.Aim.TheVariants.{AtPeer}
 use Rattle.startup.specs.declared.attempt.Stage.{Stage}
 use Rattle.startup.specs.declared.attempt.Stage.TheVariants.{Hello, Keying as KeyingStage}
-use Rattle.startup.specs.declared.parts.InitiatorPart.{InitiatorPart}
-use Rattle.startup.specs.declared.parts.ResponderPart.{ResponderPart}
-use Rattle.startup.specs.Packets.{initiator_part_in, responder_part_in, is_signed, rhello_packet, cookiechange_packet, rikeying_packet}
+use Rattle.startup_packets.specs.Readings.{InitiatorKeying, ResponderKeying, initiator_keying_in, responder_keying_in}
+use Rattle.startup_packets.specs.Packets.{is_signed, rhello_packet, cookiechange_packet, rikeying_packet}
 use Rattle.startup.specs.Aims.{is_towards}
 use Rattle.startup.specs.State.{AttemptState, Attempts, StartupState}
 use Rattle.startup.specs.Attempts.{wide, without_attempt}
 
 -- ---- how they read
-
--- what an initiator's keying says
-pub record InitiatorKeying : Type 0 where
-  -- its session ID
-  pub near : ℕ
-  pub cookie : List ℕ
-  pub cert : List ℕ
-  pub part : InitiatorPart
-  pub sign : List ℕ
-
--- what a responder's keying says
-pub record ResponderKeying : Type 0 where
-  -- its session ID
-  pub near : ℕ
-  pub part : ResponderPart
-  pub sign : List ℕ
-
--- how many bytes a VLU takes
-abbrev pub bytes_used : Result (ℕ × ℕ) VluFault → ℕ
-bytes_used (Ok found) = found.1
-bytes_used (Err fault) = 0
-
--- the offset in a payload of what stands behind the VLU at this offset
-abbrev pub behind_vlu : List ℕ → ℕ → ℕ
-behind_vlu payload at = at + bytes_used (number_at (drop at payload))
-
--- the offset of the certificate, which stands behind its length, after the session ID and a cookie
--- of so many bytes behind their length
-unfoldable pub cert_offset : List ℕ → ℕ → ℕ
-cert_offset payload cookie_len = behind_vlu payload (behind_vlu payload 4 + cookie_len)
-
--- the offset of the part, which stands before the signature at the end
-abbrev pub part_offset : List ℕ → List ℕ → List ℕ → ℕ
-part_offset payload part sign = length payload - length sign - length part
-
-abbrev pub fault_cause : ChunkFault → Cause
-fault_cause (Unknown kind) = UnknownChunk kind
-fault_cause (BadField at) = Malformed at
-
-abbrev pub with_initiator_part : ℕ → ℕ → List ℕ → List ℕ → List ℕ → Option InitiatorPart →
-    Result InitiatorKeying Cause
-with_initiator_part at near cookie cert sign None = Err (Malformed at)
-with_initiator_part at near cookie cert sign (Some part) =
-    Ok (record { near = near; cookie = cookie; cert = cert; part = part; sign = sign })
-
--- these fields, where each has its form: the session ID isn't 0, and the certificate and the part
--- are ones; the first that hasn't is told
-abbrev pub formed_initiator : List ℕ → ℕ → List ℕ → List ℕ → List ℕ → List ℕ →
-    Result InitiatorKeying Cause
-formed_initiator payload near cookie cert part sign =
-    if near == 0 then Err (Malformed 0)
-    else if is_some (certificate_fault cert) then
-    Err (Malformed (cert_offset payload (length cookie)))
-    else with_initiator_part (part_offset payload part sign) near cookie cert sign
-    (initiator_part_in part)
-
--- no other chunk has the type
-abbrev pub initiator_fields : List ℕ → Result Chunk ChunkFault → Result InitiatorKeying Cause
-initiator_fields payload (Ok (IIKeying near cookie cert part sign)) =
-    formed_initiator payload near cookie cert part sign
-initiator_fields payload (Ok chunk) = Err (UnknownChunk IIKEYING)
-initiator_fields payload (Err fault) = Err (fault_cause fault)
-
--- an initiator's keying, read from its payload
-unfoldable pub initiator_keying_in : List ℕ → Result InitiatorKeying Cause
-initiator_keying_in payload = initiator_fields payload (chunk_reading IIKEYING payload)
-
-abbrev pub with_responder_part : ℕ → ℕ → List ℕ → Option ResponderPart →
-    Result ResponderKeying Cause
-with_responder_part at near sign None = Err (Malformed at)
-with_responder_part at near sign (Some part) = Ok (record { near = near; part = part; sign = sign })
-
-abbrev pub formed_responder : List ℕ → ℕ → List ℕ → List ℕ → Result ResponderKeying Cause
-formed_responder payload near part sign =
-    if near == 0 then Err (Malformed 0)
-    else with_responder_part (part_offset payload part sign) near sign (responder_part_in part)
-
-abbrev pub responder_fields : List ℕ → Result Chunk ChunkFault → Result ResponderKeying Cause
-responder_fields payload (Ok (RIKeying near part sign)) = formed_responder payload near part sign
-responder_fields payload (Ok chunk) = Err (UnknownChunk RIKEYING)
-responder_fields payload (Err fault) = Err (fault_cause fault)
-
--- a responder's keying, read from its payload
-unfoldable pub responder_keying_in : List ℕ → Result ResponderKeying Cause
-responder_keying_in payload = responder_fields payload (chunk_reading RIKEYING payload)
 
 -- why it doesn't read, or what this test says of it
 abbrev pub cause_by : {A : Type 0} → (A → Option Cause) → Result A Cause → Option Cause
@@ -141,15 +47,11 @@ cause_by test (Err cause) = Some cause
 
 -- ---- hellos
 
-abbrev pub selects : Option Epd → List ℕ → Bool
-selects None print = false
-selects (Some epd) print = bytes_eq epd.print print
-
 -- why an initiator's hello isn't answered: its tag is wide, or its discriminator doesn't select the
--- own certificate
+-- own certificate, by its fingerprint or by its name
 abbrev pub initiator_hello_cause : StartupState → List ℕ → List ℕ → Option Cause
 initiator_hello_cause s epd tag = first_that_stands
-    (wide tag ∷ where_true (not (selects (discriminator_of epd) (sha256 s.cert))) NotSelected ∷ [])
+    (wide tag ∷ where_true (not (selects (target_of epd) s.cert)) NotSelected ∷ [])
 
 -- what answers it: its tag, a new cookie for the address, and the own certificate
 abbrev pub initiator_hello_answer : StartupState → List ℕ → AddressParts → ℕ → Answer

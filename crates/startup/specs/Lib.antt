@@ -2,7 +2,6 @@ pub mod Words
 pub mod Aims
 pub mod State
 pub mod Rows
-pub mod Packets
 pub mod Attempts
 pub mod Due
 pub mod Sought
@@ -10,9 +9,7 @@ pub mod Table
 pub mod Indexed
 pub mod Marks
 pub mod Keyings
-pub mod Read
 pub mod Redirects
 pub mod Judging
 pub mod Refusals
 pub mod Edges
-pub mod Offsets

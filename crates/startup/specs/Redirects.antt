@@ -2,8 +2,7 @@
 -- how many there may be, and what an empty list says, is own).
 use Rattle.std.specs.Prelude.{ℕ, ◌+◌, nat_lt, not, if◌then◌else◌, List, [], ◌∷◌, ◌++◌, length, Option, Some, None}
 use Rattle.std.specs.List.{fold, list_any}
-use Rattle.rtmfp_forms.specs.Address.{AddressParts, is_same_place, address_bytes}
-use Rattle.rtmfp_chunks.specs.Chunk.{Redirect}
+use Rattle.rtmfp_forms.specs.Address.{AddressParts, is_same_place}
 use Rattle.rtmfp_chunks.specs.FieldReading.{addresses_in}
 use Rattle.rtmfp_base.specs.Reasons.{where_true, first_that_stands}
 use Rattle.startup.specs.declared.answer.Answer.{Answer}
@@ -12,7 +11,7 @@ use Rattle.rtmfp_base.specs.declared.cause.Cause.TheVariants.{NoAttempt, WrongSt
 use Rattle.startup.specs.State.{AttemptState, Attempts, StartupState, SpreadParts}
 use Rattle.startup.specs.Attempts.{lowest, has_tag, wide, joined, with_attempt, hello_spread}
 use Rattle.startup.specs.Keyings.{is_in_hello}
-use Rattle.startup.specs.Packets.{startup_packet}
+use Rattle.startup_packets.specs.Packets.{redirect_packet}
 
 -- ---- what a redirect tells
 
@@ -103,13 +102,6 @@ adds s tag list from =
     added (redirect_cause s tag list from) (redirect_spread s tag list from)
 
 -- ---- the redirect of an introducer
-
--- addresses one after another, as they are
-abbrev pub addresses_bytes : List AddressParts → List ℕ
-addresses_bytes addresses = fold (λ bytes address. bytes ++ address_bytes address) [] addresses
-
-unfoldable pub redirect_packet : List ℕ → List AddressParts → List ℕ
-redirect_packet tag addresses = startup_packet (Redirect tag (addresses_bytes addresses))
 
 -- the redirect that answers a hello with this tag, to where it came from
 abbrev pub redirect_answer : List ℕ → List AddressParts → AddressParts → Answer

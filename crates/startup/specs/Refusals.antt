@@ -12,7 +12,8 @@ use Rattle.rtmfp_base.specs.declared.cause.Cause.TheVariants.{UnknownChunk, Malf
 use Rattle.startup.specs.State.{StartupState}
 use Rattle.startup.specs.Attempts.{rhello_cause, cookie_change_cause}
 use Rattle.startup.specs.Redirects.{redirect_cause}
-use Rattle.startup.specs.Keyings.{fault_cause, iikeying_cause, rikeying_cause}
+use Rattle.startup_packets.specs.Readings.{fault_cause}
+use Rattle.startup.specs.Keyings.{iikeying_cause, rikeying_cause}
 
 -- A responder's hello whose certificate has no form is malformed there; the certificate ends the
 -- payload.

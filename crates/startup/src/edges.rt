@@ -24,9 +24,10 @@ ghost use Rattle.startup.specs.declared.answer.Due.TheVariants.{Ended as EndDue,
 ghost use Rattle.startup.specs.State.{AttemptState, Attempts, StartupState};
 ghost use Rattle.startup.specs.Attempts.{after_answer, after_change, answered, begun_attempt, change_cause_among, changed, has_tag, hello_cause, hello_cause_among, keying_signed, lowest, distinct_candidates, recookied, wide, with_attempt, without_attempt};
 ghost use Rattle.startup.specs.Due.{after_due_of, due_of, gap_of, is_over, is_repeat_due, repeat_signed, repeated, sends};
-ghost use Rattle.startup.specs.Keyings.{InitiatorKeying, ResponderKeying, attempt_cause, cert_offset, change_answer, cookie_cause, formed_initiator, formed_responder, heard_cause, initiator_cause, initiator_hello_answer, is_own, keying_of, named_cause, responder_cause, session_answer};
+ghost use Rattle.startup_packets.specs.Readings.{InitiatorKeying, ResponderKeying};
+ghost use Rattle.startup.specs.Keyings.{attempt_cause, change_answer, cookie_cause, heard_cause, initiator_cause, initiator_hello_answer, is_own, keying_of, named_cause, responder_cause, session_answer};
 ghost use Rattle.startup.specs.Refusals.{rhello_refusal_with};
-ghost use Rattle.startup.specs.Packets.{cookiechange_packet, ihello_packet, iikeying_signed, initiator_part, initiator_part_in, is_signed, responder_part, responder_part_in, rhello_packet, rikeying_packet};
+ghost use Rattle.startup_packets.specs.Packets.{cookiechange_packet, ihello_packet, iikeying_signed, is_signed, rhello_packet, rikeying_packet};
 ghost use Rattle.startup.specs.Redirects.{after_extension, extended, full_cause, new_candidates, or_source, redirect_cause_among, redirect_cause_at, redirect_spread_of, told_addresses};
 ghost use Rattle.startup.specs.Edges.{v4, timed, towards, in_hello, in_keying, AreTwo};
 
@@ -247,52 +248,8 @@ pub fn a_hello_meets_the_hello_stage()
         hello_cause (Keying at cookie) aim print ≡ Some WrongState }
 {}
 
-/// The part of an initiator has 56 bytes: its nonce, the number of its attempt and the fingerprint
-/// of the end that it calls.
-#[tactic(auto, unfolding(crate::specs::Packets::initiator_part_in))]
-pub fn a_part_of_an_initiator_has_56_bytes()
-    ensures fields { initiator_part_in (replicate 16 1 ++ replicate 7 0 ++ 2 ∷ replicate 32 3)
-        ≡ Some (record { ni = replicate 16 1; n = 2; responder = replicate 32 3 }) }
-    ensures short { initiator_part_in (replicate 55 1) ≡ None }
-    ensures long { initiator_part_in (replicate 57 1) ≡ None }
-    ensures spelled { initiator_part (replicate 16 1) 2 (replicate 32 3) ≡ replicate 16 1
-        ++ replicate 7 0 ++ 2 ∷ replicate 32 3 }
-{}
-
-/// The part of a responder has 72 bytes: its nonce, the count of its attempts, its fingerprint and
-/// the initiator's nonce.
-#[tactic(auto, unfolding(crate::specs::Packets::responder_part_in))]
-pub fn a_part_of_a_responder_has_72_bytes()
-    ensures fields { responder_part_in (replicate 16 1 ++ replicate 7 0 ++ 2 ∷ replicate 32 3
-        ++ replicate 16 4)
-        ≡ Some (record {
-          nr = replicate 16 1;
-          k = 2;
-          responder = replicate 32 3;
-          ni = replicate 16 4;
-        }) }
-    ensures short { responder_part_in (replicate 71 1) ≡ None }
-    ensures long { responder_part_in (replicate 73 1) ≡ None }
-    ensures spelled { responder_part (replicate 16 1) 2 (replicate 32 3) (replicate 16 4)
-        ≡ replicate 16 1 ++ replicate 7 0 ++ 2 ∷ replicate 32 3 ++ replicate 16 4 }
-{}
-
-/// A keying's form is told in the order of its fields: a session ID of 0, then the certificate,
-/// then the part, which stands before the signature at the end.
-pub fn the_first_field_without_its_form_is_told()
-    ensures id { (payload cookie cert part sign : List ℕ) →
-        formed_initiator payload 0 cookie cert part sign ≡ Err (Malformed 0) }
-    ensures certificate { (payload cookie part sign : List ℕ) →
-        formed_initiator payload 1 cookie (replicate 16 0x61) part sign
-        ≡ Err (Malformed (cert_offset payload (length cookie))) }
-    ensures part { (cookie : List ℕ) → initiator_part_in (replicate 55 1) ≡ None →
-        formed_initiator (replicate 200 0) 1 cookie (replicate 17 0x61) (replicate 55 1)
-        (replicate 32 2) ≡ Err (Malformed 113) }
-    ensures responder_id { (payload part sign : List ℕ) →
-        formed_responder payload 0 part sign ≡ Err (Malformed 0) }
-    ensures responder_part { responder_part_in (replicate 71 1) ≡ None →
-        formed_responder (replicate 200 0) 1 (replicate 71 1) (replicate 32 2)
-        ≡ Err (Malformed 97) }
+/// What is no certificate in a responder's hello is told at its offset.
+pub fn a_hello_without_a_certificate_is_told()
     ensures hello { (s : StartupState) (tag cookie : List ℕ) →
         rhello_refusal_with s (replicate 100 0) tag cookie (replicate 16 0x61)
         ≡ Some (Malformed 84) }

@@ -7,30 +7,30 @@ ghost use Rattle.std.specs.FinMap.{get};
 ghost use Rattle.sha2.specs.Sha256.{sha256};
 ghost use Rattle.cookies.specs.declared.CookieTest.TheVariants.{Current};
 ghost use Rattle.glare_core.specs.Account.{Gave};
-ghost use Rattle.startup.specs.Keyings.{initiator_keying_in, responder_keying_in, keying_of};
+ghost use Rattle.startup_packets.specs.Readings.{initiator_keying_in, responder_keying_in};
+ghost use Rattle.startup.specs.Keyings.{keying_of};
 ghost use Rattle.startup.specs.Keyings.{is_own, heard_cause, named_cause, keyed, after_keying};
 ghost use Rattle.startup.specs.Keyings.{needs_row, keyed_facts, iikeying_cause};
 ghost use Rattle.startup.specs.Keyings.{is_in_hello, attempt_cause, responder_cause, opening_cause};
 ghost use Rattle.startup.specs.Keyings.{rikeying_cause, opened, after_opening};
-ghost use Rattle.startup.specs.Packets.{is_signed};
+ghost use Rattle.startup_packets.specs.Packets.{is_signed};
 ghost use Rattle.startup.specs.Judging.{unless_cause, heard_as, hearing, judged_initiator};
-ghost use Rattle.startup.specs.Read.{initiator_of, responder_of};
+ghost use Rattle.startup_packets.specs.Read.{initiator_of, responder_of};
 ghost use Rattle.startup.specs.State.{peer_of_attempt};
 
 use crate::aim::Aim;
 use crate::answer::{KeyRefusal, Keyed};
 use crate::attempt::{Attempt, Stage};
 use crate::choosing::wide;
-use crate::parts::is_signed;
-use crate::reading::{
-    InitiatorFields, ResponderFields, read_initiator_keying, read_responder_keying,
-};
 use crate::startup::Startup;
 use cookies::CookieTest;
 use glare_core::{Fact, HearRefusal, Joined, Judged, Keying, Way};
 use identity::Certificate;
 use rtmfp_base::Cause;
 use rtmfp_forms::Address;
+use startup_packets::{
+    InitiatorFields, ResponderFields, is_signed, read_initiator_keying, read_responder_keying,
+};
 
 /// What hearing an initiator's keying would be that isn't discarded.
 #[derive(Drop)]

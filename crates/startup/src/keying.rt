@@ -4,27 +4,29 @@
 ghost use Rattle.std.specs.Prelude.{Bool, [], ◌∷◌, ◌≡◌, ◌≢◌, ◌≤◌, length, true, false, IfOk, IfErr};
 ghost use Rattle.std.specs.Prelude.{IfSome, IfNone, IsOkAnd, IsTrue, OnErr, Ok, Err, Some, None};
 ghost use Rattle.sha2.specs.Sha256.{sha256};
+ghost use Rattle.identity.specs.Targets.{selects, target_of};
 ghost use Rattle.glare_core.specs.declared.answers.Judged.TheVariants.{Birth as IsBirth};
 ghost use Rattle.glare_core.specs.Ledger.{held_with, knows};
 ghost use Rattle.glare_core.specs.Account.{Gave};
 ghost use Rattle.glare_core.specs.Calls.{judged};
-ghost use Rattle.startup.specs.Keyings.{selects, initiator_hello_cause, initiator_hello_answer};
+ghost use Rattle.startup.specs.Keyings.{initiator_hello_cause, initiator_hello_answer};
 ghost use Rattle.startup.specs.Keyings.{iikeying_cause, change_answer, session_answer};
 ghost use Rattle.startup.specs.Keyings.{repeated_session, again_or_birth, after_again_or_birth};
 ghost use Rattle.startup.specs.Keyings.{keyed, after_keying, needs_row, keyed_facts, attempt_gone, gone_for};
 ghost use Rattle.startup.specs.Keyings.{rikeying_cause, opened, after_opening};
-ghost use Rattle.startup.specs.Read.{initiator_of};
+ghost use Rattle.startup_packets.specs.Read.{initiator_of};
 
 use crate::answer::{Answer, KeyRefusal, Keyed};
 use crate::choosing::wide;
-use crate::packets::{cookiechange_packet, rhello_packet, rikeying_packet};
-use crate::reading::{InitiatorFields, read_initiator_keying, read_responder_keying};
 use crate::rows::forget;
 use crate::startup::Startup;
 use glare_core::{Fact, Joined, Keying, Way, Why};
-use identity::Epd;
 use rtmfp_base::Cause;
 use rtmfp_forms::Address;
+use startup_packets::{
+    InitiatorFields, cookiechange_packet, read_initiator_keying, read_responder_keying,
+    rhello_packet, rikeying_packet,
+};
 
 /// The near id of what ends for such a cause, where it is an attempt that makes way for a session.
 fn gone_for(near: u32, why: Why) -> Option<u32>
@@ -54,17 +56,17 @@ impl Startup {
         if let Some(cause) = wide(tag) {
             return Some(cause);
         }
-        match Epd::read(epd) {
-            Some(selected) if self.is_selected_by(&selected) => None,
-            _ => Some(Cause::NotSelected),
+        if self.is_selected_by(epd) {
+            return None;
         }
+        Some(Cause::NotSelected)
     }
 
-    /// Whether a discriminator that was read selects the own certificate.
-    pub fn is_selected_by(&self, selected: &Epd) -> bool
-        ensures { result ≡ selects (Some selected.now) (sha256 self.now.cert) }
+    /// Whether a discriminator selects the own certificate, by its fingerprint or by its name.
+    pub fn is_selected_by(&self, epd: &[u8]) -> bool
+        ensures { result ≡ selects (target_of epd.now) self.now.cert }
     {
-        selected.print == self.print
+        self.cert.is_selected_by(&self.print, epd)
     }
 
     /// Answers an initiator's hello, which came from an address or has it as its reply address, by

@@ -17,12 +17,12 @@ use crate::choosing::wide;
 use crate::indexed::IndexedAttempts;
 use crate::judging::is_in_hello;
 use crate::leaving::Found;
-use crate::packets::redirect_packet;
 use crate::rows::{FoundAttempt, Sought};
 use crate::sending::hello_to;
 use crate::startup::Startup;
 use rtmfp_base::Cause;
 use rtmfp_forms::Address;
+use startup_packets::redirect_packet;
 use std::marker::Model;
 
 /// What a redirect adds: the attempt that was found, and its further candidates.

@@ -5,13 +5,13 @@ ghost use Rattle.startup.specs.Refusals.{rhello_refusal_with, rhello_refusal, co
 ghost use Rattle.startup.specs.Attempts.{cookie_change_cause};
 ghost use Rattle.startup.specs.Redirects.{redirect_cause};
 
-use crate::reading::fault_cause;
 use crate::startup::Startup;
 use identity::Certificate;
 use rtmfp_base::Cause;
 use rtmfp_chunks::kinds::{COOKIE_CHANGE, IIKEYING, REDIRECT, RHELLO, RIKEYING};
 use rtmfp_chunks::{ChunkView, read_chunk};
 use rtmfp_forms::Address;
+use startup_packets::fault_cause;
 
 impl Startup {
     /// The cause with which `responder_hello`, `redirect`, `cookie_change`, `initiator_keying` or

@@ -7,11 +7,11 @@ ghost use Rattle.startup.specs.Due.{repeat_signed};
 use crate::aim::Aim;
 use crate::answer::{Answer, Due, Spread};
 use crate::attempt::{Attempt, Stage};
-use crate::packets::{ihello_packet, iikeying_packet};
 use crypto_profile::HmacKey;
 use identity::Certificate;
 use rtmfp_base::limits::CANDIDATES;
 use rtmfp_forms::Address;
+use startup_packets::{ihello_packet, iikeying_packet};
 
 /// The hellos of an attempt, to the first `count` of these addresses.
 pub(crate) fn hello_to(attempt: &Attempt, to: &[Address; CANDIDATES], count: usize) -> Spread

@@ -1,6 +1,6 @@
 use Rattle.std.proofs.Common.{sym, ap, ◌∙◌, rules}
-use Rattle.startup.specs.Keyings.{InitiatorKeying}
-use Rattle.startup.specs.Read.{initiator_of, initiator_read}
+use Rattle.startup_packets.specs.Readings.{InitiatorKeying}
+use Rattle.startup_packets.specs.Read.{initiator_of, initiator_read}
 use Rattle.startup.specs.Judging.{judged_initiator}
 use Rattle.endpoint_model.specs.Causes.{takes}
 use Rattle.end_chunks.proofs.Reasons.{judged_none, judged_some}

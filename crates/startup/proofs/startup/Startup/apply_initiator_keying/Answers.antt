@@ -6,7 +6,7 @@ use Rattle.startup.specs.declared.answer.KeyRefusal.{KeyRefusal}
 use Rattle.startup.specs.declared.answer.KeyRefusal.TheVariants.{Memory}
 use Rattle.startup.specs.declared.judging.Hearing.{Hearing}
 use Rattle.startup.specs.Keyings.{keyed as keyed_now, keyed_reading, after_keying, after_keyed_reading, needs_row, needs_row_reading, again_or_birth, after_again_or_birth}
-use Rattle.startup.specs.Read.{initiator_of}
+use Rattle.startup_packets.specs.Read.{initiator_of}
 use Rattle.startup.proofs.Judged.{birth_so, change_so, again_so, if_ok, if_err}
 use Rattle.startup.proofs.startup.Startup.apply_initiator_keying.Goals as goal
 

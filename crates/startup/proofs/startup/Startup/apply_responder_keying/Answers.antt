@@ -2,7 +2,7 @@ use Rattle.std.proofs.Common.{ap, ◌∙◌}
 use Rattle.std.specs.FinMap.{get}
 use Rattle.startup.specs.State.{StartupState, peer_of_attempt}
 use Rattle.startup.specs.Rows.{state_of}
-use Rattle.startup.specs.Read.{responder_of}
+use Rattle.startup_packets.specs.Read.{responder_of}
 use Rattle.startup.proofs.Stepping.{opened_is_kept_sound}
 use Rattle.startup.proofs.startup.Startup.apply_responder_keying.Goals as goal
 

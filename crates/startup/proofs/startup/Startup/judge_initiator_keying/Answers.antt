@@ -2,8 +2,8 @@ use Rattle.std.proofs.Common.{◌≡◌, sym, ap, ◌∙◌, rules}
 use Rattle.cookies.specs.declared.CookieTest.TheVariants.{Current}
 use Rattle.cookies.specs.Cookie.{cookie_test}
 use Rattle.startup.specs.State.{StartupState}
-use Rattle.startup.specs.Keyings.{InitiatorKeying}
-use Rattle.startup.specs.Read.{initiator_of}
+use Rattle.startup_packets.specs.Readings.{InitiatorKeying}
+use Rattle.startup_packets.specs.Read.{initiator_of}
 use Rattle.startup.proofs.Judged.{current_judged}
 use Rattle.startup.proofs.startup.Startup.judge_initiator_keying.Goals as goal
 

@@ -5,8 +5,9 @@ use Rattle.sha2.specs.Sha256.{sha256}
 use Rattle.glare_core.specs.declared.answers.Keying.{Keying}
 use Rattle.glare_core.specs.Calls.{judged}
 use Rattle.startup.specs.declared.judging.Hearing.{Hearing}
-use Rattle.startup.specs.Keyings.{InitiatorKeying, keying_of, is_own}
-use Rattle.startup.specs.Read.{initiator_of}
+use Rattle.startup_packets.specs.Readings.{InitiatorKeying}
+use Rattle.startup.specs.Keyings.{keying_of, is_own}
+use Rattle.startup_packets.specs.Read.{initiator_of}
 use Rattle.startup.specs.Judging.{heard_as}
 use Rattle.startup.proofs.Judged.{judged_ok}
 use Rattle.startup.proofs.startup.Startup.judge_named.Goals as goal

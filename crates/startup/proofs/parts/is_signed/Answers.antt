@@ -1,7 +1,0 @@
-use Rattle.std.proofs.Common.{rules}
-use Rattle.startup.specs.Packets.{is_signed_by}
-use Rattle.startup.proofs.parts.is_signed.Goals as goal
-
-pub returns : goal.returns
-unfolding is_signed_by
-returns c = search rules

@@ -1,0 +1,5 @@
+pub mod Sizes
+pub mod Components
+pub mod Offsets
+pub mod Standing
+pub mod Addresses

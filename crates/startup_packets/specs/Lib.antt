@@ -1,0 +1,4 @@
+pub mod Packets
+pub mod Readings
+pub mod Read
+pub mod Offsets
