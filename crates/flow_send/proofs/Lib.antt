@@ -28,3 +28,4 @@ pub mod Marking
 pub mod Keepings
 pub mod Losing
 pub mod Fitting
+pub mod Idling

@@ -17,3 +17,4 @@ pub mod Messages
 pub mod Slots
 pub mod Lows
 pub mod Marks
+pub mod Idle

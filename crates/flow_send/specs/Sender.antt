@@ -190,3 +190,8 @@ lost_if_late moment resend r = if is_late moment resend r then record r { state 
 
 abbrev pub lost_late : ℕ → ℕ → Sender → Sender
 lost_late moment resend s = record s { rows = map (lost_if_late moment resend) s.rows }
+
+-- No number is above the forward number, no message waits, and the last ack told so far, so that no
+-- notice is owed.
+abbrev pub is_idle : Sender → Bool
+is_idle s = (length s.rows == 0) && ((length s.waiting == 0) && nat_le s.forward s.upto)

@@ -4,7 +4,7 @@
 ghost use Rattle.std.specs.Prelude.{◌≡◌, [], ◌∷◌, Some, None, true, false};
 ghost use Rattle.rtmfp_data_chunks.specs.FlowOptions.{flow_options};
 ghost use Rattle.flow_send.specs.Sender.{new_sender, finished, overdue, waits, abandoned, is_late};
-ghost use Rattle.flow_send.specs.Sender.{next_of};
+ghost use Rattle.flow_send.specs.Sender.{is_idle, next_of};
 ghost use Rattle.flow_send.specs.Acks.{told, beyond, new_bytes, makes_lost, told_by};
 ghost use Rattle.flow_send.specs.Choice.{Nothing, Send, Notify, choice, within_limit, sent_after};
 ghost use Rattle.flow_send.specs.Choice.{sent_row};
@@ -212,4 +212,16 @@ pub fn abandoning()
     ensures inside { waits (with_waiting (waiting_at 1 2 0 None None ∷ []) (sender_of 0 [])) 2
         ≡ false }
     ensures end { next_of (finished (new_sender 7)) ≡ 8 }
+{}
+
+/// A flow is idle where it has no number above the forward number, be it the end's, no message that
+/// waits, and where the last ack told at least the forward number.
+pub fn idleness()
+    ensures new { is_idle (new_sender 1) ≡ true }
+    ensures to_send { is_idle (numbers (unsent 0 0 [] ∷ [])) ≡ false }
+    ensures in_flight { is_idle (numbers (flying 1 0 [] ∷ [])) ≡ false }
+    ensures end { is_idle (finished (new_sender 1)) ≡ false }
+    ensures waits { is_idle (holding 0 1) ≡ false }
+    ensures told { is_idle (acked_up_to 7 (sender_of 7 [])) ≡ true }
+    ensures untold { is_idle (acked_up_to 6 (sender_of 7 [])) ≡ false }
 {}

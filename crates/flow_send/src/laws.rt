@@ -9,6 +9,7 @@ ghost use Rattle.flow_send.specs.Flow.{data_length, user_data};
 ghost use Rattle.flow_send.specs.Calls.{Call, begun, all_calls, sendings, TellsLast, AllStand};
 ghost use Rattle.flow_send.specs.Calls.{AllSent, IsForward};
 ghost use Rattle.flow_send.specs.Counted.{all_open, AllCount};
+ghost use Rattle.flow_send.specs.Idle.{IdleDoNothing};
 
 /// Room counts a chunk with the bytes that it has as a written data chunk.
 pub fn room_is_of_the_written_chunk()
@@ -46,4 +47,10 @@ pub fn calls()
         AllCount first (all_calls (begun first) cs).done
         ((all_calls (begun first) cs).sender.forward + 1)
         (all_calls (begun first) cs).sender.rows }
+{}
+
+/// Of an idle flow nothing is lost by time, no message is overdue, and nothing is sent, whatever the
+/// moment and the resend time.
+pub fn idle_flows_do_nothing()
+    ensures { IdleDoNothing }
 {}

@@ -12,7 +12,7 @@ ghost use Rattle.rtmfp_data_chunks.specs.FlowOptions.{flow_options};
 ghost use Rattle.flow_send.specs.Rows.{in_flight};
 ghost use Rattle.flow_send.specs.Sender.{new_sender, next_of, queued, waits, abandoned};
 ghost use Rattle.flow_send.specs.Sender.{abandoned_if, first_number, overdue, finish_by, lost_late};
-ghost use Rattle.flow_send.specs.Sender.{is_late};
+ghost use Rattle.flow_send.specs.Sender.{is_idle, is_late};
 ghost use Rattle.flow_send.specs.Acks.{told, beyond, new_bytes, makes_lost, told_by};
 ghost use Rattle.flow_send.specs.Steady.{Steady, IsGreatest, IsBounded};
 ghost use Rattle.flow_send.specs.Choice.{Nothing, Notify, choice, next_choice, notice_due};
@@ -248,6 +248,14 @@ impl FlowSender {
         ensures { result ≡ length self.now.sender.waiting }
     {
         self.waiting.len() as u64
+    }
+
+    /// Whether it has nothing to do, at whatever moment, until a call or an ack gives it something:
+    /// no number is in flight, lost or to be sent, no message waits, and no notice is owed.
+    pub fn is_idle(&self) -> bool
+        ensures { result ≡ is_idle self.now.sender }
+    {
+        self.rows.len() == 0 && self.waiting.len() == 0 && self.forward <= self.upto
     }
 
     /// Whether it was finished.

@@ -14,9 +14,9 @@ pub mod Falling
 pub mod Enough
 pub mod Waits
 pub mod Fewer
-pub mod Turning
 pub mod Kin
 pub mod Milds
 pub mod Settled
 pub mod Turned
 pub mod Losses
+pub mod Idles

@@ -1,6 +1,6 @@
 -- What is kept of flows stays true of them, where one changes or is added.
 use Prim.Native.Nat.{zero, suc}
-use Rattle.std.proofs.Common.{◌≡◌, ◌≢◌, ℕ, ◌+◌, ◌-◌, ◌*◌, ◌^◌, ◌%◌, ◌<◌, ◌≤◌, ◌==◌, ◌&&◌, Bool, true, false, List, [], ◌∷◌, ◌++◌, Option, Some, Result, Ok, Err, length, refl, sym, ap, ◌∙◌, subst, arith, inl, inr}
+use Rattle.std.proofs.Common.{◌≡◌, ◌≢◌, ℕ, ◌+◌, ◌-◌, ◌*◌, ◌^◌, ◌%◌, ◌<◌, ◌≤◌, ◌==◌, ◌&&◌, not, Bool, true, false, List, [], ◌∷◌, ◌++◌, Option, Some, Result, Ok, Err, length, refl, sym, ap, ◌∙◌, subst, arith, inl, inr}
 use Rattle.std.specs.Prelude.{slice_get, slice_set, is_some, OnOk, OnErr}
 use Rattle.std.proofs.lemmas.Bool.{cases_eq, eq-eqb}
 use Rattle.std.proofs.lemmas.Bool.Decides.{nat_tests}
@@ -8,18 +8,19 @@ use Rattle.std.proofs.lemmas.Option.{slice_get_within}
 use Rattle.std.proofs.lemmas.List.Sums.{sum_by-cons}
 use Rattle.flow_send.specs.Rows.{in_flight}
 use Rattle.flow_send.specs.declared.waiting.MessageOptions.{MessageOptions}
-use Rattle.flow_send.specs.Sender.{Sender, new_sender, queued, waiting_of}
+use Rattle.flow_send.specs.Sender.{Sender, new_sender, is_idle, queued, waiting_of}
 use Rattle.flow_send.specs.Choice.{choice, chunk_for}
 use Rattle.flow_send.specs.Flow.{Flow, with_sender}
 use Rattle.rtmfp_data_chunks.specs.Fragments.{Message}
 use Rattle.session_flows.specs.declared.bound.Bound.{Bound}
 use Rattle.session_flows.specs.Bound.{bound_with, AreMild}
 use Rattle.session_flows.specs.declared.kept.Kept.{Kept}
-use Rattle.session_flows.specs.Keeping.{FlowsState, with_sending}
+use Rattle.flow_turns.specs.Busy.{has_flow}
+use Rattle.session_flows.specs.Keeping.{FlowsState, is_busy, with_sending}
 use Rattle.session_flows.specs.Packing.{flight_of, session_flight}
-use Rattle.session_flows.specs.Turns.{has_turn}
+use Rattle.flow_turns.specs.Turns.{has_turn}
 use Rattle.session_flows.specs.Laws.{AreNumbered}
-use Rattle.session_flows.specs.Kept.{may_later, turn_of, is_turn, is_turn_of, IsWithin, IsKept, IsWhole, MayChange, IsChanged, noted}
+use Rattle.session_flows.specs.Kept.{is_busy_of, may_later, turn_of, is_turn, is_turn_of, IsWithin, IsKept, IsWhole, MayChange, IsChanged, noted}
 use Rattle.session_flows.proofs.Sounds.{numbered_at, sound_set, sound_push}
 use Rattle.session_flows.proofs.Within.{sum_set}
 use Rattle.session_flows.proofs.Kin.{IsKin, Milder, either}
@@ -121,6 +122,18 @@ turns_set fs k new at before f g ids few h there kin d turn =
           d.others turn other ∙ h.turns turn ∙ sym (ap (λ (o : Option Flow). is_turn_of turn o) (set_other fs at (turn % 256) g away))
     ]
 
+busy_set : (fs : List Flow) (k new : Kept) (at before : ℕ) (f g : Flow) → AreNumbered 0 fs → IsKept fs k → slice_get fs at ≡ Some f → IsKin f g → IsChanged k before g new →
+    (id : ℕ) → has_flow new.busy id ≡ is_busy_of (slice_get (slice_set fs at g) id)
+busy_set fs k new at before f g ids h there kin d id =
+    let own : f.id ≡ 0 + at = numbered_at 0 at fs f ids there in
+    let same : g.id ≡ at = omega (arith, kin.id, own) in
+    elim (cases_eq id at) [
+      | inl here ↦
+          let now : slice_get (slice_set fs at g) id ≡ Some g = ap (λ i. slice_get (slice_set fs at g) i) here ∙ set_same fs at f g there in
+          ap (λ i. has_flow new.busy i) (here ∙ sym same) ∙ d.busy ∙ sym (ap is_busy_of now)
+      | inr away ↦ d.rest id (λ e. away (e ∙ same)) ∙ h.busy id ∙ sym (ap is_busy_of (set_other fs at id g away))
+    ]
+
 pub kept_set : (fs : List Flow) (k new : Kept) (at before : ℕ) (f g : Flow) → AreNumbered 0 fs → length fs ≤ 256 → IsKept fs k → slice_get fs at ≡ Some f → before ≡ flight_of f → IsKin f g → AreMild k.bound g.sender.waiting → IsChanged k before g new →
     IsKept (slice_set fs at g) new
 kept_set fs k new at before f g ids few h there was kin mild d =
@@ -129,6 +142,7 @@ kept_set fs k new at before f g ids few h there was kin mild d =
     record {
       flight = omega (arith, d.flight, h.flight, was);
       turns = turns_set fs k new at before f g ids few h there kin d;
+      busy = busy_set fs k new at before f g ids h there kin d;
       within = λ i x e. elim (cases_eq i at) [
         | inl here ↦
             let is : g ≡ x = some_same (sym (ap (λ i. slice_get (slice_set fs at g) i) here ∙ set_same fs at f g there) ∙ e) in
@@ -156,6 +170,7 @@ whole_noted s options k h = record {
   kept = record {
     flight = h.kept.flight;
     turns = h.kept.turns;
+    busy = h.kept.busy;
     within = λ at f there. within_noted options k.bound f (h.kept.within at f there);
   };
 }
@@ -184,6 +199,7 @@ pub rebound : (fs : List Flow) (k : Kept) (b : Bound) → IsKept fs k → ((at :
 rebound fs k b h mild = record {
   flight = h.flight;
   turns = h.turns;
+  busy = h.busy;
   within = λ at f there. record { priority = (h.within at f there).priority; flight = (h.within at f there).flight; mild = mild at f there };
 }
 
@@ -205,6 +221,16 @@ turn_push [] f turn zero e = no_turn_of f (turn_of f == turn) e
 turn_push [] f turn (suc i) e = refl
 turn_push (x ∷ later) f turn zero e = refl
 turn_push (x ∷ later) f turn (suc i) e = turn_push later f turn i e
+
+-- nor is it busy
+new_idle : (f : Flow) → f.sender ≡ new_sender 1 → is_busy f ≡ false
+new_idle f e = ap (λ (s : Sender). not (is_idle s)) e
+
+busy_push : (fs : List Flow) (f : Flow) (i : ℕ) → is_busy f ≡ false → is_busy_of (slice_get (fs ++ f ∷ []) i) ≡ is_busy_of (slice_get fs i)
+busy_push [] f zero e = e
+busy_push [] f (suc i) e = refl
+busy_push (x ∷ later) f zero e = refl
+busy_push (x ∷ later) f (suc i) e = busy_push later f i e
 
 within_push : (b : Bound) (fs : List Flow) (f : Flow) → IsWithin b f → ((at : ℕ) (x : Flow) → slice_get fs at ≡ Some x → IsWithin b x) → (at : ℕ) (x : Flow) → slice_get (fs ++ f ∷ []) at ≡ Some x → IsWithin b x
 within_push b [] f own h zero x e = subst (λ (y : Flow). IsWithin b y) (some_same e) own
@@ -228,6 +254,7 @@ whole_push s k f few id low new h =
       kept = record {
         flight = h.kept.flight ∙ sym (flight_push s.sending f light);
         turns = λ turn. h.kept.turns turn ∙ sym (turn_push s.sending f turn (turn % 256) (new_quiet f new));
+        busy = λ id. h.kept.busy id ∙ sym (busy_push s.sending f id (new_idle f new));
         within = within_push k.bound s.sending f (record { priority = low; flight = omega (arith, light); mild = subst (λ (s : Sender). AreMild k.bound s.waiting) (sym new) tt }) h.kept.within;
       };
     }

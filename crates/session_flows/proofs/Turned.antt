@@ -13,7 +13,7 @@ use Rattle.flow_send.specs.Flow.{Flow}
 use Rattle.session_flows.specs.declared.kept.Kept.{Kept}
 use Rattle.session_flows.specs.declared.pace.Pace.{Pace}
 use Rattle.session_flows.specs.Packing.{may_send, first_to_send, IsNextFrom}
-use Rattle.session_flows.specs.Turns.{has_turn, IsFirst}
+use Rattle.flow_turns.specs.Turns.{has_turn, IsFirst}
 use Rattle.session_flows.specs.Laws.{AreNumbered, IsNextOf, NoneMaySend, SendsBefore}
 use Rattle.session_flows.specs.Kept.{may_later, turn_of, is_turn_of, IsKept}
 use Rattle.session_flows.proofs.Sounds.{numbered_at}

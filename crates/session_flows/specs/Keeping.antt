@@ -1,6 +1,8 @@
 -- What a session keeps of its flows, and what one thing that is done with them leaves and states.
-use Rattle.std.specs.Prelude.{ℕ, ◌==◌, nat_lt, Bool, false, if◌then◌else◌, List, [], ◌∷◌, length}
+use Rattle.std.specs.Prelude.{ℕ, ◌==◌, nat_lt, not, Bool, false, if◌then◌else◌, List, [], ◌∷◌}
 use Rattle.std.specs.Prelude.{◌++◌, Option, Some, None, slice_get, slice_set}
+use Rattle.std.specs.List.{list_any}
+use Rattle.flow_send.specs.Sender.{is_idle}
 use Rattle.flow_send.specs.Flow.{Flow}
 use Rattle.flow_recv.specs.Receiver.{Receiver}
 use Rattle.session_flows.specs.declared.taking.TakingFlow.{TakingFlow}
@@ -23,9 +25,13 @@ with_taking s taking = record s { taking = taking }
 
 -- ---- sending flows
 
--- there is one
-abbrev pub sends : FlowsState → Bool
-sends s = nat_lt 0 (length s.sending)
+-- it isn't idle
+abbrev pub is_busy : Flow → Bool
+is_busy f = not (is_idle f.sender)
+
+-- One isn't.
+abbrev pub may_be_due : FlowsState → Bool
+may_be_due s = list_any is_busy s.sending
 
 abbrev pub sending_at : FlowsState → ℕ → Option Flow
 sending_at s id = slice_get s.sending id

@@ -1,5 +1,5 @@
--- What a session keeps of its sending flows beside them: what all of them have in flight, and the
--- turns of those that may send.
+-- What a session keeps of its sending flows beside them: what all of them have in flight, the turns
+-- of those that may send, and which aren't idle.
 use Rattle.std.specs.Prelude.{ℕ, ◌≡◌, ◌≢◌, ◌+◌, ◌-◌, ◌*◌, ◌^◌, ◌%◌, ◌==◌, ◌&&◌, ◌<◌, ◌≤◌, Bool}
 use Rattle.std.specs.Prelude.{false, List, Option, Some, None, slice_get}
 use Rattle.flow_send.specs.Flow.{Flow}
@@ -7,9 +7,10 @@ use Rattle.session_flows.specs.declared.pace.Pace.{Pace}
 use Rattle.session_flows.specs.declared.kept.Kept.{Kept}
 use Rattle.flow_send.specs.declared.waiting.MessageOptions.{MessageOptions}
 use Rattle.session_flows.specs.declared.bound.Bound.{Bound}
-use Rattle.session_flows.specs.Turns.{has_turn}
+use Rattle.flow_turns.specs.Turns.{has_turn}
 use Rattle.session_flows.specs.Bound.{bound_with, AreMild}
-use Rattle.session_flows.specs.Keeping.{FlowsState}
+use Rattle.flow_turns.specs.Busy.{has_flow}
+use Rattle.session_flows.specs.Keeping.{FlowsState, is_busy}
 use Rattle.session_flows.specs.Packing.{may_send, flight_of, session_flight}
 use Rattle.session_flows.specs.Laws.{IsSound}
 
@@ -33,6 +34,11 @@ is_turn_of turn (Some f) = (turn_of f == turn) && may_later f
 abbrev pub is_turn : List Flow → ℕ → Bool
 is_turn sending turn = is_turn_of turn (slice_get sending (turn % 256))
 
+-- the flow at an index isn't idle
+abbrev pub is_busy_of : Option Flow → Bool
+is_busy_of None = false
+is_busy_of (Some f) = is_busy f
+
 -- ---- what is kept
 
 pub record IsWithin (b : Bound) (f : Flow) : Type 0 where
@@ -43,6 +49,7 @@ pub record IsWithin (b : Bound) (f : Flow) : Type 0 where
 pub record IsKept (sending : List Flow) (k : Kept) : Type 0 where
   pub flight : k.flight ≡ session_flight sending
   pub turns : (turn : ℕ) → has_turn k.turns turn ≡ is_turn sending turn
+  pub busy : (id : ℕ) → has_flow k.busy id ≡ is_busy_of (slice_get sending id)
   pub within : (at : ℕ) (f : Flow) → slice_get sending at ≡ Some f → IsWithin k.bound f
 
 pub record IsWhole (s : FlowsState) (k : Kept) : Type 0 where
@@ -69,3 +76,5 @@ pub record IsChanged (k : Kept) (before : ℕ) (f : Flow) (new : Kept) : Type 0 
   pub fits : flight_of f < 2 ^ 64
   pub own : has_turn new.turns (turn_of f) ≡ may_later f
   pub others : (turn : ℕ) → turn ≢ turn_of f → has_turn new.turns turn ≡ has_turn k.turns turn
+  pub busy : has_flow new.busy f.id ≡ is_busy f
+  pub rest : (id : ℕ) → id ≢ f.id → has_flow new.busy id ≡ has_flow k.busy id

@@ -7,13 +7,15 @@ use Rattle.rtmfp_data_chunks.specs.HandsOver.{IsIn}
 use Rattle.flow_recv.specs.Receiver.{may_hand, next_run}
 use Rattle.flow_send.specs.Sender.{Sender}
 use Rattle.flow_send.specs.Flow.{Flow}
+use Rattle.session_core.specs.Session.{SessionState}
 use Rattle.session_flows.specs.declared.taking.TakingFlow.{TakingFlow}
 use Rattle.session_flows.specs.declared.pace.Pace.{Pace}
-use Rattle.session_flows.specs.Keeping.{FlowsState, taking_at, Stated, Handed}
+use Rattle.session_flows.specs.Keeping.{FlowsState, may_be_due, taking_at, Stated, Handed}
+use Rattle.session_flows.specs.Timing.{is_any_late, after_late, overdue_in}
 use Rattle.session_flows.specs.Handing.{hands_all}
 use Rattle.session_flows.specs.Chunks.{without_messages}
 use Rattle.session_flows.specs.Packing.{may_send, first_to_send, Packing, packed_once}
-use Rattle.session_flows.specs.Packing.{session_flight, left_to_send}
+use Rattle.session_flows.specs.Packing.{session_flight, left_to_send, is_data_due}
 
 -- ---- what is so of every session's flows
 
@@ -68,6 +70,19 @@ StaysWithin = (pace : Pace) (p q : Packing) → AreNumbered 0 p.sending →
 abbrev pub TakesOne : Type 0
 TakesOne = (pace : Pace) (p q : Packing) → AreNumbered 0 p.sending → 0 < pace.resend_after →
     packed_once pace p ≡ Some q → left_to_send pace p.sending ≡ left_to_send pace q.sending + 1
+
+-- ---- flows that are idle
+
+-- Nothing of them is lost by time at the moment, no message is overdue, and none sends.
+pub record HasNothingDue (session : SessionState) (s : FlowsState) (moment : ℕ) : Type 0 where
+  pub late : is_any_late session s moment ≡ false
+  pub stays : after_late session s moment ≡ s
+  pub overdue : overdue_in session s moment ≡ None
+  pub sends : is_data_due session s moment ≡ false
+
+abbrev pub IdleHaveNothingDue : Type 0
+IdleHaveNothingDue = (session : SessionState) (s : FlowsState) (moment : ℕ) →
+    may_be_due s ≡ false → HasNothingDue session s moment
 
 -- ---- what is handed over
 

@@ -9,7 +9,6 @@ pub mod Judged
 pub mod Owing
 pub mod Timing
 pub mod Packing
-pub mod Turns
 pub mod Bound
 pub mod Kept
 pub mod Edges

@@ -11,7 +11,7 @@ ghost use Rattle.flow_send.specs.Acks.{told};
 ghost use Rattle.flow_send.specs.Edges.{numbers, unsent, flying, three, with_blocks};
 ghost use Rattle.session_flows.specs.declared.taking.TakingFlow.{TakingFlow};
 ghost use Rattle.session_flows.specs.Keeping.{FlowsState, no_flows, in_taking, Opened, Queued};
-ghost use Rattle.session_flows.specs.Keeping.{Abandoned, Finished, Handed};
+ghost use Rattle.session_flows.specs.Keeping.{Abandoned, Finished, Handed, may_be_due};
 ghost use Rattle.session_flows.specs.Calling.{open_refusal, opening, queue_refusal_of, queue_refused, queueing};
 ghost use Rattle.session_flows.specs.Calling.{abandon_refused, abandoning, finish_refused};
 ghost use Rattle.session_flows.specs.Calling.{finishing};
@@ -319,4 +319,15 @@ pub fn losses_by_time()
         ≡ in_stage FarLinger (untimed session) }
     ensures half_open_sends_nothing { (session : SessionState) → is_data_due
         (in_stage Opening (untimed session)) one_message 0 ≡ false }
+{}
+
+/// Something may be due of a session's flows where one of those that it sends isn't idle, whatever
+/// those that it takes owe.
+pub fn flows_that_may_be_due()
+    ensures no_flow { may_be_due no_flows ≡ false }
+    ensures idle { may_be_due one_flow ≡ false }
+    ensures a_message { may_be_due one_message ≡ true }
+    ensures the_second { may_be_due (flows_of (new_at 0 ∷ sending_some 1 4 (7 ∷ []) ∷ []) [])
+        ≡ true }
+    ensures an_ack { may_be_due (flows_of (new_at 0 ∷ []) (owed_at 3 ∷ [])) ≡ false }
 {}

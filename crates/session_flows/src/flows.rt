@@ -3,7 +3,8 @@
 ghost use Rattle.std.specs.Prelude.{◌≡◌, ◌<◌, ◌∷◌, [], length, Some, None, Ok, Err, IfOk, OnErr};
 ghost use Rattle.std.specs.Prelude.{IfErr, MatchOption, slice_get, IsOk};
 ghost use Rattle.flow_send.specs.declared.outcome.QueueRefusal.{QueueRefusal};
-ghost use Rattle.session_flows.specs.Keeping.{no_flows, sends, Opened, Queued, Abandoned, Finished};
+ghost use Rattle.session_flows.specs.Keeping.{may_be_due, no_flows};
+ghost use Rattle.session_flows.specs.Keeping.{Opened, Queued, Abandoned, Finished};
 ghost use Rattle.session_flows.specs.Calling.{open_refusal, opening, queue_refused, queueing};
 ghost use Rattle.session_flows.specs.Calling.{abandon_refused, abandoning, finish_refused};
 ghost use Rattle.session_flows.specs.Calling.{finishing, queue_refusal_of, queue_answer};
@@ -53,12 +54,12 @@ impl Flows {
         }
     }
 
-    /// Whether there is a sending flow. Where there is none nothing is due of the flows, whatever
-    /// the moment.
-    pub fn sends(&self) -> bool
-        ensures { result ≡ sends self.now }
+    /// Whether a sending flow isn't idle. Where all are nothing is due of the flows, whatever the
+    /// moment: nothing is lost by time, no message is overdue, and nothing is sent.
+    pub fn may_be_due(&self) -> bool
+        ensures { result ≡ may_be_due self.now }
     {
-        !self.sending.is_empty()
+        self.kept.any_busy()
     }
 
     /// Why `open_flow` would refuse, but for want of memory.

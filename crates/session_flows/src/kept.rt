@@ -3,14 +3,15 @@
 
 ghost use Rattle.std.specs.Prelude.{◌≡◌, ◌<◌, ◌≤◌, ◌^◌, ◌-◌, [], min};
 ghost use Rattle.session_flows.specs.Packing.{may_send};
-ghost use Rattle.session_flows.specs.Turns.{IsFirstFrom};
+ghost use Rattle.flow_turns.specs.Turns.{IsFirstFrom};
 ghost use Rattle.session_flows.specs.Bound.{may_pass};
+ghost use Rattle.flow_turns.specs.Busy.{HasAny};
 ghost use Rattle.session_flows.specs.Kept.{IsKept, MayChange, IsChanged, noted, turn_of};
 
 use crate::bound::Bound;
 use crate::pace::Pace;
-use crate::turns::Turns;
 use flow_send::{FlowSender, MessageOptions, NoChunk};
+use flow_turns::{Busy, Turns};
 use rtmfp_base::limits::PRIORITY;
 
 /// The turns of a priority.
@@ -30,6 +31,8 @@ pub(crate) struct Kept {
     flight: u128,
     /// The turns of those that may send at some pace.
     turns: Turns,
+    /// Those that aren't idle.
+    busy: Busy,
     /// Of the messages that wait.
     pub bound: Bound,
 }
@@ -42,6 +45,7 @@ impl Kept {
         Kept {
             flight: 0,
             turns: Turns::new(),
+            busy: Busy::new(),
             bound: Bound::new(),
         }
     }
@@ -51,6 +55,13 @@ impl Kept {
         ensures { IsFirstFrom self.now.turns turn result }
     {
         self.turns.first_from(turn)
+    }
+
+    /// Whether a flow isn't idle.
+    pub fn any_busy(&self) -> bool
+        ensures { HasAny self.now.busy result }
+    {
+        self.busy.any()
     }
 
     /// The bytes in flight of all flows, or 2 ^ 64 - 1 where they are more.
@@ -80,6 +91,7 @@ impl Kept {
         ensures { IsChanged self.old before sender.now self.new }
     {
         self.flight = self.flight - u128::from(before) + u128::from(sender.flight());
+        self.busy.set(sender.id() as usize, !sender.is_idle());
         let turn = turn_of(sender);
         if may_send(LATER, sender) {
             self.turns.insert(turn);

@@ -2,6 +2,7 @@
 
 ghost use Rattle.session_flows.specs.Laws.{TheNextSends, HandsAllThatAreReady, LeavesNothingReady};
 ghost use Rattle.session_flows.specs.Laws.{LeavesNoMessage, StaysWithin, TakesOne};
+ghost use Rattle.session_flows.specs.Laws.{IdleHaveNothingDue};
 
 /// Of the flows that may send, the one that sends has the highest priority, and the lowest ID of
 /// those with that priority. Where none sends, none may.
@@ -18,6 +19,12 @@ pub fn flight_stays_within_the_window()
 /// A chunk that goes takes one from what is left to send at a moment, so packing ends.
 pub fn each_chunk_takes_one()
     ensures { TakesOne }
+{}
+
+/// Where all sending flows are idle nothing of them is lost by time, no message is overdue, and none
+/// sends, whatever the moment.
+pub fn idle_flows_have_nothing_due()
+    ensures { IdleHaveNothingDue }
 {}
 
 /// After a chunk its flow hands over all runs that may be, by rising numbers, and no others; then

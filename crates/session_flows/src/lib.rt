@@ -23,7 +23,6 @@ mod refusal;
 mod taking;
 mod timing;
 mod told;
-mod turns;
 
 pub use flows::Flows;
 pub use judged::JudgedData;

@@ -16,7 +16,7 @@ use Rattle.keyed_slab.specs.SlotSet.{Flags}
 use Rattle.keyed_slab.proofs.Seated.{set_at, set_loose}
 use Rattle.session_table.specs.declared.round.Round.{Round}
 use Rattle.session_table.specs.Table.{near_of, with_changed, in_row, of_session}
-use Rattle.session_table.specs.Inside.{IsKept, IsLoose, due_from, rows_in, sends_of, slot_of}
+use Rattle.session_table.specs.Inside.{IsKept, IsLoose, due_from, rows_in, may_be_due_of, slot_of}
 use Rattle.session_table.proofs.Rounds.{beside_awaits}
 use Rattle.session_table.proofs.Rows.{row_there, put_at, found_at, found_nowhere}
 
@@ -28,7 +28,7 @@ pub record IsChanged (change : Row → Row) (rows : Seats Row) (keys : KeyTable)
 pub row_set_loose : {keys : KeyTable} {deadlines : Slots} {sending : Flags} {round : Round} (rows : Seats Row) (slot : ℕ) (old new : Row) → IsKept rows keys deadlines sending round → thing_at rows slot ≡ Some old →
     near_of new ≡ near_of old → IsLoose (with_thing rows slot new) keys deadlines sending round slot
 row_set_loose {keys} {deadlines} {sending} {round} rows slot old new kept is stays = record {
-  seats = set_loose near_of due_from sends_of rows.things rows.generations keys deadlines sending slot old new kept.seats is stays;
+  seats = set_loose near_of due_from may_be_due_of rows.things rows.generations keys deadlines sending slot old new kept.seats is stays;
   rises = kept.rises;
   awaits = beside_awaits rows.things (set rows.things slot (Some new)) slot (Some new) round (set_at rows.things slot old new is) kept.awaits;
 }

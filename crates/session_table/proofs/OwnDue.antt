@@ -1,21 +1,19 @@
--- What is due of a row is due by its deadline, or it has a sending flow.
-use Rattle.std.proofs.Common.{ℕ, ◌≡◌, ◌⊎◌, ◌<◌, ◌≤◌, ◌^◌, inl, inr, nat_le, nat_lt, is_some, List, [], ◌∷◌, length, Bool, true, false, ◌||◌, ◌&&◌, Option, Some, None, if◌then◌else◌, refl, sym, ap, ◌∙◌, arith}
-use Rattle.std.specs.List.{find}
+-- What is due of a row is due by its deadline, or one of its sending flows isn't idle.
+use Rattle.std.proofs.Common.{ℕ, ◌≡◌, ◌⊎◌, ◌<◌, ◌≤◌, ◌^◌, inl, inr, nat_le, is_some, [], ◌∷◌, Bool, true, false, ◌||◌, Option, Some, None, refl, sym, ap, ◌∙◌, arith}
 use Rattle.std.proofs.lemmas.Bool.{cases_Bool}
 use Rattle.std.proofs.lemmas.Bool.Decides.{nat_tests}
 use Rattle.rtmfp_base.specs.Reasons.{where_true, first_that_stands}
-use Rattle.flow_send.specs.Flow.{Flow}
 use Rattle.session_core.specs.declared.stage.SessionDue.{SessionDue}
-use Rattle.session_core.specs.Session.{SessionState}
-use Rattle.session_core.specs.Closing.{first_due, is_held, is_open, needs_keepalive}
+use Rattle.session_core.specs.Closing.{first_due, needs_keepalive}
 use Rattle.session_core.proofs.Deadlines.{is_due_by_deadline}
-use Rattle.session_flows.specs.Keeping.{FlowsState}
-use Rattle.session_flows.specs.Timing.{has_overdue, overdue_in, overdue_of}
-use Rattle.session_flows.specs.Packing.{goes, is_data_due, pace_of}
+use Rattle.session_flows.specs.Timing.{overdue_in}
+use Rattle.session_flows.specs.Packing.{is_data_due}
+use Rattle.session_flows.specs.Laws.{HasNothingDue}
+use Rattle.session_flows.proofs.Idles.{idle_have_nothing_due}
 use Rattle.endpoint_model.specs.declared.row.Row.{Row}
 use Rattle.endpoint_model.specs.declared.row_due.RowDue.TheVariants.{Data, Keepalive}
 use Rattle.endpoint_model.specs.FlowTimes.{abandon_due, end_due, is_row_due}
-use Rattle.session_table.specs.Inside.{due_from, sends_of}
+use Rattle.session_table.specs.Inside.{due_from, may_be_due_of}
 
 -- of the four things, by what each one is
 is_one : (own : Option SessionDue) (overdue : Option (ℕ × ℕ)) (sent keep : Bool) →
@@ -39,30 +37,6 @@ own_only false keep true sent e unfound unsent = absurd cc
 own_only false keep false true e unfound unsent = absurd cc
 own_only false keep false false e unfound unsent = e
 
--- ---- where there is no sending flow
-
-pub no_flow : (sending : List Flow) → nat_lt 0 (length sending) ≡ false → sending ≡ []
-no_flow [] e = refl
-no_flow (f ∷ later) e = absurd (let some : nat_lt 0 (length (f ∷ later)) ≡ true = grind (arith, nat_tests) in let clash : false ≡ true = sym e ∙ some in cc)
-
-abbrev nothing_found : Option (ℕ × ℕ)
-nothing_found = None
-
-neither : (held : Bool) → is_some (if held then nothing_found else None) ≡ false
-neither true = refl
-neither false = refl
-
-nowhere : (open_now : Bool) → (open_now && false) ≡ false
-nowhere true = refl
-nowhere false = refl
-
-no_overdue : (session : SessionState) (flows : FlowsState) (moment : ℕ) → flows.sending ≡ [] → is_some (overdue_in session flows moment) ≡ false
-no_overdue session flows moment e =
-    ap (λ (l : List Flow). is_some (if is_held session.stage then overdue_of moment (find (has_overdue moment) l) else None)) e ∙ neither (is_held session.stage)
-
-none_sent : (session : SessionState) (flows : FlowsState) (moment : ℕ) → flows.sending ≡ [] → is_data_due session flows moment ≡ false
-none_sent session flows moment e = ap (λ (l : List Flow). is_open session.stage && goes (pace_of session moment) l) e ∙ nowhere (is_open session.stage)
-
 -- ---- what is due, and why
 
 parts : (moment : ℕ) (row : Row) → is_row_due moment row ≡ (is_some (first_due row.session moment) || (is_some (overdue_in row.session row.flows moment) || (is_data_due row.session row.flows moment || needs_keepalive row.session moment)))
@@ -74,14 +48,14 @@ own_is_due moment row below e =
     ∙ own_first (is_some (first_due row.session moment)) (needs_keepalive row.session moment) (is_some (overdue_in row.session row.flows moment)) (is_data_due row.session row.flows moment)
     (sym (is_due_by_deadline row.session moment below) ∙ e)
 
-due_is_why : (moment : ℕ) (row : Row) → moment < 2 ^ 64 → is_row_due moment row ≡ true → (nat_le (due_from row) moment ≡ true) ⊎ (sends_of row ≡ true)
-due_is_why moment row below e = elim (cases_Bool (sends_of row)) [
-  | inl sending ↦ inr sending
-  | inr none ↦
-      let empty_then : row.flows.sending ≡ [] = no_flow row.flows.sending none in
+due_is_why : (moment : ℕ) (row : Row) → moment < 2 ^ 64 → is_row_due moment row ≡ true → (nat_le (due_from row) moment ≡ true) ⊎ (may_be_due_of row ≡ true)
+due_is_why moment row below e = elim (cases_Bool (may_be_due_of row)) [
+  | inl busy ↦ inr busy
+  | inr idle ↦
+      let none : HasNothingDue row.session row.flows moment = idle_have_nothing_due row.session row.flows moment idle in
       inl (is_due_by_deadline row.session moment below
       ∙ own_only (is_some (first_due row.session moment)) (needs_keepalive row.session moment) (is_some (overdue_in row.session row.flows moment)) (is_data_due row.session row.flows moment) (sym (parts moment row) ∙ e)
-      (no_overdue row.session row.flows moment empty_then) (none_sent row.session row.flows moment empty_then))
+      (ap (λ (o : Option (ℕ × ℕ)). is_some o) none.overdue) none.sends)
 ]
 
 -- ---- the same of numbers
@@ -95,8 +69,8 @@ is_not_later at moment le = grind (arith, nat_tests)
 pub due_passes : (moment : ℕ) (row : Row) → moment < 2 ^ 64 → due_from row ≤ moment → is_row_due moment row ≡ true
 due_passes moment row below come = own_is_due moment row below (is_not_later (due_from row) moment come)
 
-pub why_due : (moment : ℕ) (row : Row) → moment < 2 ^ 64 → is_row_due moment row ≡ true → (due_from row ≤ moment) ⊎ (sends_of row ≡ true)
+pub why_due : (moment : ℕ) (row : Row) → moment < 2 ^ 64 → is_row_due moment row ≡ true → (due_from row ≤ moment) ⊎ (may_be_due_of row ≡ true)
 why_due moment row below passes = elim (due_is_why moment row below passes) [
   | inl own ↦ inl (not_later (due_from row) moment own)
-  | inr sending ↦ inr sending
+  | inr busy ↦ inr busy
 ]

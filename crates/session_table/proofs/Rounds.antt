@@ -21,7 +21,7 @@ use Rattle.endpoint_model.specs.declared.row.Row.{Row}
 use Rattle.endpoint_model.specs.FlowTimes.{is_row_due}
 use Rattle.session_table.specs.declared.round.Round.{Round}
 use Rattle.session_table.specs.Table.{near_of}
-use Rattle.session_table.specs.Inside.{due_from, sends_of, AllAreOwn, IsAwaitedAt, IsDueUnder, IsFirstBeside, IsLeft, IsRising, NoneIsDueUnder}
+use Rattle.session_table.specs.Inside.{due_from, may_be_due_of, AllAreOwn, IsAwaitedAt, IsDueUnder, IsFirstBeside, IsLeft, IsRising, NoneIsDueUnder}
 use Rattle.session_table.proofs.OwnDue.{due_passes, why_due}
 
 pub false_true : {A : Type 0} → false ≡ true → A
@@ -77,12 +77,12 @@ empty_rises nears next none a b first le below = absurd (let long : length nears
 
 -- ---- a round begins
 
-module _ (things : List (Option Row)) (flags : Flags) (slots : List ℕ) (marked : (slot : ℕ) → IsMarkedAt near_of due_from sends_of things flags slot) (listed : AreListed flags slots) where
+module _ (things : List (Option Row)) (flags : Flags) (slots : List ℕ) (marked : (slot : ℕ) → IsMarkedAt near_of due_from may_be_due_of things flags slot) (listed : AreListed flags slots) where
   pub listed_stands : (place : ℕ) → place < length slots → IsSome (thing_in things (slot_at slots place))
   listed_stands place less = go (thing_in things (slot_at slots place)) refl
     where
       go : (o : Option Row) → thing_in things (slot_at slots place) ≡ o → IsSome (thing_in things (slot_at slots place))
-      go None e = false_true (sym (marked (slot_at slots place) ∙ ap (busy_in near_of due_from sends_of) e) ∙ listed.marked place less)
+      go None e = false_true (sym (marked (slot_at slots place) ∙ ap (busy_in near_of due_from may_be_due_of) e) ∙ listed.marked place less)
       go (Some row) e = ap is_some e
 
   pub begun_awaits : (round : Round) (moment : ℕ) → moment < 2 ^ 64 → IfSome round.moment (λ begun. begun ≡ moment) →
@@ -92,7 +92,7 @@ module _ (things : List (Option Row)) (flags : Flags) (slots : List ℕ) (marked
       ⊎_elim
       (λ come. inl come)
       (λ sending.
-      let there = listed.all k (marked k ∙ ap (busy_in near_of due_from sends_of) at ∙ sending) in
+      let there = listed.all k (marked k ∙ ap (busy_in near_of due_from may_be_due_of) at ∙ sending) in
       inr (left (ap is_some goes) there.0 w there.1 (ap (thing_in things) there.2 ∙ at)))
       (why_due m w (subst (λ (n : ℕ). n < 2 ^ 64) (sym same) below) due)
 
@@ -244,13 +244,13 @@ module _ (things : List (Option Row)) (moment : ℕ) where
     },
   )
 
-module _ (things : List (Option Row)) (generations : List ℕ) (keys : KeyTable) (deadlines : Slots) (sending : Flags) (moment : ℕ) (kept : seating.IsKept near_of due_from sends_of things generations keys deadlines sending) (small : moment < 2 ^ 64)
+module _ (things : List (Option Row)) (generations : List ℕ) (keys : KeyTable) (deadlines : Slots) (sending : Flags) (moment : ℕ) (kept : seating.IsKept near_of due_from may_be_due_of things generations keys deadlines sending) (small : moment < 2 ^ 64)
     (own : Option ℕ) (some : IfSome own (IsNextDue deadlines moment)) (none : IfNone own (NoneIsDue deadlines moment)) where
   abbrev Looked : ℕ → Type 0
   Looked = IsLookedAt deadlines moment [] 0
 
   pub own_best : IsBestOf near_of (is_row_due moment) things Looked own
-  own_best = looked_by_deadline near_of due_from sends_of (is_row_due moment) things generations keys deadlines sending moment kept (λ row. due_passes moment row small) [] own some none
+  own_best = looked_by_deadline near_of due_from may_be_due_of (is_row_due moment) things generations keys deadlines sending moment kept (λ row. due_passes moment row small) [] own some none
 
   pub own_stands : IfSome own (λ slot. IsSome (thing_in things slot))
   own_stands = go own own_best

@@ -17,6 +17,8 @@ module _ (seen : Table) (rows : Seats Row) (free slot : ℕ) (old : Row) (view :
       ap (λ (o : Option Row). rows_in (record rows { things = set rows.things slot o })) (sym is)
       ∙ ap (λ (l : List (Option Row)). rows_in (record rows { things = l })) (set-get_or rows.things slot None)
 
+  pub row_stays : (new : Row) → new ≡ old → rows_in (with_thing rows slot new) ≡ seen.rows
+  row_stays new same = ap (λ (r : Row). rows_in (with_thing rows slot r)) same ∙ same_rows ∙ ap (λ (t : Table). t.rows) view
+
   pub rows_stay : (flows : FlowsState) → flows ≡ old.flows → rows_in (with_thing rows slot (record old { flows = flows })) ≡ seen.rows
-  rows_stay flows same =
-      ap (λ (f : FlowsState). rows_in (with_thing rows slot (record old { flows = f }))) same ∙ same_rows ∙ ap (λ (t : Table). t.rows) view
+  rows_stay flows same = row_stays (record old { flows = flows }) (ap (λ (f : FlowsState). record old { flows = f }) same)

@@ -15,7 +15,7 @@ use Rattle.endpoint_model.specs.declared.row.Row.{Row}
 use Rattle.endpoint_model.specs.State.{Sessions}
 use Rattle.endpoint_model.specs.FlowTimes.{is_row_due}
 use Rattle.session_core.specs.Deadline.{deadline}
-use Rattle.session_flows.specs.Keeping.{sends}
+use Rattle.session_flows.specs.Keeping.{may_be_due}
 use Rattle.session_table.specs.Table.{near_of, table_of}
 use Rattle.session_table.specs.declared.round.Round.{Round}
 
@@ -31,8 +31,8 @@ slot_of keys near = option_map (λ (key : Key). key.slot) (get keys near)
 abbrev pub due_from : Row → ℕ
 due_from row = deadline row.session
 
-abbrev pub sends_of : Row → Bool
-sends_of row = sends row.flows
+abbrev pub may_be_due_of : Row → Bool
+may_be_due_of row = may_be_due row.flows
 
 -- ---- a round
 
@@ -60,20 +60,20 @@ IsAwaitedAt things round slot = (row : Row) → thing_in things slot ≡ Some ro
 -- ---- what finds the rows
 
 -- Each session ID has the key of its row and each row's session ID has one, each slot has its row's
--- deadline, just the slots of the rows with a sending flow are in the set, and the round comes to
--- each row that it should.
-pub record IsKept (rows : Seats Row) (keys : KeyTable) (deadlines : Slots) (sending : Flags)
+-- deadline, just the slots of the rows with a flow that isn't idle are in the set, and the round
+-- comes to each row that it should.
+pub record IsKept (rows : Seats Row) (keys : KeyTable) (deadlines : Slots) (busy : Flags)
     (round : Round) : Type 0 where
-  pub seats : seating.IsKept near_of due_from sends_of rows.things rows.generations keys deadlines
-      sending
+  pub seats : seating.IsKept near_of due_from may_be_due_of rows.things rows.generations keys
+      deadlines busy
   pub rises : IsRising round.nears.items round.next
   pub awaits : (slot : ℕ) → IsAwaitedAt rows.things round slot
 
 -- the same, but for what the row in a slot has become
-pub record IsLoose (rows : Seats Row) (keys : KeyTable) (deadlines : Slots) (sending : Flags)
+pub record IsLoose (rows : Seats Row) (keys : KeyTable) (deadlines : Slots) (busy : Flags)
     (round : Round) (slot : ℕ) : Type 0 where
-  pub seats : seating.IsLoose near_of due_from sends_of rows.things rows.generations keys deadlines
-      sending slot
+  pub seats : seating.IsLoose near_of due_from may_be_due_of rows.things rows.generations keys
+      deadlines busy slot
   pub rises : IsRising round.nears.items round.next
   pub awaits : (other : ℕ) → other ≢ slot → IsAwaitedAt rows.things round other
 

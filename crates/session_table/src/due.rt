@@ -91,9 +91,9 @@ impl Kept {
     /// The slot of the row with the lowest session ID of those of which something is due at a
     /// moment. In the round of this moment no row is looked at twice, unless it was changed.
     pub(crate) fn first_due(&mut self, moment: u64) -> Option<usize>
-        requires { IsKept self.old.rows self.old.keys.keys self.old.deadlines self.old.sending
+        requires { IsKept self.old.rows self.old.keys.keys self.old.deadlines self.old.busy
             self.old.round }
-        ensures kept { IsKept self.new.rows self.new.keys.keys self.new.deadlines self.new.sending
+        ensures kept { IsKept self.new.rows self.new.keys.keys self.new.deadlines self.new.busy
             self.new.round }
         ensures rest { self.new ≡ record self.old { round = self.new.round } }
         ensures none { IfNone result (NonePasses (is_row_due moment) self.old.rows) }
@@ -107,10 +107,10 @@ impl Kept {
 
     /// The same in the round of this moment.
     fn first_in_round(&mut self, moment: u64) -> Option<usize>
-        requires kept { IsKept self.old.rows self.old.keys.keys self.old.deadlines self.old.sending
+        requires kept { IsKept self.old.rows self.old.keys.keys self.old.deadlines self.old.busy
             self.old.round }
         requires moment { self.old.round.moment ≡ Some moment }
-        ensures kept { IsKept self.new.rows self.new.keys.keys self.new.deadlines self.new.sending
+        ensures kept { IsKept self.new.rows self.new.keys.keys self.new.deadlines self.new.busy
             self.new.round }
         ensures rest { self.new ≡ record self.old { round = self.new.round } }
         ensures none { IfNone result (NonePasses (is_row_due moment) self.old.rows) }
@@ -123,15 +123,15 @@ impl Kept {
         }
     }
 
-    /// The same outside of a round. Rows without a sending flow are looked at only where their
-    /// deadline has come.
+    /// The same outside of a round. Rows whose sending flows are idle are looked at only where
+    /// their deadline has come.
     fn first_of_all(&self, moment: u64) -> Option<usize>
-        requires { IsKept self.now.rows self.now.keys.keys self.now.deadlines self.now.sending
+        requires { IsKept self.now.rows self.now.keys.keys self.now.deadlines self.now.busy
             self.now.round }
         ensures none { IfNone result (NonePasses (is_row_due moment) self.now.rows) }
         ensures some { IfSome result (IsFirst (is_row_due moment) self.now.rows) }
     {
-        let slots = self.sending.slots();
+        let slots = self.busy.slots();
         let mut best = self.deadlines.due(moment);
         for index in 0..slots.len() {
             best = better(&self.rows, moment, best, slots[index]);
@@ -142,7 +142,7 @@ impl Kept {
 
 /// The session ID of the first of which something is due, whose slot this is, and what it is.
 fn due_at(kept: &Kept, slot: Option<usize>, moment: u64) -> Option<(u32, RowDue)>
-    requires kept { IsKept kept.now.rows kept.now.keys.keys kept.now.deadlines kept.now.sending
+    requires kept { IsKept kept.now.rows kept.now.keys.keys kept.now.deadlines kept.now.busy
         kept.now.round }
     requires none { IfNone slot (NonePasses (is_row_due moment) kept.now.rows) }
     requires some { IfSome slot (IsFirst (is_row_due moment) kept.now.rows) }

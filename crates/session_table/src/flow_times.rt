@@ -74,15 +74,15 @@ impl Kept {
     }
 
     /// Marks the numbers that are lost by time in each row, and begins the round of this moment.
-    /// Those without a sending flow have none, and aren't looked at.
+    /// Those whose sending flows are idle have none, and aren't looked at.
     fn lose_late(&mut self, moment: u64)
-        requires { IsKept self.old.rows self.old.keys.keys self.old.deadlines self.old.sending self.old.round }
+        requires { IsKept self.old.rows self.old.keys.keys self.old.deadlines self.old.busy self.old.round }
         ensures kept { IsKept self.new.rows self.new.keys.keys self.new.deadlines
-            self.new.sending self.new.round }
+            self.new.busy self.new.round }
         ensures late { AreLate moment (rows_in self.old.rows) (rows_in self.new.rows) }
     {
-        lose_in_slots(&mut self.rows, self.sending.slots(), moment);
-        self.round.begin(&self.rows, self.sending.slots(), moment);
+        lose_in_slots(&mut self.rows, self.busy.slots(), moment);
+        self.round.begin(&self.rows, self.busy.slots(), moment);
     }
 }
 

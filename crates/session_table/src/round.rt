@@ -1,4 +1,5 @@
-//! A round over the sessions with a sending flow, by which a tick looks at each of them once.
+//! A round over the sessions with a sending flow that isn't idle, by which a tick looks at each of
+//! them once.
 
 ghost use Rattle.std.specs.Prelude.{◌≡◌, ◌<◌, ◌≤◌, ℕ, [], None, Some, IfNone, IfSome, IsSome, length, true};
 ghost use Rattle.std.specs.Prelude.{vec_capacity, vec_len};
@@ -18,7 +19,7 @@ use std::alloc::Global;
 
 /// The sessions that are still to be looked at for one moment, by rising session IDs.
 ///
-/// It is there for speed alone: where it has ended, all sessions with a sending flow are looked at.
+/// It is there for speed alone: where it has ended, all sessions with such a flow are looked at.
 #[derive(Drop)]
 pub(crate) struct Round {
     /// The moment for which it goes on.

@@ -1,7 +1,7 @@
 //! What is told of one row.
 
 ghost use Rattle.std.specs.Prelude.{◌≡◌};
-ghost use Rattle.session_table.specs.Inside.{due_from, sends_of};
+ghost use Rattle.session_table.specs.Inside.{due_from, may_be_due_of};
 ghost use Rattle.session_table.specs.Table.{near_of};
 
 use endpoint_model::Row;
@@ -20,9 +20,9 @@ pub(crate) fn deadline_of(row: &Row) -> u128
     row.session.deadline()
 }
 
-/// Whether it has a sending flow.
-pub(crate) fn sends(row: &Row) -> bool
-    ensures { result ≡ sends_of row.now }
+/// Whether something of its flows may be due.
+pub(crate) fn may_be_due(row: &Row) -> bool
+    ensures { result ≡ may_be_due_of row.now }
 {
-    row.flows.sends()
+    row.flows.may_be_due()
 }

@@ -12,7 +12,7 @@ use keyed_slab::Key;
 /// The key of the row of the session with this session ID. One key is tried first: it names nothing
 /// where its session is gone.
 pub(crate) fn key_near(kept: &Kept, near: u32, likely: Key) -> Option<Key>
-    requires { IsKept kept.now.rows kept.now.keys.keys kept.now.deadlines kept.now.sending kept.now.round }
+    requires { IsKept kept.now.rows kept.now.keys.keys kept.now.deadlines kept.now.busy kept.now.round }
     ensures { result ≡ get kept.now.keys.keys near }
 {
     match kept.rows.named(likely) {
@@ -29,7 +29,7 @@ pub(crate) fn key_near(kept: &Kept, near: u32, likely: Key) -> Option<Key>
 
 /// The slot that has it.
 pub(crate) fn slot_near(kept: &Kept, near: u32, likely: Key) -> Option<usize>
-    requires { IsKept kept.now.rows kept.now.keys.keys kept.now.deadlines kept.now.sending kept.now.round }
+    requires { IsKept kept.now.rows kept.now.keys.keys kept.now.deadlines kept.now.busy kept.now.round }
     ensures found { result ≡ slot_of kept.now.keys.keys near }
     ensures there { IfSome result (λ slot. IsSome (thing_at kept.now.rows slot)) }
 {

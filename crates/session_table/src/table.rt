@@ -39,7 +39,7 @@ impl Model for SessionTable {
     } };
 
     ghost invariant = { λ t. IsKept t.kept.rows t.kept.keys.keys t.kept.deadlines
-        t.kept.sending t.kept.round };
+        t.kept.busy t.kept.round };
 }
 
 impl SessionTable {

@@ -2,7 +2,7 @@ use Rattle.std.proofs.Common.{◌≡◌, ◌%◌, ◌^◌, ◌<◌, true, false,
 use Rattle.std.specs.Prelude.{slice_get}
 use Rattle.std.proofs.lemmas.Option.{slice_get_read}
 use Rattle.session_flows.specs.Packing.{may_send}
-use Rattle.session_flows.specs.Turns.{IsFirst}
+use Rattle.flow_turns.specs.Turns.{IsFirst}
 use Rattle.session_flows.proofs.Turned.{IsOf, turn_there, turn_passed, turn_sends, none_sends}
 use Rattle.session_flows.proofs.packing.first_to_send.Goals as goal
 

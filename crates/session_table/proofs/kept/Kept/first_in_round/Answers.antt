@@ -19,7 +19,7 @@ better-requires-clause-there c = ap is_some c.in-Some.ensures.some.stands
 pub better-requires-clause-best : goal.better-requires-clause-best
 better-requires-clause-best c =
     let k = c.args.self.now in
-    own_stands k.rows.things k.rows.generations k.keys.keys k.deadlines k.sending c.args.moment c.requires.kept.seats c.ranges.moment.fits c.due-own.result c.due-own.ensures.some c.due-own.ensures.none
+    own_stands k.rows.things k.rows.generations k.keys.keys k.deadlines k.busy c.args.moment c.requires.kept.seats c.ranges.moment.fits c.due-own.result c.due-own.ensures.some c.due-own.ensures.none
 
 pub returns-in-Some-clause-kept : goal.returns-in-Some-clause-kept
 returns-in-Some-clause-kept c = record { seats = c.requires.kept.seats; rises = c.in-Some.ensures.rises; awaits = c.in-Some.ensures.awaits }
@@ -28,13 +28,13 @@ pub returns-in-Some-clause-none : goal.returns-in-Some-clause-none
 returns-in-Some-clause-none c =
     let k = c.args.self.now in
     subst (λ (o : Option ℕ). IfNone o (NonePasses (is_row_due c.args.moment) k.rows)) (sym c.better.ensures)
-    (with_first k.rows.things k.rows.generations k.keys.keys k.deadlines k.sending c.args.moment c.requires.kept.seats c.ranges.moment.fits c.due-own.result c.due-own.ensures.some c.due-own.ensures.none c.in-Some.slot c.in-Some.ensures.some).0
+    (with_first k.rows.things k.rows.generations k.keys.keys k.deadlines k.busy c.args.moment c.requires.kept.seats c.ranges.moment.fits c.due-own.result c.due-own.ensures.some c.due-own.ensures.none c.in-Some.slot c.in-Some.ensures.some).0
 
 pub returns-in-Some-clause-some : goal.returns-in-Some-clause-some
 returns-in-Some-clause-some c =
     let k = c.args.self.now in
     subst (λ (o : Option ℕ). IfSome o (IsFirst (is_row_due c.args.moment) k.rows)) (sym c.better.ensures)
-    (with_first k.rows.things k.rows.generations k.keys.keys k.deadlines k.sending c.args.moment c.requires.kept.seats c.ranges.moment.fits c.due-own.result c.due-own.ensures.some c.due-own.ensures.none c.in-Some.slot c.in-Some.ensures.some).1
+    (with_first k.rows.things k.rows.generations k.keys.keys k.deadlines k.busy c.args.moment c.requires.kept.seats c.ranges.moment.fits c.due-own.result c.due-own.ensures.some c.due-own.ensures.none c.in-Some.slot c.in-Some.ensures.some).1
 
 pub returns-in-None-clause-kept : goal.returns-in-None-clause-kept
 returns-in-None-clause-kept c = record { seats = c.requires.kept.seats; rises = c.in-None.ensures.rises; awaits = c.in-None.ensures.awaits }
@@ -42,9 +42,9 @@ returns-in-None-clause-kept c = record { seats = c.requires.kept.seats; rises = 
 pub returns-in-None-clause-none : goal.returns-in-None-clause-none
 returns-in-None-clause-none c =
     let k = c.args.self.now in
-    (own_alone k.rows.things k.rows.generations k.keys.keys k.deadlines k.sending c.args.moment c.requires.kept.seats c.ranges.moment.fits c.due-own.result c.due-own.ensures.some c.due-own.ensures.none c.in-None.ensures.none).0
+    (own_alone k.rows.things k.rows.generations k.keys.keys k.deadlines k.busy c.args.moment c.requires.kept.seats c.ranges.moment.fits c.due-own.result c.due-own.ensures.some c.due-own.ensures.none c.in-None.ensures.none).0
 
 pub returns-in-None-clause-some : goal.returns-in-None-clause-some
 returns-in-None-clause-some c =
     let k = c.args.self.now in
-    (own_alone k.rows.things k.rows.generations k.keys.keys k.deadlines k.sending c.args.moment c.requires.kept.seats c.ranges.moment.fits c.due-own.result c.due-own.ensures.some c.due-own.ensures.none c.in-None.ensures.none).1
+    (own_alone k.rows.things k.rows.generations k.keys.keys k.deadlines k.busy c.args.moment c.requires.kept.seats c.ranges.moment.fits c.due-own.result c.due-own.ensures.some c.due-own.ensures.none c.in-None.ensures.none).1

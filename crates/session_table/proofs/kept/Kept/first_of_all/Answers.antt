@@ -4,7 +4,7 @@ use Rattle.keyed_slab.specs.SlotSet.{slot_at}
 use Rattle.keyed_slab.specs.Walks.{IsBestOf, IsLookedAt}
 use Rattle.keyed_slab.proofs.Walked.{looked_by_deadline, looked_further, first_or_none}
 use Rattle.session_table.specs.Table.{near_of}
-use Rattle.session_table.specs.Inside.{due_from, sends_of}
+use Rattle.session_table.specs.Inside.{due_from, may_be_due_of}
 use Rattle.session_table.proofs.OwnDue.{due_passes, why_due}
 use Rattle.session_table.proofs.kept.Kept.first_of_all.Goals as goal
 
@@ -13,7 +13,7 @@ loop-index-init c =
     let k = c.args.self.now in
     let m = c.args.moment in
     let below : m < 2 ^ 64 = c.ranges.moment.fits in
-    looked_by_deadline near_of due_from sends_of (is_row_due m) k.rows.things k.rows.generations k.keys.keys k.deadlines k.sending m c.requires.seats (λ row. due_passes m row below) c.slots-slots.result.now c.due-best.result c.due-best.ensures.some c.due-best.ensures.none
+    looked_by_deadline near_of due_from may_be_due_of (is_row_due m) k.rows.things k.rows.generations k.keys.keys k.deadlines k.busy m c.requires.seats (λ row. due_passes m row below) c.slots-slots.result.now c.due-best.result c.due-best.ensures.some c.due-best.ensures.none
 
 pub loop-index-preserved : goal.loop-index-preserved
 loop-index-preserved c =
@@ -23,7 +23,7 @@ loop-index-preserved c =
     let slots = c.slots-slots.result.now in
     let less : l.index < length slots = omega (arith, c.loop-index-test.true, l.auto.index-end) in
     subst (λ (o : Option ℕ). IsBestOf near_of (is_row_due m) k.rows.things (IsLookedAt k.deadlines m slots (l.index + 1)) o) (sym c.better-best.ensures)
-    (looked_further near_of due_from sends_of (is_row_due m) k.rows.things k.rows.generations k.keys.keys k.deadlines k.sending m c.requires.seats slots l.index (slot_at slots l.index) l.best c.slots-slots.ensures less refl l.invariant)
+    (looked_further near_of due_from may_be_due_of (is_row_due m) k.rows.things k.rows.generations k.keys.keys k.deadlines k.busy m c.requires.seats slots l.index (slot_at slots l.index) l.best c.slots-slots.ensures less refl l.invariant)
 
 pub returns-clause-none : goal.returns-clause-none
 returns-clause-none c =
@@ -33,7 +33,7 @@ returns-clause-none c =
     let slots = c.slots-slots.result.now in
     let below : m < 2 ^ 64 = c.ranges.moment.fits in
     let all : l.index ≡ length slots = omega (arith, c.loop-index-test.false, l.auto.index-end) in
-    (first_or_none near_of due_from sends_of (is_row_due m) k.rows.things k.rows.generations k.keys.keys k.deadlines k.sending m c.requires.seats (λ row. why_due m row below) slots c.slots-slots.ensures l.best
+    (first_or_none near_of due_from may_be_due_of (is_row_due m) k.rows.things k.rows.generations k.keys.keys k.deadlines k.busy m c.requires.seats (λ row. why_due m row below) slots c.slots-slots.ensures l.best
     (subst (λ (n : ℕ). IsBestOf near_of (is_row_due m) k.rows.things (IsLookedAt k.deadlines m slots n) l.best) all l.invariant)).0
 
 pub returns-clause-some : goal.returns-clause-some
@@ -44,5 +44,5 @@ returns-clause-some c =
     let slots = c.slots-slots.result.now in
     let below : m < 2 ^ 64 = c.ranges.moment.fits in
     let all : l.index ≡ length slots = omega (arith, c.loop-index-test.false, l.auto.index-end) in
-    (first_or_none near_of due_from sends_of (is_row_due m) k.rows.things k.rows.generations k.keys.keys k.deadlines k.sending m c.requires.seats (λ row. why_due m row below) slots c.slots-slots.ensures l.best
+    (first_or_none near_of due_from may_be_due_of (is_row_due m) k.rows.things k.rows.generations k.keys.keys k.deadlines k.busy m c.requires.seats (λ row. why_due m row below) slots c.slots-slots.ensures l.best
     (subst (λ (n : ℕ). IsBestOf near_of (is_row_due m) k.rows.things (IsLookedAt k.deadlines m slots n) l.best) all l.invariant)).1

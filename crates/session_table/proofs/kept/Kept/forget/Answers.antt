@@ -5,7 +5,7 @@ use Rattle.deadlines.specs.Deadlines.{Slots, deadline_cleared}
 use Rattle.keyed_slab.specs.Seating.{IsKept}
 use Rattle.keyed_slab.specs.SlotSet.{Flags}
 use Rattle.keyed_slab.proofs.Seated.{left_kept, is_left}
-use Rattle.session_table.specs.Inside.{due_from, rows_in, sends_of}
+use Rattle.session_table.specs.Inside.{due_from, rows_in, may_be_due_of}
 use Rattle.session_table.specs.Table.{near_of}
 use Rattle.session_table.proofs.Rounds.{gone_awaits}
 use Rattle.session_table.proofs.kept.Kept.forget.Goals as goal
@@ -15,9 +15,9 @@ returns-clause-kept c =
     let k = c.args.self.now in
     let left = c.take.ensures.rest ∙ ap (remove k.keys.keys) c.near_of-near.ensures in
     record {
-      seats = subst (λ (d : Slots). IsKept near_of due_from sends_of c.remove.new.self.things c.remove.new.self.generations c.take.new.self.keys d c.set.new.self) (sym c.clear.ensures)
-          (subst (λ (f : Flags). IsKept near_of due_from sends_of c.remove.new.self.things c.remove.new.self.generations c.take.new.self.keys (deadline_cleared k.deadlines c.args.slot) f) (sym c.set.ensures)
-          (left_kept near_of due_from sends_of k.rows.things k.rows.generations k.keys.keys k.deadlines k.sending c.remove.new.self.things c.take.new.self.keys c.remove.new.self.generations c.args.slot c.index.result.now c.requires.kept.seats c.index.ensures c.remove.ensures.things c.remove.ensures.generations left));
+      seats = subst (λ (d : Slots). IsKept near_of due_from may_be_due_of c.remove.new.self.things c.remove.new.self.generations c.take.new.self.keys d c.set.new.self) (sym c.clear.ensures)
+          (subst (λ (f : Flags). IsKept near_of due_from may_be_due_of c.remove.new.self.things c.remove.new.self.generations c.take.new.self.keys (deadline_cleared k.deadlines c.args.slot) f) (sym c.set.ensures)
+          (left_kept near_of due_from may_be_due_of k.rows.things k.rows.generations k.keys.keys k.deadlines k.busy c.remove.new.self.things c.take.new.self.keys c.remove.new.self.generations c.args.slot c.index.result.now c.requires.kept.seats c.index.ensures c.remove.ensures.things c.remove.ensures.generations left));
       rises = c.requires.kept.rises;
       awaits = gone_awaits k.rows.things c.remove.new.self.things c.args.slot k.round c.remove.ensures.things c.requires.kept.awaits;
     }

@@ -7,6 +7,7 @@ use Rattle.endpoint_model.specs.declared.row.Row.{Row}
 use Rattle.session_table.specs.Chunks.{of_flows, rejected_in, waiting_in}
 use Rattle.session_table.proofs.Called.{there, stays_loose, ok_if}
 use Rattle.session_table.proofs.Taken.{on_ok, flows_changed, told_is, told_none, same_rows}
+use Rattle.session_table.proofs.Staying.{on_err, rows_stay}
 use Rattle.session_table.proofs.table.SessionTable.apply_exception.Goals as goal
 
 pub returns-in_default-clause-rows : goal.returns-in_default-clause-rows
@@ -38,3 +39,6 @@ returns-clause-numbers c = on_ok c.apply_exception-last.result c.apply_exception
 pub returns-clause-stated : goal.returns-clause-stated
 returns-clause-stated c = ok_if c.apply_exception-last.result c.apply_exception-last.ensures.stated (λ last did. told_is c.args.self.now c.self.inside.kept.rows _ c.args.near c.in-Some.slot c.index_mut.result.now c.self.view_is c.self.invariant c.in-Some.ensures.found c.index_mut.ensures.value (rejected_in c.args.flow) ∙ did
     ∙ ap (λ (ns : List ℕ). map (Abandoned c.args.flow) ns ++ finished_at c.args.flow last) (sym (told_is c.args.self.now c.self.inside.kept.rows _ c.args.near c.in-Some.slot c.index_mut.result.now c.self.view_is c.self.invariant c.in-Some.ensures.found c.index_mut.ensures.value (waiting_in c.args.flow))))
+
+pub returns-clause-err : goal.returns-clause-err
+returns-clause-err c = on_err c.apply_exception-last.result c.apply_exception-last.ensures.err (λ same. (c.settle.ensures.table ∙ rows_stay c.args.self.now c.self.inside.kept.rows _ c.in-Some.slot c.index_mut.result.now c.self.view_is c.index_mut.ensures.value c.apply_exception-last.new.self same.0, same.1))

@@ -7,6 +7,7 @@ use Rattle.session_flows.specs.Causes.{ack_cause}
 use Rattle.session_flows.specs.Chunks.{session_heard}
 use Rattle.session_table.specs.Chunks.{heard_in}
 use Rattle.session_table.proofs.Taken.{both_ok, hearing_keeps, row_loose, row_changed, cause_is, cause_none}
+use Rattle.session_table.proofs.Staying.{on_err, row_stays}
 use Rattle.session_table.proofs.table.SessionTable.take_ack.Goals as goal
 
 pub returns-in_default-clause-cause : goal.returns-in_default-clause-cause
@@ -24,3 +25,7 @@ returns-clause-rows c = both_ok c.take_ack-taken.result c.take_ack-taken.ensures
 
 pub returns-clause-cause : goal.returns-clause-cause
 returns-clause-cause c = cause_is c.args.self.now c.self.inside.kept.rows _ c.args.near c.in-Some.slot c.index_mut-row.result.now c.self.view_is c.self.invariant c.in-Some.ensures.found c.index_mut-row.ensures.value (λ s f. ack_cause s f c.args.flow (told c.args.blocks c.args.upto c.args.spans)) (IsOk c.take_ack-taken.result) (λ x. c.take_ack-taken.result ≡ Err x) c.take_ack-taken.ensures.cause
+
+pub returns-clause-err : goal.returns-clause-err
+returns-clause-err c = on_err c.take_ack-taken.result c.take_ack-taken.ensures.err (λ same. c.settle.ensures.table ∙ row_stays c.args.self.now c.self.inside.kept.rows _ c.in-Some.slot c.index_mut-row.result.now c.self.view_is c.index_mut-row.ensures.value (record c.index_mut-row.result.now { session = c.take_ack-taken.new.session; flows = c.take_ack-taken.new.self })
+    (ap (λ (s : SessionState). record c.index_mut-row.result.now { session = s; flows = c.take_ack-taken.new.self }) same.1 ∙ ap (λ (f : FlowsState). record c.index_mut-row.result.now { flows = f }) same.0))

@@ -4,6 +4,7 @@ use Rattle.session_flows.specs.Causes.{probe_cause}
 use Rattle.session_flows.specs.Chunks.{probed}
 use Rattle.session_table.proofs.Called.{stays_loose}
 use Rattle.session_table.proofs.Taken.{on_ok, flows_changed, cause_is, cause_none}
+use Rattle.session_table.proofs.Staying.{on_err, rows_stay}
 use Rattle.session_table.proofs.table.SessionTable.take_probe.Goals as goal
 
 pub returns-in_default-clause-cause : goal.returns-in_default-clause-cause
@@ -17,3 +18,6 @@ returns-clause-rows c = on_ok c.take_probe-taken.result c.take_probe-taken.ensur
 
 pub returns-clause-cause : goal.returns-clause-cause
 returns-clause-cause c = cause_is c.args.self.now c.self.inside.kept.rows _ c.args.near c.in-Some.slot c.index_mut-row.result.now c.self.view_is c.self.invariant c.in-Some.ensures.found c.index_mut-row.ensures.value (λ s f. probe_cause s f c.args.flow) (IsOk c.take_probe-taken.result) (λ x. c.take_probe-taken.result ≡ Err x) c.take_probe-taken.ensures.cause
+
+pub returns-clause-err : goal.returns-clause-err
+returns-clause-err c = on_err c.take_probe-taken.result c.take_probe-taken.ensures.err (λ same. c.settle.ensures.table ∙ rows_stay c.args.self.now c.self.inside.kept.rows _ c.in-Some.slot c.index_mut-row.result.now c.self.view_is c.index_mut-row.ensures.value c.take_probe-taken.new.self same)

@@ -1,6 +1,6 @@
 use Rattle.std.proofs.Common.{◌<◌, ◌^◌, arith, rules}
-use Rattle.session_flows.proofs.Turning.{no_bit, low_bit}
-use Rattle.session_flows.proofs.turns.lowest.Goals as goal
+use Rattle.flow_turns.proofs.Turning.{no_bit, low_bit}
+use Rattle.flow_turns.proofs.turns.lowest.Goals as goal
 
 pub returns-then-rest-eq0 : goal.returns-then-rest-eq0
 returns-then-rest-eq0 c = no_bit c.args.word c.args.from c.if-rest-eq0.true

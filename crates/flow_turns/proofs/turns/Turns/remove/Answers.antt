@@ -1,8 +1,8 @@
 use Rattle.std.proofs.Common.{ℕ, ◌/◌, List, ap, ◌∙◌, arith}
 use Rattle.std.proofs.lemmas.Nat.{and_le_l}
-use Rattle.session_flows.specs.Turns.{has_turn}
-use Rattle.session_flows.proofs.Turning.{out_own, out_others, out_empty, out_used}
-use Rattle.session_flows.proofs.turns.Turns.remove.Goals as goal
+use Rattle.flow_turns.specs.Turns.{has_turn}
+use Rattle.flow_turns.proofs.Turning.{out_own, out_others, out_empty, out_used}
+use Rattle.flow_turns.proofs.turns.Turns.remove.Goals as goal
 
 pub invariant_of-self : goal.invariant_of-self
 invariant_of-self c = out_empty c.self.inside.full _ c.self.inside.words (c.args.turn / 64) c.self.told (omega (arith, c.requires)) c.if-word-eq0.true c.self.invariant

@@ -2,7 +2,7 @@
 //! few steps.
 
 ghost use Rattle.std.specs.Prelude.{ℕ, ◌≡◌, ◌≢◌, ◌<◌, true, false};
-ghost use Rattle.session_flows.specs.Turns.{has_turn, IsFirstFrom, IsLowest};
+ghost use Rattle.flow_turns.specs.Turns.{has_turn, IsFirstFrom, IsLowest};
 
 use std::marker::Model;
 
@@ -12,7 +12,7 @@ const TURNS: usize = 64;
 /// A set of turns below 2,048. Contracts see it as 32 words, whose bits are the turns in their
 /// order.
 #[derive(Drop)]
-pub(crate) struct Turns {
+pub struct Turns {
     words: [u64; 32],
     /// A bit for each word that has a turn.
     full: u32,
@@ -20,7 +20,7 @@ pub(crate) struct Turns {
 
 impl Model for Turns {
     ghost use Rattle.std.specs.Prelude.{ℕ, List};
-    ghost use Rattle.session_flows.specs.Turns.{IsTied};
+    ghost use Rattle.flow_turns.specs.Turns.{IsTied};
 
     ghost Value = { List ℕ };
 

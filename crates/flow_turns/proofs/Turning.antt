@@ -5,18 +5,21 @@ use Rattle.std.proofs.lemmas.Bool.{cases_eq, cases_lt}
 use Rattle.std.proofs.lemmas.List.{get_or-set_same, get_or-set_other, get_or_past, get_or-replicate, length-replicate}
 use Rattle.std.proofs.lemmas.Nat.{shr-shr, shr_le}
 use Rattle.std.proofs.lemmas.Nat.Bits.{bit_at_set_same, bit_at_set_other, bit_at_clear_same, bit_at_clear_other, bit_at-trailing_zeros, bit_at-zero, bit_at_above}
-use Rattle.session_flows.specs.Turns.{has_turn, IsFirst, IsLowestBit, IsTied}
+use Rattle.flow_turns.specs.Turns.{has_turn, IsFirst, IsLowestBit, IsTied}
 
 -- ---- none
 
-abbrev zeros : ℕ → List ℕ
+abbrev pub zeros : ℕ → List ℕ
 zeros n = replicate n 0
 
 none_at : (n i : ℕ) → get_or (zeros n) i 0 ≡ 0
 none_at n i = elim (cases_lt i n) [ inl less ↦ get_or-replicate n i 0 0 less | inr past ↦ get_or_past (zeros n) i 0 (subst (λ k. k ≤ i) (sym (length-replicate n (let z : ℕ = 0 in z))) past) ]
 
+pub none_of : (n turn : ℕ) → has_turn (zeros n) turn ≡ false
+none_of n turn = ap (λ (w : ℕ). bit_at w (turn % 64) == 1) (none_at n (turn / 64)) ∙ ap (λ (b : ℕ). b == 1) (bit_at-zero (turn % 64))
+
 pub none_in : (turn : ℕ) → has_turn (zeros 32) turn ≡ false
-none_in turn = ap (λ (w : ℕ). bit_at w (turn % 64) == 1) (none_at 32 (turn / 64)) ∙ ap (λ (b : ℕ). b == 1) (bit_at-zero (turn % 64))
+none_in turn = none_of 32 turn
 
 clash : (i : ℕ) → bit_at 0 i ≡ 1 → ⊥
 clash i e = absurd (let z : bit_at 0 i ≡ 0 = bit_at-zero i in omega (arith, e, z))
@@ -42,10 +45,10 @@ bit_own words turn w n inside e = ap (λ (x : ℕ). bit_at x (turn % 64) == 1) (
 
 -- ---- one that is put in
 
-abbrev with_bit : ℕ → ℕ → ℕ
+abbrev pub with_bit : ℕ → ℕ → ℕ
 with_bit word k = bit_or word (1 * 2 ^ k % 2 ^ 64)
 
-abbrev without_bit : ℕ → ℕ → ℕ
+abbrev pub without_bit : ℕ → ℕ → ℕ
 without_bit word k = bit_and word (bit_not w64 (1 * 2 ^ k % 2 ^ 64))
 
 pub put_own : (words : List ℕ) (turn : ℕ) → length words ≡ 32 → turn < 2048 → has_turn (set words (turn / 64) (with_bit (get_or words (turn / 64) 0) (turn % 64))) turn ≡ true
@@ -143,7 +146,7 @@ low_bit word from fits some =
 -- ---- the first from one on
 
 -- none is in a word that has no bit
-quiet_word : (words : List ℕ) (t : ℕ) → get_or words (t / 64) 0 ≡ 0 → has_turn words t ≡ false
+pub quiet_word : (words : List ℕ) (t : ℕ) → get_or words (t / 64) 0 ≡ 0 → has_turn words t ≡ false
 quiet_word words t none = ap (λ (w : ℕ). bit_at w (t % 64) == 1) none ∙ ap (λ (b : ℕ). b == 1) (bit_at-zero (t % 64))
 
 pub past_all : (words : List ℕ) (t : ℕ) → length words ≡ 32 → 2048 ≤ t → has_turn words t ≡ false

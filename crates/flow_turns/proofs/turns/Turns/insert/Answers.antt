@@ -1,7 +1,7 @@
 use Rattle.std.proofs.Common.{ℕ, List, ap, ◌∙◌}
-use Rattle.session_flows.specs.Turns.{has_turn}
-use Rattle.session_flows.proofs.Turning.{put_own, put_others, put_tied}
-use Rattle.session_flows.proofs.turns.Turns.insert.Goals as goal
+use Rattle.flow_turns.specs.Turns.{has_turn}
+use Rattle.flow_turns.proofs.Turning.{put_own, put_others, put_tied}
+use Rattle.flow_turns.proofs.turns.Turns.insert.Goals as goal
 
 pub invariant_of-self : goal.invariant_of-self
 invariant_of-self c = put_tied c.self.inside.full c.self.inside.words c.args.turn c.self.told c.requires c.self.invariant

@@ -1,8 +1,8 @@
 use Rattle.std.proofs.Common.{◌≡◌, ℕ, ◌+◌, ◌*◌, ◌/◌, ◌%◌, ◌<◌, ◌≤◌, ◌^◌, List, get_or, sym, ap, ◌∙◌, subst, rules}
 use Rattle.std.specs.Int.{bit_at}
-use Rattle.session_flows.specs.Turns.{IsFirst, IsLowestBit}
-use Rattle.session_flows.proofs.Turning.{next_within, some_bit, behind_word}
-use Rattle.session_flows.proofs.turns.Turns.first_from.Goals as goal
+use Rattle.flow_turns.specs.Turns.{IsFirst, IsLowestBit}
+use Rattle.flow_turns.proofs.Turning.{next_within, some_bit, behind_word}
+use Rattle.flow_turns.proofs.turns.Turns.first_from.Goals as goal
 
 pub bounds-self-inside-next : goal.bounds-self-inside-next
 bounds-self-inside-next c =
