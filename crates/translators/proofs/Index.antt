@@ -49,12 +49,12 @@ stays_step rule false k ms ns call other is later below = ap (λ (p : ℕ). if i
 none_below : (p : ℕ) → p < 0 → ⊥
 none_below p e = omega (arith, e)
 
-place_stays : (rule : Rule) (ms : List Mapped) (call other : Call) → place_of rule ms call < length ms → place_of rule (with_use rule ms call) other ≡ place_of rule ms other
+pub place_stays : (rule : Rule) (ms : List Mapped) (call other : Call) → place_of rule ms call < length ms → place_of rule (with_use rule ms call) other ≡ place_of rule ms other
 place_stays rule [] call other below = absurd (none_below _ below)
 place_stays rule (k ∷ ms) call other below =
     stays_step rule (is_of rule k call) k ms (with_use rule ms call) call other refl (place_stays rule ms call other) below
 
-abbrev if_below : ℕ → ℕ → Option ℕ
+abbrev pub if_below : ℕ → ℕ → Option ℕ
 if_below p n = if nat_lt p n then Some p else None
 
 pub used_finds : {S : Type 0} (rule : Rule) (places : HashMap Key ℕ S) (ms : List Mapped) (call : Call) → place_of rule ms call < length ms
@@ -82,7 +82,7 @@ more_step false c p q n e = ap suc e ∙ by (nat_lt p n) c ∙ ap (λ (b : Bool)
     by false true = omega arith
     by false false = omega arith
 
-place_more : (rule : Rule) (ms : List Mapped) (n : Mapped) (other : Call) → place_of rule (ms ++ n ∷ []) other ≡ (if nat_lt (place_of rule ms other) (length ms) then place_of rule ms other else length ms + (if is_of rule n other then 0 else 1))
+pub place_more : (rule : Rule) (ms : List Mapped) (n : Mapped) (other : Call) → place_of rule (ms ++ n ∷ []) other ≡ (if nat_lt (place_of rule ms other) (length ms) then place_of rule ms other else length ms + (if is_of rule n other then 0 else 1))
 place_more rule [] n other = by (is_of rule n other)
   where
     by : (c : Bool) → (if c then 0 else suc 0) ≡ 0 + (if c then 0 else 1)
@@ -91,7 +91,7 @@ place_more rule [] n other = by (is_of rule n other)
 place_more rule (k ∷ ms) n other =
     more_step (is_of rule k other) (is_of rule n other) (place_of rule ms other) (place_of rule (ms ++ n ∷ []) other) (length ms) (place_more rule ms n other)
 
-len_more : (ms : List Mapped) (n : Mapped) → length (ms ++ n ∷ []) ≡ suc (length ms)
+pub len_more : (ms : List Mapped) (n : Mapped) → length (ms ++ n ∷ []) ≡ suc (length ms)
 len_more [] n = refl
 len_more (k ∷ ms) n = ap suc (len_more ms n)
 
@@ -124,7 +124,7 @@ bytes_swap a b = by (bytes_eq a b) (bytes_eq b a) (λ e. (bytes_eq-Decides b a).
     by false false there back = refl
 
 -- the new mapping is that of the calls that have its key
-of_new : (rule : Rule) (call other : Call) → other.inner.v6 ≡ false → is_same_key (key_of rule call) (key_of rule other) ≡ is_of rule (new_for call) other
+pub of_new : (rule : Rule) (call other : Call) → other.inner.v6 ≡ false → is_same_key (key_of rule call) (key_of rule other) ≡ is_of rule (new_for call) other
 of_new Independent call other v4 =
     ap (λ (b : Bool). bytes_eq call.inner.host other.inner.host && ((call.inner.port == other.inner.port) && b)) (same_bytes (key_of Independent call).to)
     ∙ both_or (bytes_eq call.inner.host other.inner.host) (call.inner.port == other.inner.port) true
@@ -134,7 +134,7 @@ of_new Dependent call other v4 =
     ∙ ap (λ (b : Bool). b && bytes_eq call.to.host other.to.host) (family other.inner.v6 v4 (bytes_eq call.inner.host other.inner.host && (call.inner.port == other.inner.port)))
     ∙ last_and (bytes_eq call.inner.host other.inner.host) (call.inner.port == other.inner.port) (bytes_eq call.to.host other.to.host))
 
-same_key : (a b : Key) → is_same_key a b ≡ true → a ≡ b
+pub same_key : (a b : Key) → is_same_key a b ≡ true → a ≡ b
 same_key a b e =
     let host = (bytes_eq-Decides a.host b.host).0 (first_true (bytes_eq a.host b.host) ((a.port == b.port) && bytes_eq a.to b.to) e) in
     let rest = second_true (bytes_eq a.host b.host) ((a.port == b.port) && bytes_eq a.to b.to) e in
@@ -142,7 +142,7 @@ same_key a b e =
     let to = (bytes_eq-Decides a.to b.to).0 (second_true (a.port == b.port) (bytes_eq a.to b.to) rest) in
     (λ i. record { host = host i; port = port i; to = to i })
 
-abbrev after_more : Bool → Bool → ℕ → ℕ → Option ℕ
+abbrev pub after_more : Bool → Bool → ℕ → ℕ → Option ℕ
 after_more d c p n = if nat_lt (if d then p else n + (if c then 0 else 1)) (suc n) then Some (if d then p else n + (if c then 0 else 1)) else None
 
 not_below : (p n : ℕ) → (if nat_lt p n then Some p else None) ≡ None → nat_lt p n ≡ false
@@ -152,13 +152,13 @@ not_below p n e = by (nat_lt p n) e
     by true e = absurd cc
     by false e = refl
 
-within : (n : ℕ) → nat_lt (n + 0) (suc n) ≡ true
+pub within : (n : ℕ) → nat_lt (n + 0) (suc n) ≡ true
 within n = grind (arith)
 
-beyond : (n : ℕ) → nat_lt (n + 1) (suc n) ≡ false
+pub beyond : (n : ℕ) → nat_lt (n + 1) (suc n) ≡ false
 beyond n = grind (arith)
 
-below_more : (p n : ℕ) → nat_lt p n ≡ true → nat_lt p (suc n) ≡ true
+pub below_more : (p n : ℕ) → nat_lt p n ≡ true → nat_lt p (suc n) ≡ true
 below_more p n e = grind (arith, ltb-true p n e)
 
 made_by : (c d : Bool) (p n : ℕ) → nat_lt p n ≡ d → (c ≡ true → d ≡ false) → cond c (Some n) (if d then Some p else None) ≡ after_more d c p n

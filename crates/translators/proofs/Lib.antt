@@ -4,3 +4,4 @@ pub mod Stems
 pub mod Index
 pub mod Alike
 pub mod Called
+pub mod Undo

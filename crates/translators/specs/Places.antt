@@ -1,11 +1,11 @@
 -- How the mapping of a call is found. Callers see nothing of it.
-use Rattle.std.specs.Prelude.{◌≡◌, ℕ, ◌==◌, ◌&&◌, nat_lt, Bool, false, if◌then◌else◌, List, [], length, Option, Some, None, refl}
+use Rattle.std.specs.Prelude.{◌≡◌, ℕ, ◌==◌, ◌&&◌, nat_lt, Bool, false, if◌then◌else◌, List, [], length, slice_get, Option, Some, None, refl}
 use Rattle.std.specs.Coded.{Coded, code_by, coded×, coded_list}
 use Rattle.std.specs.Str.{bytes_eq}
 use Rattle.std.specs.HashMap.{HashMap, get}
 use Rattle.translators.specs.declared.places.Key.{Key}
 use Rattle.translators.specs.declared.rule.Rule.{Rule}
-use Rattle.translators.specs.Mappings.{Mapped, Call, key_of, place_of, with_use}
+use Rattle.translators.specs.Mappings.{Mapped, Call, has_host, key_of, place_of, with_use}
 
 abbrev pub is_same_key : Key → Key → Bool
 is_same_key a b = bytes_eq a.host b.host && ((a.port == b.port) && bytes_eq a.to b.to)
@@ -37,3 +37,19 @@ no_mappings rule = record { rule = rule; list = [] }
 
 abbrev pub after_call : MappingList → Call → MappingList
 after_call m call = record { rule = m.rule; list = with_use m.rule m.list call }
+
+-- ---- what a call made
+
+-- A call made its mapping.
+pub record MadeMapping (before : MappingList) (call : Call) (after : MappingList) : Type 0 where
+  pub v4 : call.inner.v6 ≡ false
+  pub none : slice_get before.list (place_of before.rule before.list call) ≡ None
+  pub used : after ≡ after_call before call
+
+-- A call used its mapping towards one more host.
+pub record MadeHost (before : MappingList) (call : Call) (after : MappingList) : Type 0 where
+  pub v4 : call.inner.v6 ≡ false
+  pub mapped : Mapped
+  pub there : slice_get before.list (place_of before.rule before.list call) ≡ Some mapped
+  pub unused : has_host call.to.host mapped.towards ≡ false
+  pub used : after ≡ after_call before call

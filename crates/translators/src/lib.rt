@@ -6,11 +6,13 @@ pub mod edges;
 pub mod laws;
 mod mapping;
 mod mappings;
+mod news;
 mod places;
 mod refusal;
 mod rule;
 mod translator;
 
+pub use news::News;
 pub use refusal::{InRefusal, OutRefusal};
 pub use rule::Rule;
 pub use translator::Translator;

@@ -1,7 +1,7 @@
 //! One mapping.
 
 ghost use Rattle.std.specs.Prelude.{◌≡◌, IfOk, OnOk, OnErr, false};
-ghost use Rattle.translators.specs.Mappings.{from_to, has_host, new_for, used_by};
+ghost use Rattle.translators.specs.Mappings.{Mapped, Call, from_to, has_host, new_for, used_by};
 
 use indexmap::IndexSet;
 use rtmfp_forms::Address;
@@ -67,5 +67,13 @@ impl Mapping {
     {
         self.towards.insert(to.host)?;
         Ok(())
+    }
+
+    /// Takes the host back that a use added last.
+    pub fn take_back(&mut self)
+        ensures { (before : Mapped) (call : Call) → has_host call.to.host before.towards ≡ false →
+            self.old ≡ used_by before call → self.new ≡ before }
+    {
+        let _host = self.towards.pop();
     }
 }

@@ -1,8 +1,8 @@
 //! All mappings, in the order of their ports.
 
-ghost use Rattle.std.specs.Prelude.{◌≡◌, ◌≤◌, OnOk, OnErr, length, slice_get, false, option_copied};
-ghost use Rattle.translators.specs.Mappings.{from_to, place_of, with_use};
-ghost use Rattle.translators.specs.Places.{no_mappings, after_call, IsIndex};
+ghost use Rattle.std.specs.Prelude.{◌≡◌, ◌≤◌, List, [], ◌∷◌, ◌++◌, OnOk, OnErr, length, slice_get, false, option_copied};
+ghost use Rattle.translators.specs.Mappings.{Mapped, from_to, place_of, with_use};
+ghost use Rattle.translators.specs.Places.{MappingList, MadeMapping, MadeHost, no_mappings, after_call, IsIndex};
 
 use crate::mapping::Mapping;
 use crate::places::{Key, place_or};
@@ -92,6 +92,31 @@ impl Mappings {
         }
     }
 
+    /// Takes back the mapping that a call made just now.
+    pub fn take_mapping_back(&mut self, inner: &Address, to: &Address)
+        requires { (before : MappingList) ×
+            MadeMapping before (from_to inner.now to.now) self.old }
+        ensures { (before : MappingList) →
+            MadeMapping before (from_to inner.now to.now) self.old → self.new ≡ before }
+    {
+        take_last(&mut self.list);
+        let key = Key::of(self.rule, inner, to);
+        let _place = self.places.remove(&key);
+    }
+
+    /// Takes back the host that a call added to its mapping just now.
+    pub fn take_host_back(&mut self, inner: &Address, to: &Address)
+        requires { (before : MappingList) × MadeHost before (from_to inner.now to.now) self.old }
+        ensures { (before : MappingList) → MadeHost before (from_to inner.now to.now) self.old →
+            self.new ≡ before }
+    {
+        let place = self.place_of(inner, to);
+        let Some(mapping) = self.list.get_mut(place) else {
+            return;
+        };
+        mapping.take_back();
+    }
+
     /// Makes the mapping of a call that has none.
     fn make(&mut self, inner: &Address, to: &Address) -> Result<(), AllocError>
         requires family { inner.now.v6 ≡ false }
@@ -110,4 +135,12 @@ impl Mappings {
         self.list.push_reserved(mapping);
         Ok(())
     }
+}
+
+/// Takes the last mapping away.
+fn take_last(list: &mut Vec<Mapping>)
+    ensures { (before : List Mapped) (last : Mapped) → list.old.items ≡ before ++ last ∷ [] →
+        list.new.items ≡ before }
+{
+    let _mapping = list.pop();
 }

@@ -2,10 +2,12 @@
 
 ghost use Rattle.std.specs.Prelude.{◌≡◌, ◌≤◌, Err, OnOk, OnErr, IfOk, IfErr, IfSome, IfNone, option_copied};
 ghost use Rattle.translators.specs.Mappings.{from_to};
-ghost use Rattle.translators.specs.Translator.{new_translator, out_refusal, public_of, after_use, inward_of, mapping_at};
+ghost use Rattle.translators.specs.Translator.{TranslatorState, new_translator, out_refusal, public_of, after_use, inward_of, mapping_at};
+ghost use Rattle.translators.specs.Undoing.{news_of, WentOut};
 
 use crate::mapping::Mapping;
 use crate::mappings::Mappings;
+use crate::news::News;
 use crate::refusal::{InRefusal, OutRefusal};
 use crate::rule::Rule;
 use rtmfp_forms::Address;
@@ -60,6 +62,47 @@ impl Translator {
             filter,
             host,
             first,
+        }
+    }
+
+    /// Its public host.
+    pub fn host(&self) -> [u8; 4]
+        ensures { result ≡ self.now.host }
+    {
+        self.host
+    }
+
+    /// What `outward` would make of this that isn't there. It changes nothing and takes no memory.
+    pub fn news(&self, inner: &Address, to: &Address) -> News
+        ensures { result ≡ news_of self.now (from_to inner.now to.now) }
+    {
+        if inner.v6 {
+            return News::Nothing;
+        }
+        match self.mappings.get(self.mappings.place_of(inner, to)) {
+            None => News::NewMapping,
+            Some(mapping) => {
+                if mapping.was_used(&to.host) {
+                    News::Nothing
+                } else {
+                    News::NewHost
+                }
+            }
+        }
+    }
+
+    /// Takes back what went out just now and made this: all is as it was before it. It takes no
+    /// memory.
+    pub fn take_back(&mut self, inner: &Address, to: &Address, news: News)
+        requires { (before : TranslatorState) ×
+            WentOut before (from_to inner.now to.now) news self.old }
+        ensures { (before : TranslatorState) →
+            WentOut before (from_to inner.now to.now) news self.old → self.new ≡ before }
+    {
+        match news {
+            News::Nothing => {}
+            News::NewHost => self.mappings.take_host_back(inner, to),
+            News::NewMapping => self.mappings.take_mapping_back(inner, to),
         }
     }
 
