@@ -9,7 +9,7 @@ use rtmfp_base::Message;
 use rtmfp_forms::Address;
 use rtmfp_host::{Sink, StreamSink};
 use rtmfp_report::{GroupKeys, push_entries};
-use rtmfp_script::{Content, Said, ScriptLine, read_line};
+use rtmfp_script::{BringLine, CallLine, Content, Said, ScriptLine, read_line};
 use rtmfp_text::{Directory, Name, Named, Text};
 use std::alloc::Global;
 use std::test::Fail;
@@ -83,21 +83,6 @@ fn copy_of(alloc: Global, message: &Message) -> Result<Message, Fail> {
 /// Tells whose allocations begin.
 fn mark(rt: &HostRuntime, sign: &[u8]) {
     let _ = StreamSink::new(rt.stderr()).write(sign);
-}
-
-/// The end that a step is of, and the peer that it names.
-fn names_of(step: &ScriptLine) -> (Name, Name) {
-    match step {
-        ScriptLine::Introduce { name } => (name.again(), Name::none()),
-        ScriptLine::Redirect { name, peer, .. } => (name.again(), peer.again()),
-        ScriptLine::Open { name, peer, .. } => (name.again(), peer.again()),
-        ScriptLine::Cancel { name, .. } => (name.again(), Name::none()),
-        ScriptLine::Close { name, .. } => (name.again(), Name::none()),
-        ScriptLine::Flow { name, .. } => (name.again(), Name::none()),
-        ScriptLine::Abandon { name, .. } => (name.again(), Name::none()),
-        ScriptLine::Finish { name, .. } => (name.again(), Name::none()),
-        _ => (Name::none(), Name::none()),
-    }
 }
 
 impl Play {
@@ -268,12 +253,12 @@ impl Play {
         self.bring(rt, line, index, to, from)
     }
 
-    /// Queues a message at the end of a name.
+    /// Queues a message at an end.
     fn queue(
         &mut self,
         rt: &HostRuntime,
         line: u32,
-        name: &Name,
+        by: usize,
         near: u32,
         flow: u64,
         options: MessageOptions,
@@ -285,7 +270,6 @@ impl Play {
             options,
             message,
         };
-        let by = self.number_of(name);
         self.call(rt, line, by, &deed)
     }
 
@@ -307,15 +291,44 @@ impl Play {
                 self.moment = moment;
                 Ok(())
             }
-            ScriptLine::Tick { name } => {
+            ScriptLine::Call { name, call } => {
                 let by = self.number_of(&name);
-                self.call(rt, line, by, &Deed::Tick)
+                self.call_line(rt, line, by, call)
             }
-            ScriptLine::Deliver { number, name, from } => {
-                self.deliver(rt, line, number, &name, from)
-            }
-            ScriptLine::Queue {
+            ScriptLine::Towards {
                 name,
+                peer,
+                addresses,
+                aim,
+            } => {
+                let (by, peer) = (self.number_of(&name), self.print_of(&peer));
+                let deed = Deed::Aim {
+                    aim,
+                    peer,
+                    addresses,
+                };
+                self.call(rt, line, by, &deed)
+            }
+            ScriptLine::Bring { name, from, what } => match what {
+                BringLine::Deliver { number } => self.deliver(rt, line, number, &name, from),
+                _ => Ok(()),
+            },
+            // Places are no matter of an end.
+            _ => Ok(()),
+        }
+    }
+
+    /// Does what an end is called to do.
+    fn call_line(
+        &mut self,
+        rt: &HostRuntime,
+        line: u32,
+        by: usize,
+        call: CallLine,
+    ) -> Result<(), Fail> {
+        match call {
+            CallLine::Tick => self.call(rt, line, by, &Deed::Tick),
+            CallLine::Queue {
                 near,
                 flow,
                 deadline,
@@ -324,19 +337,10 @@ impl Play {
             } => {
                 let message = self.message_of(content)?;
                 let options = MessageOptions { deadline, resends };
-                self.queue(rt, line, &name, near, flow, options, message)
+                self.queue(rt, line, by, near, flow, options, message)
             }
-            other => self.act(rt, line, other),
+            other => self.call(rt, line, by, &Deed::Call { call: other }),
         }
-    }
-
-    /// Does a step that brings no datagram.
-    fn act(&mut self, rt: &HostRuntime, line: u32, step: ScriptLine) -> Result<(), Fail> {
-        let (name, peer) = names_of(&step);
-        let by = self.number_of(&name);
-        let peer = self.print_of(&peer);
-        let deed = Deed::Step { step, peer };
-        self.call(rt, line, by, &deed)
     }
 
     /// Does the next line of the script.

@@ -2,16 +2,16 @@
 use Rattle.std.proofs.Common.{◌≡◌, ℕ, ◌+◌, List, [], ◌∷◌, ◌++◌, inl, inr, sym, subst}
 use Rattle.flow_history.specs.Deeds.{Name}
 use Rattle.endpoint_laws.specs.History.{History}
-use Rattle.rendezvous_world.specs.Seen.{Seen, setup_at}
+use Rattle.rendezvous_world.specs.Seen.{setup_at}
+use Rattle.placed_world.specs.Seen.{PlacedSeen}
 use Rattle.rendezvous_world.specs.History.{history_of}
 use Rattle.rendezvous_world.specs.Handing.{MessagesGoOver}
 use Rattle.rendezvous_world.specs.Laws.{empty_world}
-use Rattle.rendezvous_world.proofs.Calling.{seen_is}
 use Rattle.rendezvous_world.proofs.Keeping.{new_world}
 use Rattle.rendezvous_world.proofs.Sounds.{every_world_is_sound}
 use Rattle.rendezvous_world.proofs.Agreeing.{agreed}
 use Rattle.rendezvous_world.proofs.Handing.{hands_over}
-use Rattle.rtmfp_play.specs.Play.{HistoryHolds, Plays}
+use Rattle.rtmfp_play.specs.Play.{HistoryHolds, Plays, empty_placed}
 use Rattle.rtmfp_cli.specs.declared.doing.Doing.{Doing}
 use Rattle.rtmfp_cli.specs.declared.doing.Doing.TheVariants.{Showing, Playing}
 use Rattle.rtmfp_cli.specs.Doing.{Does, Holds, playing}
@@ -22,13 +22,13 @@ use Rattle.rtmfp_cli.specs.Script.{Runs}
 pub empty_holds : HistoryHolds empty_world
 empty_holds = record { sound = every_world_is_sound empty_world new_world; agreed = agreed empty_world new_world; go_over = hands_over empty_world new_world }
 
-pub new_holds : (w : Seen) → w.moment ≡ 0 → w.ends ≡ [] → w.lines ≡ [] → HistoryHolds w
-new_holds w moment ends lines = subst HistoryHolds (sym (seen_is w 0 [] [] moment ends lines)) empty_holds
+pub new_holds : (w : PlacedSeen) → w ≡ empty_placed → HistoryHolds w.world
+new_holds w is = subst (λ (p : PlacedSeen). HistoryHolds p.world) (sym is) empty_holds
 
-plays_holds : (w : Seen) (n : ℕ) (line : List ℕ) (t : Seen) (text : List ℕ) → HistoryHolds w → Plays w n line t text → HistoryHolds t
+plays_holds : (w : PlacedSeen) (n : ℕ) (line : List ℕ) (t : PlacedSeen) (text : List ℕ) → HistoryHolds w.world → Plays w n line t text → HistoryHolds t.world
 plays_holds w n line t text holds plays =
     elim plays [
-      | inl nothing ↦ subst HistoryHolds (sym nothing.same) holds
+      | inl nothing ↦ subst (λ (p : PlacedSeen). HistoryHolds p.world) (sym nothing.same) holds
       | inr step ↦ step.holds
     ]
 
@@ -49,7 +49,7 @@ runs_hold n doing left (line ∷ lines) text holds ran = runs_hold (n + 1) ran.0
 pub run_is_agreed : EveryRunIsAgreed
 run_is_agreed lines w text ran = (runs_hold 1 playing (Playing w) lines text empty_holds ran).agreed
 
-in_its_order : (w : Seen) (later early : History) → history_of w ≡ later ++ early → MessagesGoOver (setup_at w.ends) (history_of w) → (n : Name) → HandsInItsOrder (setup_at w.ends) early n
+in_its_order : (w : PlacedSeen) (later early : History) → history_of w.world ≡ later ++ early → MessagesGoOver (setup_at w.world.ends) (history_of w.world) → (n : Name) → HandsInItsOrder (setup_at w.world.ends) early n
 in_its_order w later early e over n =
     elim (over.has_an_order later early e n) [
       | inl order ↦ inl (order, over.in_order later early e n order)
@@ -58,5 +58,5 @@ in_its_order w later early e over n =
 
 pub run_hands_over : EveryRunHandsOver
 run_hands_over lines w text ran later early e =
-    let over : MessagesGoOver (setup_at w.ends) (history_of w) = (runs_hold 1 playing (Playing w) lines text empty_holds ran).go_over in
+    let over : MessagesGoOver (setup_at w.world.ends) (history_of w.world) = (runs_hold 1 playing (Playing w) lines text empty_holds ran).go_over in
     (in_its_order w later early e over, over.each_is_told later early e)

@@ -6,3 +6,4 @@ pub mod InOrder
 pub mod Going
 pub mod Flushed
 pub mod Running
+pub mod Flat

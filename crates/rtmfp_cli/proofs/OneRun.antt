@@ -21,8 +21,8 @@ both_do n line (Playing w) Showing left other text words same h k = absurd same
 both_do n line (Playing w) (Playing v) Showing other text words same h k = absurd h
 both_do n line (Playing w) (Playing v) (Playing t) Showing text words same h k = absurd k
 both_do n line (Playing w) (Playing v) (Playing t) (Playing s) text words same h k =
-    let one : AreOne t s text words = both_play w v n line t s text words same h k in
-    record { same = one.worlds; texts = one.texts }
+    let one : AreOne t s text words = both_play w v n line t s text words (record { worlds = same.0; places = same.1 }) h k in
+    record { same = (one.worlds.worlds, one.worlds.places); texts = one.texts }
 
 both_run : (n : ℕ) (doing begun left other : Doing) (lines : List (List ℕ)) (text words : List ℕ) → AreSame doing begun → Runs n doing lines left text → Runs n begun lines other words → IsOne left other text words
 both_run n doing begun left other [] text words same h k = record {
@@ -36,7 +36,7 @@ both_run n doing begun left other (line ∷ lines) text words same h k =
 
 same_as_itself : (doing : Doing) → AreSame doing doing
 same_as_itself Showing = tt
-same_as_itself (Playing w) = record { moment = refl; ends = refl; lines = refl }
+same_as_itself (Playing w) = (record { moment = refl; ends = refl; lines = refl }, refl)
 
 pub each_script_has_one_run : EachScriptHasOneRun
 each_script_has_one_run n doing left other lines text words h k =

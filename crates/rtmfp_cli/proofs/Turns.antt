@@ -16,7 +16,7 @@ use Rattle.rtmfp_cli.specs.declared.doing.Doing.{Doing}
 use Rattle.rtmfp_cli.specs.declared.doing.Doing.TheVariants.{Showing, Playing}
 use Rattle.rtmfp_cli.specs.Doing.{Does, IsBadLine, IsForgedLine, limit_of}
 use Rattle.rtmfp_script.specs.Grammar.{line_limit}
-use Rattle.rendezvous_world.specs.Seen.{Seen}
+use Rattle.placed_world.specs.Seen.{PlacedSeen}
 use Rattle.rtmfp_play.specs.Play.{IsBadPlay}
 use Rattle.rtmfp_show.specs.ShowLine.{IsNoPacket, show_limit}
 use Rattle.rtmfp_cli.specs.Script.{Runs}
@@ -179,7 +179,7 @@ too_long_to_show : (front tail : List ℕ) → show_limit < length front → IsN
 too_long_to_show front tail long b shows = omega (arith, shows.fits, long, length-append front tail)
 
 -- such a line is longer than a line of a script may be, and so it is none, and no comment either
-too_long_to_play : (w : Seen) (front tail : List ℕ) → line_limit < length front → IsBadPlay w (front ++ tail)
+too_long_to_play : (w : PlacedSeen) (front tail : List ℕ) → line_limit < length front → IsBadPlay w (front ++ tail)
 too_long_to_play w front tail long = record {
   not_skipped = λ skipped fits. omega (arith, long, fits, length-append front tail);
   bad = λ said step is_line is_step. absurd (omega (arith, is_line.fits, long, length-append front tail));

@@ -5,9 +5,8 @@ use Rattle.rtmfp_cli.specs.declared.doing.Doing.TheVariants.{Showing, Playing}
 use Rattle.rtmfp_play.specs.declared.said.Said.{Said}
 use Rattle.rtmfp_play.specs.declared.said.Said.TheVariants.{Text, Bad, Forged}
 use Rattle.rtmfp_script.specs.Grammar.{line_limit}
-use Rattle.rendezvous_world.specs.Laws.{empty_world}
 use Rattle.rendezvous_world.specs.Sound.{AreBelow}
-use Rattle.rtmfp_play.specs.Play.{Plays, HistoryHolds, IsBadPlay, IsForgedPlay}
+use Rattle.rtmfp_play.specs.Play.{Plays, HistoryHolds, IsBadPlay, IsForgedPlay, empty_placed}
 use Rattle.rtmfp_show.specs.ShowLine.{ShowsLine, IsNoPacket, show_limit}
 
 -- the longest line
@@ -46,16 +45,16 @@ ShownAs Forged line text = ⊥
 -- No line of the number n or above was done.
 abbrev pub IsNext : Doing → ℕ → Type 0
 IsNext Showing n = Unit {0}
-IsNext (Playing w) n = AreBelow w.lines n × (n < 2 ^ 32)
+IsNext (Playing w) n = AreBelow w.world.lines n × (n < 2 ^ 32)
 
 -- what `show` and `replay` begin with
 abbrev pub showing : Doing
 showing = Showing
 
 abbrev pub playing : Doing
-playing = Playing empty_world
+playing = Playing empty_placed
 
--- Of the world that the lines so far leave the history holds.
+-- Of the world that the lines so far leave the history holds, wherever its ends are placed.
 abbrev pub Holds : Doing → Type 0
 Holds Showing = Unit {0}
-Holds (Playing w) = HistoryHolds w
+Holds (Playing w) = HistoryHolds w.world

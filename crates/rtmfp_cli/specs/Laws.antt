@@ -1,5 +1,5 @@
 -- What holds of all runs over lines, and their limits a second time.
-use Rattle.std.specs.Prelude.{◌≡◌, ◌⊎◌, ℕ, ◌+◌, ◌-◌, ◌<◌, ◌≤◌, true, false, List, [], ◌∷◌, ◌++◌, length, take, Some}
+use Rattle.std.specs.Prelude.{◌≡◌, ◌⊎◌, ℕ, ◌+◌, ◌-◌, ◌<◌, ◌≤◌, true, false, List, [], ◌∷◌, ◌++◌, length, take, Option, Some}
 use Rattle.rtmfp_data_chunks.specs.HandsOver.{HandsOver, HandsOnce}
 use Rattle.flow_history.specs.Deeds.{Name}
 use Rattle.flow_history.specs.Log.{queued_of, abandoned_of, handed_of}
@@ -12,7 +12,12 @@ use Rattle.rtmfp_text.specs.declared.names.Named.{Named}
 use Rattle.rendezvous_world.specs.declared.journal.JournalLine.{JournalLine}
 use Rattle.rendezvous_world.specs.Inside.{count_in}
 use Rattle.rendezvous_world.specs.Same.{AreSameWorlds}
+use Rattle.rendezvous_world.specs.declared.step.Step.{Step}
+use Rattle.rendezvous_world.specs.Laws.{empty_world}
 use Rattle.rendezvous_world.specs.Seen.{Seen, setup_at}
+use Rattle.placed_world.specs.Stepping.{SteppedFlat}
+use Rattle.placed_world.specs.Seen.{PlacedSeen}
+use Rattle.placed_world.specs.declared.step.LostLine.{LostLine}
 use Rattle.rendezvous_world.specs.History.{history_of}
 use Rattle.rtmfp_host.specs.Writing.{Appends}
 use Rattle.rtmfp_lines.specs.declared.status.Status.{Status}
@@ -21,7 +26,8 @@ use Rattle.rtmfp_lines.specs.Lines.{lines_of}
 use Rattle.rtmfp_lines.specs.Outside.{Outside}
 use Rattle.rtmfp_lines.specs.Status.{status_code}
 use Rattle.rtmfp_node.specs.declared.served.Served.TheVariants as served
-use Rattle.rtmfp_play.specs.Play.{names_of, told_of}
+use Rattle.rtmfp_report.specs.LostText.{lost_line}
+use Rattle.rtmfp_play.specs.Play.{name_at, names_of, told_of}
 use Rattle.rtmfp_cli.specs.declared.doing.Doing.{Doing}
 use Rattle.rtmfp_cli.specs.declared.doing.Doing.TheVariants.{Playing, Showing}
 use Rattle.rtmfp_cli.specs.Commands.{status_of}
@@ -37,8 +43,8 @@ EveryRunHolds = (lines : List (List ℕ)) (left : Doing) (text : List ℕ) →
 -- The first sentence of the headline: no run of a script leaves two ends that keep different
 -- sessions with each other, and each attempt that opened has one session at its responder.
 abbrev pub EveryRunIsAgreed : Type 0
-EveryRunIsAgreed = (lines : List (List ℕ)) (w : Seen) (text : List ℕ) →
-    Runs 1 playing lines (Playing w) text → IsAgreed (setup_at w.ends) (history_of w)
+EveryRunIsAgreed = (lines : List (List ℕ)) (w : PlacedSeen) (text : List ℕ) →
+    Runs 1 playing lines (Playing w) text → IsAgreed (setup_at w.world.ends) (history_of w.world)
 
 -- A flow in queueing order has handed over what was queued on it whole, none twice, in the order of
 -- queueing, and skipping only abandoned messages; one in arrival order whole, and none twice.
@@ -53,35 +59,68 @@ HandsInItsOrder ends history n =
 -- The second: at each moment of a run each flow hands over in its order, and whatever an end states
 -- of a message is told of a flow.
 abbrev pub EveryRunHandsOver : Type 0
-EveryRunHandsOver = (lines : List (List ℕ)) (w : Seen) (text : List ℕ) →
+EveryRunHandsOver = (lines : List (List ℕ)) (w : PlacedSeen) (text : List ℕ) →
     Runs 1 playing lines (Playing w) text → (later early : History) →
-    history_of w ≡ later ++ early →
-    ((n : Name) → HandsInItsOrder (setup_at w.ends) early n) × AllTold (setup_at w.ends) early
+    history_of w.world ≡ later ++ early →
+    ((n : Name) → HandsInItsOrder (setup_at w.world.ends) early n) ×
+    AllTold (setup_at w.world.ends) early
 
--- These lines of a journal tell this text: what is told of each, one after another from the oldest
--- on. Of all ends, so many at least were there before the first, and so many datagrams were sent. A
--- line is told with the names of the ends that were there when it was done: the one that it calls
--- is among them, and ends come and don't go.
-abbrev pub IsReport : List Named → ℕ → ℕ → List JournalLine → List ℕ → Type 0
+-- What is told of: a line of the journal, or a datagram that was carried on a line of the script
+-- and didn't arrive.
+pub data Told : Type 0 where
+  Line : (line : JournalLine) → Told
+  Loss : (n : ℕ) → (lost : LostLine) → Told
+
+-- the lines of the journal among them
+abbrev pub journal_in : List Told → List JournalLine
+journal_in [] = []
+journal_in (Line line ∷ told) = line ∷ journal_in told
+journal_in (Loss n lost ∷ told) = journal_in told
+
+-- These tell this text: what is told of each, one after another from the oldest on. Of all ends, so
+-- many at least were there before the first, and so many datagrams were sent. Each is told with the
+-- names of the ends that were there then: the one that a line of the journal calls is among them,
+-- and ends come and don't go.
+abbrev pub IsReport : List Named → ℕ → ℕ → List Told → List ℕ → Type 0
 IsReport names before sent [] text = text ≡ []
-IsReport names before sent (line ∷ lines) text =
+IsReport names before sent (Line line ∷ told) text =
     (there : ℕ) × (rest : List ℕ) × (before ≤ there) × (line.end < there) × (there ≤ length names)
     × (text ≡ told_of (take there names) sent line line.refused ++ rest) ×
-    IsReport names there (sent + count_in line) lines rest
+    IsReport names there (sent + count_in line) told rest
+IsReport names before sent (Loss n lost ∷ told) text =
+    (there : ℕ) × (rest : List ℕ) × (before ≤ there) × (there ≤ length names)
+    × (text ≡ lost_line n (name_at (take there names) lost.end) lost.number lost.lost ++ rest) ×
+    IsReport names there sent told rest
 
--- What is written of a script is the report of the journal that its lines leave: no line of the
--- journal is left out, and nothing else is written.
+-- What is written of a script is the report of the journal that its lines leave, with a line for
+-- each datagram that was lost: no line of the journal is left out, and nothing else is written.
 abbrev pub EachTextIsTheReport : Type 0
-EachTextIsTheReport = (lines : List (List ℕ)) (w : Seen) (text : List ℕ) →
-    Runs 1 playing lines (Playing w) text → IsReport (names_of w) 0 0 w.lines text
+EachTextIsTheReport = (lines : List (List ℕ)) (w : PlacedSeen) (text : List ℕ) →
+    Runs 1 playing lines (Playing w) text →
+    (told : List Told) × (journal_in told ≡ w.world.lines) ×
+    IsReport (names_of w.world) 0 0 told text
+
+-- Steps of a world, from line n on, one after another; a line without one leaves it as it is.
+abbrev pub StepsOn : ℕ → Seen → List (Option Step) → Seen → Type 0
+StepsOn n w [] t = t ≡ w
+StepsOn n w (step ∷ steps) t =
+    (middle : Seen) × SteppedFlat w n step middle × StepsOn (n + 1) middle steps t
+
+-- The world that a script leaves is that of a flat script, line for line: a carry that arrives is a
+-- delivery there, and each other line of translators, places and carries is none.
+abbrev pub EachRunIsFlat : Type 0
+EachRunIsFlat = (lines : List (List ℕ)) (w : PlacedSeen) (text : List ℕ) →
+    Runs 1 playing lines (Playing w) text →
+    (steps : List (Option Step)) × (length steps ≡ length lines) ×
+    StepsOn 1 empty_world steps w.world
 
 -- What two runs leave is the same but for the room that outboxes of a journal have left, which is a
--- matter of memory.
+-- matter of memory; the places are the same.
 abbrev pub AreSame : Doing → Doing → Type 0
 AreSame Showing Showing = Unit {0}
 AreSame Showing (Playing t) = ⊥
 AreSame (Playing w) Showing = ⊥
-AreSame (Playing w) (Playing t) = AreSameWorlds w t
+AreSame (Playing w) (Playing t) = AreSameWorlds w.world t.world × (w.places ≡ t.places)
 
 -- What lines leave, and the text that is written of them, are decided by the lines.
 abbrev pub EachScriptHasOneRun : Type 0

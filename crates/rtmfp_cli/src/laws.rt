@@ -1,5 +1,5 @@
 //! What holds of all runs over lines. The functions do nothing: the contract of each is its law.
-ghost use Rattle.rtmfp_cli.specs.Laws.{EachRunWritesInOrder, EachScriptHasOneRun, EachTextIsTheReport, EveryRunHandsOver};
+ghost use Rattle.rtmfp_cli.specs.Laws.{EachRunIsFlat, EachRunWritesInOrder, EachScriptHasOneRun, EachTextIsTheReport, EveryRunHandsOver};
 ghost use Rattle.rtmfp_cli.specs.Laws.{EveryRunHolds, EveryRunIsAgreed, Limits, NodeStatuses};
 
 /// No run of a script leaves two ends that keep different sessions with each other, or a flow that
@@ -11,9 +11,15 @@ pub fn every_run_holds()
     ensures hands_over { EveryRunHandsOver }
 {}
 
+/// The world that a script leaves is that of a script without translators, places and carries: a
+/// carry that arrives stands there as the delivery that it is, and other such lines as comments.
+pub fn each_run_is_flat()
+    ensures { EachRunIsFlat }
+{}
+
 /// What is written of a script is the report of its journal: the text of each of its lines, from
-/// the oldest on, and nothing else. A line of the script that adds none to the journal writes
-/// nothing.
+/// the oldest on, with a line for each datagram that was carried and lost, and nothing else. A line
+/// of the script that adds none of these writes nothing.
 pub fn each_text_is_the_report_of_its_journal()
     ensures { EachTextIsTheReport }
 {}

@@ -1,5 +1,5 @@
 -- A line of a script decides what it leaves, and the text of it.
-use Rattle.std.proofs.Common.{◌≡◌, ℕ, zero, suc, List, [], ◌∷◌, length, map, slice_get, Option, Some, None, inl, inr, refl, sym, ap, ◌∙◌, subst}
+use Rattle.std.proofs.Common.{◌≡◌, ℕ, zero, suc, List, [], ◌∷◌, ◌++◌, length, map, slice_get, Option, Some, None, inl, inr, refl, sym, ap, ◌∙◌, subst}
 use Rattle.rtmfp_text.specs.declared.names.Named.{Named}
 use Rattle.rtmfp_script.specs.declared.line.ScriptLine.{ScriptLine}
 use Rattle.rtmfp_script.specs.declared.line.Said.TheVariants.{Nothing, Step as SaidStep}
@@ -8,14 +8,18 @@ use Rattle.rtmfp_script.proofs.Saying.{one_saying}
 use Rattle.rendezvous_world.specs.declared.journal.JournalLine.{JournalLine}
 use Rattle.rendezvous_world.specs.declared.journal.Refused.{Refused}
 use Rattle.rendezvous_world.specs.declared.journal.Refused.TheVariants.{Open as OpenRefused, Call as CallRefused, Row as RowRefused}
-use Rattle.rendezvous_world.specs.declared.step.Step.{Step}
+use Rattle.placed_world.specs.declared.step.PlacedStep.{PlacedStep}
+use Rattle.placed_world.specs.declared.step.LostLine.{LostLine}
+use Rattle.placed_world.specs.Seen.{PlacedSeen}
+use Rattle.placed_world.specs.Stepping.{Placed}
+use Rattle.end_places.specs.Seen.{PlacesSeen}
 use Rattle.rendezvous_world.specs.Inside.{named_of}
 use Rattle.rendezvous_world.specs.Same.{AreSameWorlds, without_room}
 use Rattle.rendezvous_world.specs.Seen.{EndSeen, Seen}
 use Rattle.rendezvous_world.specs.Sent.{Sent, sent_in}
-use Rattle.rendezvous_world.specs.Stepping.{Stepped}
-use Rattle.rendezvous_world.proofs.Decided.{same_by, same_length, same_sent, same_step}
-use Rattle.rtmfp_play.specs.Play.{Plays, PlaysStep, names_of, report_since, step_said, told_next, told_of}
+use Rattle.rendezvous_world.proofs.Decided.{same_length, same_sent}
+use Rattle.rtmfp_play.specs.Play.{Plays, PlaysStep, names_of, placed_said, report_since, step_said, told_lost, told_next, told_of, told_since}
+use Rattle.rtmfp_play.proofs.Placing.{AreSamePlaced, LeaveTheSame, same_placed}
 
 -- ---- what is told
 
@@ -47,25 +51,36 @@ not_both line said skipped is = let same : Nothing ≡ SaidStep said = one_sayin
 one_said : (line : List ℕ) (a b : ScriptLine) → IsLineOf line a → IsLineOf line b → a ≡ b
 one_said line a b p q = let same : SaidStep a ≡ SaidStep b = one_saying line (SaidStep a) (SaidStep b) p q in cc
 
-same_some : (a b : Step) → ◌≡◌ {A = Option Step} (Some a) (Some b) → a ≡ b
+same_some : (a b : PlacedStep) → ◌≡◌ {A = Option PlacedStep} (Some a) (Some b) → a ≡ b
 same_some a b e = cc
 
--- two worlds are the same, and two texts are one
-pub record AreOne (t s : Seen) (text words : List ℕ) : Type 0 where
-  pub worlds : AreSameWorlds t s
+-- two worlds with places are the same, and two texts are one
+pub record AreOne (t s : PlacedSeen) (text words : List ℕ) : Type 0 where
+  pub worlds : AreSamePlaced t s
   pub texts : text ≡ words
 
-both_step : (w v : Seen) (n : ℕ) (line : List ℕ) (t s : Seen) (text words : List ℕ) → AreSameWorlds w v → PlaysStep w n line t text → PlaysStep v n line s words → AreOne t s text words
+kept_same : (w v t s : PlacedSeen) → t ≡ w → s ≡ v → AreSamePlaced w v → AreSamePlaced t s
+kept_same w v t s e f same = subst (λ (p : PlacedSeen). AreSamePlaced p s) (sym e) (subst (λ (p : PlacedSeen). AreSamePlaced w p) (sym f) same)
+
+same_told : (w v : PlacedSeen) (n : ℕ) (t s : PlacedSeen) (lost other : Option LostLine) → AreSamePlaced w v → LeaveTheSame t s lost other → told_since w n t lost ≡ told_since v n s other
+same_told w v n t s lost other before after =
+    ap (λ (x : List ℕ). x ++ told_lost (names_of t.world) n lost) (same_report w.world v.world t.world s.world before.worlds after.placed.worlds)
+    ∙ ap (λ (l : List EndSeen). report_since v.world s.world ++ told_lost (map named_of l) n lost) after.placed.worlds.ends
+    ∙ ap (λ (o : Option LostLine). report_since v.world s.world ++ told_lost (names_of s.world) n o) after.lost_is
+
+both_step : (w v : PlacedSeen) (n : ℕ) (line : List ℕ) (t s : PlacedSeen) (text words : List ℕ) → AreSamePlaced w v → PlaysStep w n line t text → PlaysStep v n line s words → AreOne t s text words
 both_step w v n line t s text words before a b =
     let said : a.said ≡ b.said = one_said line a.said b.said a.is_line b.is_line in
-    let taken : step_said (names_of w) a.said ≡ step_said (names_of v) b.said =
-    ap (λ (l : List EndSeen). step_said (map named_of l) a.said) before.ends ∙ ap (λ (x : ScriptLine). step_said (names_of v) x) said in
+    let taken : placed_said w a.said ≡ placed_said v b.said =
+    ap (λ (l : List EndSeen). step_said (map named_of l) w.places.translators a.said) before.worlds.ends
+    ∙ ap (λ (p : PlacesSeen). step_said (names_of v.world) p.translators a.said) before.places
+    ∙ ap (λ (x : ScriptLine). placed_said v x) said in
     let step : a.step ≡ b.step = same_some a.step b.step (sym a.is_step ∙ taken ∙ b.is_step) in
-    let worlds : AreSameWorlds t s = same_step w v n b.step t s before (subst (λ (x : Step). Stepped w n x t) step a.stepped) b.stepped in
-    record { worlds = worlds; texts = a.is_text ∙ same_report w v t s before worlds ∙ sym b.is_text }
+    let same : LeaveTheSame t s a.lost b.lost = same_placed w v n b.step a.lost b.lost t s before (subst (λ (x : PlacedStep). Placed w n x a.lost t) step a.stepped) b.stepped in
+    record { worlds = same.placed; texts = a.is_text ∙ same_told w v n t s a.lost b.lost before same ∙ sym b.is_text }
 
-pub both_play : (w v : Seen) (n : ℕ) (line : List ℕ) (t s : Seen) (text words : List ℕ) → AreSameWorlds w v → Plays w n line t text → Plays v n line s words → AreOne t s text words
-both_play w v n line t s text words before (inl a) (inl b) = record { worlds = same_by w v t s a.same b.same before; texts = a.no_text ∙ sym b.no_text }
+pub both_play : (w v : PlacedSeen) (n : ℕ) (line : List ℕ) (t s : PlacedSeen) (text words : List ℕ) → AreSamePlaced w v → Plays w n line t text → Plays v n line s words → AreOne t s text words
+both_play w v n line t s text words before (inl a) (inl b) = record { worlds = kept_same w v t s a.same b.same before; texts = a.no_text ∙ sym b.no_text }
 both_play w v n line t s text words before (inl a) (inr b) = absurd (not_both line b.said a.skipped b.is_line)
 both_play w v n line t s text words before (inr a) (inl b) = absurd (not_both line a.said b.skipped a.is_line)
 both_play w v n line t s text words before (inr a) (inr b) = both_step w v n line t s text words before a b

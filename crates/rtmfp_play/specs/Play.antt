@@ -1,12 +1,27 @@
 -- What `replay` makes of a line of a script.
-use Rattle.std.specs.Prelude.{ℕ, ◌≡◌, ◌≤◌, ◌⊎◌, List, [], map, length, position, slice_get, Option, Some, None}
+use Rattle.std.specs.Prelude.{ℕ, ◌≡◌, ◌≤◌, ◌⊎◌, List, [], ◌++◌, map, length, position, slice_get, Option, Some, None}
 use Rattle.std.specs.Str.{bytes_eq}
 use Rattle.rtmfp_text.specs.declared.names.Named.{Named}
 use Rattle.rtmfp_script.specs.declared.line.ScriptLine.{ScriptLine}
 use Rattle.rtmfp_script.specs.declared.line.ScriptLine.TheVariants as line
+use Rattle.rtmfp_script.specs.declared.line.CallLine.{CallLine}
+use Rattle.rtmfp_script.specs.declared.line.CallLine.TheVariants as call
+use Rattle.rtmfp_script.specs.declared.line.AimLine.{AimLine}
+use Rattle.rtmfp_script.specs.declared.line.AimLine.TheVariants as aim
+use Rattle.rtmfp_script.specs.declared.line.BringLine.{BringLine}
+use Rattle.rtmfp_script.specs.declared.line.BringLine.TheVariants as bring
+use Rattle.rtmfp_forms.specs.Address.{AddressParts}
 use Rattle.rtmfp_script.specs.Grammar.{IsLineOf, IsSkipped, content_bytes, line_limit}
 use Rattle.rendezvous_world.specs.declared.step.Step.{Step}
 use Rattle.rendezvous_world.specs.declared.step.Step.TheVariants as step
+use Rattle.placed_world.specs.declared.step.PlacedStep.{PlacedStep}
+use Rattle.placed_world.specs.declared.step.PlacedStep.TheVariants as placed
+use Rattle.placed_world.specs.declared.step.LostLine.{LostLine}
+use Rattle.placed_world.specs.Seen.{PlacedSeen}
+use Rattle.placed_world.specs.Stepping.{Placed, placed_fault}
+use Rattle.end_places.specs.declared.standing.NamedTranslator.{NamedTranslator}
+use Rattle.end_places.specs.Seen.{is_called, no_places}
+use Rattle.rtmfp_report.specs.LostText.{lost_line}
 use Rattle.rendezvous_world.specs.declared.step.StepFault.{StepFault}
 use Rattle.rendezvous_world.specs.declared.step.StepFault.TheVariants.{NoEnd, NoDatagram, BadStep, Forged, Memory}
 use Rattle.rendezvous_world.specs.declared.journal.JournalLine.{JournalLine}
@@ -15,14 +30,17 @@ use Rattle.rendezvous_world.specs.declared.journal.Refused.TheVariants.{Open as 
 use Rattle.endpoint_laws.specs.Agreed.{IsAgreed}
 use Rattle.rendezvous_world.specs.Seen.{Seen, group_secret, setup_at}
 use Rattle.rendezvous_world.specs.Handing.{MessagesGoOver}
+use Rattle.rendezvous_world.specs.Laws.{empty_world}
 use Rattle.rendezvous_world.specs.History.{history_of}
 use Rattle.rendezvous_world.specs.Sound.{IsSound}
 use Rattle.rendezvous_world.specs.Inside.{named_of}
 use Rattle.rendezvous_world.specs.Sent.{sent_in}
-use Rattle.rendezvous_world.specs.Faults.{step_fault}
-use Rattle.rendezvous_world.specs.Stepping.{Stepped}
 use Rattle.rtmfp_report.specs.EntryText.{entries_text}
 use Rattle.rtmfp_report.specs.RefusalText.{refused_line, open_refusal_text, call_refusal_text, row_refusal_text}
+
+-- what lines begin with: a world without ends, and no places
+abbrev pub empty_placed : PlacedSeen
+empty_placed = record { world = empty_world; places = no_places }
 
 -- ---- the step that a line says
 
@@ -30,47 +48,75 @@ use Rattle.rtmfp_report.specs.RefusalText.{refused_line, open_refusal_text, call
 abbrev pub number_of : List Named → List ℕ → Option ℕ
 number_of ends name = position (λ end. bytes_eq end.name name) ends
 
-abbrev pub step_by : Option ℕ → (ℕ → Step) → Option Step
+abbrev pub step_by : Option ℕ → (ℕ → Step) → Option PlacedStep
 step_by None step = None
-step_by (Some end) step = Some (step end)
+step_by (Some end) step = Some (placed.World (step end))
 
-abbrev pub step_by_both : Option ℕ → Option ℕ → (ℕ → ℕ → Step) → Option Step
+abbrev pub step_by_both : Option ℕ → Option ℕ → (ℕ → ℕ → Step) → Option PlacedStep
 step_by_both None peer step = None
 step_by_both (Some end) None step = None
-step_by_both (Some end) (Some peer) step = Some (step end peer)
+step_by_both (Some end) (Some peer) step = Some (placed.World (step end peer))
 
--- the step, among these ends; none where one that it names isn't there
-abbrev pub step_said : List Named → ScriptLine → Option Step
-step_said ends (line.End name peers sessions cert) = Some (step.End name peers sessions cert)
-step_said ends (line.At moment) = Some (step.At moment)
-step_said ends (line.Open name peer addresses) =
+-- the number of the first translator with this name
+abbrev pub translator_named : List NamedTranslator → List ℕ → Option ℕ
+translator_named translators name = position (is_called name) translators
+
+abbrev pub behind_by : Option ℕ → Option (Option ℕ)
+behind_by None = None
+behind_by (Some number) = Some (Some number)
+
+-- what an end is placed behind; nothing where that isn't there
+abbrev pub behind_said : List NamedTranslator → Option (List ℕ) → Option (Option ℕ)
+behind_said translators None = Some None
+behind_said translators (Some name) = behind_by (translator_named translators name)
+
+abbrev pub place_by : Option ℕ → AddressParts → Option (Option ℕ) → Option PlacedStep
+place_by None at behind = None
+place_by (Some end) at None = None
+place_by (Some end) at (Some behind) = Some (placed.Place end at behind)
+
+-- what an end is called to do
+abbrev pub call_step : ℕ → CallLine → Step
+call_step end call.Introduce = step.Introduce end
+call_step end (call.Cancel number) = step.Cancel end number
+call_step end (call.Close near) = step.Close end near
+call_step end (call.Flow near priority metadata answers) =
+    step.Flow end near priority metadata answers
+call_step end (call.Queue near flow deadline resends content) = step.Queue end near flow
+    (record { deadline = deadline; resends = resends }) (content_bytes content)
+call_step end (call.Abandon near flow seq) = step.Abandon end near flow seq
+call_step end (call.Finish near flow) = step.Finish end near flow
+call_step end call.Tick = step.Tick end
+
+-- what an end is called to do towards a peer
+abbrev pub aim_step : ℕ → ℕ → List AddressParts → AimLine → Step
+aim_step end peer addresses aim.Redirect = step.Redirect end peer addresses
+aim_step end peer addresses aim.Open = step.Open end peer addresses
+
+-- what is brought to an end from an address
+abbrev pub bring_step : ℕ → AddressParts → BringLine → Step
+bring_step end from (bring.Deliver number) = step.Deliver number end from
+bring_step end from (bring.Bent number place) = step.Bent number place end from
+bring_step end from (bring.Inject bytes) = step.Inject end from bytes
+bring_step end from (bring.Forge bytes) = step.Forge end from bytes
+
+-- the step, among these ends and translators; none where one that it names isn't there
+abbrev pub step_said : List Named → List NamedTranslator → ScriptLine → Option PlacedStep
+step_said ends translators (line.End name peers sessions cert) =
+    Some (placed.World (step.End name peers sessions cert))
+step_said ends translators (line.At moment) = Some (placed.World (step.At moment))
+step_said ends translators (line.Call name does) = step_by (number_of ends name)
+    (λ end. call_step end does)
+step_said ends translators (line.Towards name peer addresses does) =
     step_by_both (number_of ends name) (number_of ends peer)
-    (λ end other. step.Open end other addresses)
-step_said ends (line.Cancel name number) = step_by (number_of ends name)
-    (λ end. step.Cancel end number)
-step_said ends (line.Close name near) = step_by (number_of ends name) (λ end. step.Close end near)
-step_said ends (line.Flow name near priority metadata answers) = step_by (number_of ends name)
-    (λ end. step.Flow end near priority metadata answers)
-step_said ends (line.Queue name near flow deadline resends content) =
-    step_by (number_of ends name) (λ end. step.Queue end near flow
-    (record { deadline = deadline; resends = resends }) (content_bytes content))
-step_said ends (line.Abandon name near flow seq) = step_by (number_of ends name)
-    (λ end. step.Abandon end near flow seq)
-step_said ends (line.Finish name near flow) = step_by (number_of ends name)
-    (λ end. step.Finish end near flow)
-step_said ends (line.Introduce name) = step_by (number_of ends name) (λ end. step.Introduce end)
-step_said ends (line.Redirect name peer addresses) =
-    step_by_both (number_of ends name) (number_of ends peer)
-    (λ end other. step.Redirect end other addresses)
-step_said ends (line.Tick name) = step_by (number_of ends name) (λ end. step.Tick end)
-step_said ends (line.Deliver number name from) =
-    step_by (number_of ends name) (λ end. step.Deliver number end from)
-step_said ends (line.Bent number place name from) =
-    step_by (number_of ends name) (λ end. step.Bent number place end from)
-step_said ends (line.Inject name from bytes) =
-    step_by (number_of ends name) (λ end. step.Inject end from bytes)
-step_said ends (line.Forge name from bytes) =
-    step_by (number_of ends name) (λ end. step.Forge end from bytes)
+    (λ end other. aim_step end other addresses does)
+step_said ends translators (line.Bring name from what) = step_by (number_of ends name)
+    (λ end. bring_step end from what)
+step_said ends translators (line.Translator name mapping filter host first) =
+    Some (placed.Translator name mapping filter host first)
+step_said ends translators (line.Place name at behind) =
+    place_by (number_of ends name) at (behind_said translators behind)
+step_said ends translators (line.Carry number) = Some (placed.Carry number)
 
 abbrev pub names_of : Seen → List Named
 names_of w = map named_of w.ends
@@ -100,6 +146,11 @@ abbrev pub told_next : List Named → ℕ → Option JournalLine → List ℕ
 told_next ends sent None = []
 told_next ends sent (Some line) = told_of ends sent line line.refused
 
+-- a datagram that was carried on line n and doesn't arrive, if there is one, under its sender's name
+abbrev pub told_lost : List Named → ℕ → Option LostLine → List ℕ
+told_lost ends n None = []
+told_lost ends n (Some lost) = lost_line n (name_at ends lost.end) lost.number lost.lost
+
 -- what is told of the line that the journal of t has beyond that of w, if there is one; a step adds
 -- one at most
 abbrev pub report_since : Seen → Seen → List ℕ
@@ -116,24 +167,35 @@ pub record HistoryHolds (w : Seen) : Type 0 where
   pub agreed : IsAgreed (setup_at w.ends) (history_of w)
   pub go_over : MessagesGoOver (setup_at w.ends) (history_of w)
 
+-- the step that a line says among the ends and translators that are there
+abbrev pub placed_said : PlacedSeen → ScriptLine → Option PlacedStep
+placed_said w said = step_said (names_of w.world) w.places.translators said
+
+-- what is told of a step that left t, and of the datagram that it lost, if it did
+abbrev pub told_since : PlacedSeen → ℕ → PlacedSeen → Option LostLine → List ℕ
+told_since w n t lost = report_since w.world t.world ++ told_lost (names_of t.world) n lost
+
 -- The line says a step, which was done whole; this is the report of it, and the history holds.
-pub record PlaysStep (w : Seen) (n : ℕ) (line : List ℕ) (t : Seen) (text : List ℕ) : Type 0 where
+pub record PlaysStep (w : PlacedSeen) (n : ℕ) (line : List ℕ) (t : PlacedSeen) (text : List ℕ)
+    : Type 0 where
   pub said : ScriptLine
-  pub step : Step
+  pub step : PlacedStep
+  pub lost : Option LostLine
   pub is_line : IsLineOf line said
-  pub is_step : step_said (names_of w) said ≡ Some step
-  pub stepped : Stepped w n step t
-  pub is_text : text ≡ report_since w t
-  pub holds : HistoryHolds t
+  pub is_step : placed_said w said ≡ Some step
+  pub stepped : Placed w n step lost t
+  pub is_text : text ≡ told_since w n t lost
+  pub holds : HistoryHolds t.world
 
 -- An empty line and a comment say nothing.
-pub record PlaysNothing (w : Seen) (line : List ℕ) (t : Seen) (text : List ℕ) : Type 0 where
+pub record PlaysNothing (w : PlacedSeen) (line : List ℕ) (t : PlacedSeen) (text : List ℕ)
+    : Type 0 where
   pub skipped : IsSkipped line
   pub fits : length line ≤ line_limit
   pub same : t ≡ w
   pub no_text : text ≡ []
 
-abbrev pub Plays : Seen → ℕ → List ℕ → Seen → List ℕ → Type 0
+abbrev pub Plays : PlacedSeen → ℕ → List ℕ → PlacedSeen → List ℕ → Type 0
 Plays w n line t text = PlaysNothing w line t text ⊎ PlaysStep w n line t text
 
 -- an end, a datagram or a place that isn't there, or a step outside its limits
@@ -146,15 +208,15 @@ IsBadStep (Some Forged) = ⊥
 IsBadStep (Some Memory) = ⊥
 
 -- The line is too long, or neither skipped nor the line of a step that could be done or is forged.
-pub record IsBadPlay (w : Seen) (line : List ℕ) : Type 0 where
+pub record IsBadPlay (w : PlacedSeen) (line : List ℕ) : Type 0 where
   pub not_skipped : IsSkipped line → length line ≤ line_limit → ⊥
-  pub bad : (said : ScriptLine) (step : Step) → IsLineOf line said →
-      step_said (names_of w) said ≡ Some step → IsBadStep (step_fault w step)
+  pub bad : (said : ScriptLine) (step : PlacedStep) → IsLineOf line said →
+      placed_said w said ≡ Some step → IsBadStep (placed_fault w step)
 
 -- The line says a step that brings a datagram that nobody sent.
-pub record IsForgedPlay (w : Seen) (line : List ℕ) : Type 0 where
+pub record IsForgedPlay (w : PlacedSeen) (line : List ℕ) : Type 0 where
   pub said : ScriptLine
-  pub step : Step
+  pub step : PlacedStep
   pub is_line : IsLineOf line said
-  pub is_step : step_said (names_of w) said ≡ Some step
-  pub forged : step_fault w step ≡ Some Forged
+  pub is_step : placed_said w said ≡ Some step
+  pub forged : placed_fault w step ≡ Some Forged

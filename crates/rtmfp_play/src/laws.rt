@@ -5,12 +5,18 @@ ghost use Rattle.rendezvous_world.specs.Seen.{Seen};
 ghost use Rattle.rendezvous_world.specs.declared.step.Step.TheVariants.{At, Cancel, Deliver, End, Open, Tick};
 ghost use Rattle.rtmfp_play.specs.Generated.{end_at, end_cert, end_count, end_name, end_address, end_step, number_after};
 ghost use Rattle.rtmfp_play.specs.Generated.{delivery, delivery_or_tick, generated_step, picked};
-ghost use Rattle.rtmfp_play.specs.Laws.{EachGeneratedRunIsOne, EachLineIsTold};
+ghost use Rattle.rtmfp_play.specs.Laws.{EachGeneratedRunIsOne, EachLineIsFlat, EachLineIsTold};
 
 /// A line of a script adds one line to the journal, of which it tells, or none, and then it tells
-/// nothing.
+/// nothing but a datagram that was carried and is lost.
 pub fn each_line_is_told()
     ensures { EachLineIsTold }
+{}
+
+/// A line of a script takes the world one step of its own further, or leaves it as it is, wherever
+/// its ends are placed: what holds of worlds holds of runs with translators.
+pub fn each_line_is_flat()
+    ensures { EachLineIsFlat }
 {}
 
 /// A seed and a count of steps decide a generated run and the line that is written of it. Left open

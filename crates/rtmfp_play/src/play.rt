@@ -5,18 +5,21 @@ ghost use Rattle.rtmfp_report.specs.EntryText.{entries_text};
 ghost use Rattle.rtmfp_script.specs.Grammar.{content_bytes};
 ghost use Rattle.rendezvous_world.specs.Sent.{sent_in};
 ghost use Rattle.rendezvous_world.specs.Sound.{AreBelow};
-ghost use Rattle.rtmfp_play.specs.Play.{name_at, number_of, step_by, step_by_both, step_said, told_next, told_of};
+ghost use Rattle.rtmfp_play.specs.Play.{aim_step, behind_said, bring_step, call_step, name_at, names_of, number_of, place_by, placed_said, step_by, step_by_both, told_lost, told_next, told_of};
 ghost use Rattle.rtmfp_play.specs.Playing.{PlayedAs, StaysAs, SteppedAs};
 
 use crate::said::Said;
+use end_places::Places;
+use placed_world::{LostLine, PlacedStep, PlacedWorld};
 use rendezvous_world::{Addresses, JournalLine, MessageOptions, Refused, Step, StepFault, World};
-use rtmfp_base::Message;
 use rtmfp_base::limits::LINE;
 use rtmfp_forms::Address;
 use rtmfp_report::{
-    GroupKeys, push_call_refusal, push_entries, push_open_refusal, push_row_refusal,
+    GroupKeys, push_call_refusal, push_entries, push_lost, push_open_refusal, push_row_refusal,
 };
-use rtmfp_script::{Content, Said as LineSaid, ScriptLine, read_line};
+use rtmfp_script::{
+    AimLine, BringLine, CallLine, Content, Said as LineSaid, ScriptLine, read_line,
+};
 use rtmfp_text::{Directory, Name, Named, Text};
 use std::alloc::{AllocError, Global};
 
@@ -24,7 +27,7 @@ use std::alloc::{AllocError, Global};
 /// `scratch` holds a datagram meanwhile, and its memory is used again.
 pub(crate) fn play_in(
     alloc: Global,
-    world: &mut World,
+    world: &mut PlacedWorld,
     keys: &mut GroupKeys,
     scratch: &mut Vec<u8>,
     number: u64,
@@ -33,12 +36,12 @@ pub(crate) fn play_in(
 ) -> Result<Said, AllocError>
     requires keys { keys.old ≡ group_secret }
     requires short { length line.now ≤ LINE }
-    requires above { AreBelow world.old.lines number }
+    requires above { AreBelow world.old.world.lines number }
     requires fits { number < 2 ^ 32 }
     ensures played { IfOk result (λ said. PlayedAs said world.old number line.now world.new
         text.new) }
     ensures stays { IfOk result (λ said. StaysAs said world.old world.new [] text.new) }
-    ensures above { IfOk result (λ said. said ≡ Said.Text → AreBelow world.new.lines (number + 1)) }
+    ensures above { IfOk result (λ said. said ≡ Said.Text → AreBelow world.new.world.lines (number + 1)) }
     ensures keys { keys.new ≡ keys.old }
 {
     text.clear();
@@ -46,7 +49,7 @@ pub(crate) fn play_in(
         Err(_) => Err(AllocError),
         Ok(LineSaid::Nothing) => Ok(Said::Text),
         Ok(LineSaid::Outside) => Ok(Said::Bad),
-        Ok(LineSaid::Step(said)) => match step_said(alloc, world.named(), said)? {
+        Ok(LineSaid::Step(said)) => match step_said(alloc, world, said)? {
             Some(step) => take_step(world, keys, scratch, number, &step, text),
             None => Ok(Said::Bad),
         },
@@ -55,36 +58,30 @@ pub(crate) fn play_in(
 
 /// Takes a step, and adds the text of its report.
 fn take_step(
-    world: &mut World,
+    world: &mut PlacedWorld,
     keys: &mut GroupKeys,
     scratch: &mut Vec<u8>,
     number: u64,
-    step: &Step,
+    step: &PlacedStep,
     text: &mut Text,
 ) -> Result<Said, AllocError>
     requires keys { keys.old ≡ group_secret }
-    requires above { AreBelow world.old.lines number }
+    requires above { AreBelow world.old.world.lines number }
     requires fits { number < 2 ^ 32 }
     ensures stepped { IfOk result (λ said. SteppedAs said world.old number step.now world.new
         text.old text.new) }
     ensures stays { IfOk result (λ said. StaysAs said world.old world.new text.old text.new) }
-    ensures above { IfOk result (λ said. said ≡ Said.Text → AreBelow world.new.lines (number + 1)) }
+    ensures above { IfOk result (λ said. said ≡ Said.Text → AreBelow world.new.world.lines (number + 1)) }
     ensures keys { keys.new ≡ keys.old }
 {
-    let lines = world.journal().lines().len();
-    let sent = sent_so_far(world)?;
+    let before = world.world();
+    let lines = before.journal().lines().len();
+    let sent = sent_so_far(before)?;
     match world.step(number, step) {
-        Ok(()) => {
-            learn_line(keys, world, lines);
-            push_line(
-                keys,
-                world.named(),
-                sent,
-                world.journal().lines(),
-                lines,
-                scratch,
-                text,
-            )?;
+        Ok(lost) => {
+            let after = world.world();
+            tell(keys, after, sent, lines, scratch, text)?;
+            tell_lost(after, number, lost, text)?;
             Ok(Said::Text)
         }
         Err(StepFault::NoEnd) => Ok(Said::Bad),
@@ -120,39 +117,93 @@ pub fn sent_so_far(world: &World) -> Result<u64, AllocError>
 
 // ---- the step that a line says
 
-/// The step that a line says, among these ends; none where one that it names isn't there.
-fn step_said(alloc: Global, ends: &Directory, said: ScriptLine) -> Result<Option<Step>, AllocError>
-    ensures { IfOk result (λ step. step ≡ step_said ends.now said) }
+/// The step that a line says, among the ends and translators of a world; none where one that it
+/// names isn't there.
+fn step_said(
+    alloc: Global,
+    world: &PlacedWorld,
+    said: ScriptLine,
+) -> Result<Option<PlacedStep>, AllocError>
+    ensures { IfOk result (λ step. step ≡ placed_said world.now said) }
 {
+    let ends = world.world().named();
     match said {
         ScriptLine::End {
             name,
             peers,
             sessions,
             cert,
-        } => Ok(Some(Step::End {
+        } => Ok(Some(PlacedStep::World(Step::End {
             name,
             max_peers: peers,
             max_sessions: sessions,
             cert,
-        })),
-        ScriptLine::At { moment } => Ok(Some(Step::At { moment })),
-        ScriptLine::Open {
+        }))),
+        ScriptLine::At { moment } => Ok(Some(PlacedStep::World(Step::At { moment }))),
+        ScriptLine::Call { name, call } => call_said(alloc, ends, &name, call),
+        ScriptLine::Towards {
             name,
             peer,
-            candidates,
-        } => open_said(alloc, ends, &name, &peer, candidates.as_slice()),
-        ScriptLine::Cancel { name, number } => Ok(cancel_said(ends, &name, number)),
-        ScriptLine::Close { name, near } => Ok(close_said(ends, &name, near)),
-        ScriptLine::Flow {
+            addresses,
+            aim,
+        } => aim_said(alloc, ends, &name, &peer, addresses.as_slice(), aim),
+        ScriptLine::Bring { name, from, what } => Ok(bring_said(ends, &name, from, what)),
+        ScriptLine::Translator {
             name,
+            mapping,
+            filter,
+            host,
+            first,
+        } => Ok(Some(PlacedStep::Translator {
+            name,
+            mapping,
+            filter,
+            host,
+            first,
+        })),
+        ScriptLine::Place { name, at, behind } => {
+            Ok(place_said(ends, world.places(), &name, at, behind))
+        }
+        ScriptLine::Carry { number } => Ok(Some(PlacedStep::Carry { number })),
+    }
+}
+
+fn call_said(
+    alloc: Global,
+    ends: &Directory,
+    name: &Name,
+    call: CallLine,
+) -> Result<Option<PlacedStep>, AllocError>
+    ensures { IfOk result (λ step. step ≡ step_by (number_of ends.now name.now)
+        (λ end. call_step end call)) }
+{
+    match ends.number_of(name) {
+        Some(end) => Ok(Some(PlacedStep::World(call_step(alloc, end, call)?))),
+        None => Ok(None),
+    }
+}
+
+/// What an end is called to do.
+fn call_step(alloc: Global, end: usize, call: CallLine) -> Result<Step, AllocError>
+    ensures { IfOk result (λ step. step ≡ call_step end call) }
+{
+    match call {
+        CallLine::Introduce => Ok(Step::Introduce { end }),
+        CallLine::Cancel { number } => Ok(Step::Cancel { end, n: number }),
+        CallLine::Close { near } => Ok(Step::Close { end, near }),
+        CallLine::Flow {
             near,
             priority,
             metadata,
             answers,
-        } => Ok(flow_said(ends, &name, near, priority, metadata, answers)),
-        ScriptLine::Queue {
-            name,
+        } => Ok(Step::Flow {
+            end,
+            near,
+            priority,
+            metadata,
+            answers,
+        }),
+        CallLine::Queue {
             near,
             flow,
             deadline,
@@ -160,152 +211,52 @@ fn step_said(alloc: Global, ends: &Directory, said: ScriptLine) -> Result<Option
             content,
         } => {
             let options = MessageOptions { deadline, resends };
-            queue_said(alloc, ends, &name, near, flow, options, content)
+            queue_step(alloc, end, near, flow, options, content)
         }
-        ScriptLine::Abandon {
-            name,
+        CallLine::Abandon { near, flow, seq } => Ok(Step::Abandon {
+            end,
             near,
             flow,
             seq,
-        } => Ok(abandon_said(ends, &name, near, flow, seq)),
-        ScriptLine::Finish { name, near, flow } => Ok(finish_said(ends, &name, near, flow)),
-        ScriptLine::Introduce { name } => Ok(introduce_said(ends, &name)),
-        ScriptLine::Redirect {
-            name,
-            peer,
-            addresses,
-        } => redirect_said(alloc, ends, &name, &peer, addresses.as_slice()),
-        ScriptLine::Tick { name } => Ok(tick_said(ends, &name)),
-        ScriptLine::Deliver { number, name, from } => Ok(deliver_said(ends, number, &name, from)),
-        ScriptLine::Bent {
-            number,
-            place,
-            name,
-            from,
-        } => Ok(bent_said(ends, number, place as usize, &name, from)),
-        ScriptLine::Inject { name, from, bytes } => Ok(inject_said(ends, &name, from, bytes)),
-        ScriptLine::Forge { name, from, bytes } => Ok(forge_said(ends, &name, from, bytes)),
+        }),
+        CallLine::Finish { near, flow } => Ok(Step::Finish { end, near, flow }),
+        CallLine::Tick => Ok(Step::Tick { end }),
     }
 }
 
-fn open_said(
+fn queue_step(
     alloc: Global,
-    ends: &Directory,
-    name: &Name,
-    peer: &Name,
-    addresses: &[Address],
-) -> Result<Option<Step>, AllocError>
-    ensures { IfOk result (λ step. step ≡ step_by_both (number_of ends.now name.now)
-        (number_of ends.now peer.now) (λ end other. Step.Open end other addresses.now)) }
-{
-    let Some(end) = ends.number_of(name) else {
-        return Ok(None);
-    };
-    let Some(peer) = ends.number_of(peer) else {
-        return Ok(None);
-    };
-    let list = Addresses::of(Vec::from_slice(alloc, addresses)?);
-    Ok(Some(Step::Open { end, peer, list }))
-}
-
-fn cancel_said(ends: &Directory, name: &Name, n: u64) -> Option<Step>
-    ensures { result ≡ step_by (number_of ends.now name.now) (λ end. Step.Cancel end n) }
-{
-    let end = ends.number_of(name)?;
-    Some(Step::Cancel { end, n })
-}
-
-fn close_said(ends: &Directory, name: &Name, near: u32) -> Option<Step>
-    ensures { result ≡ step_by (number_of ends.now name.now) (λ end. Step.Close end near) }
-{
-    let end = ends.number_of(name)?;
-    Some(Step::Close { end, near })
-}
-
-fn flow_said(
-    ends: &Directory,
-    name: &Name,
-    near: u32,
-    priority: u8,
-    metadata: Message,
-    answers: Option<u64>,
-) -> Option<Step>
-    ensures { result ≡ step_by (number_of ends.now name.now)
-        (λ end. Step.Flow end near priority metadata answers) }
-{
-    let end = ends.number_of(name)?;
-    Some(Step::Flow {
-        end,
-        near,
-        priority,
-        metadata,
-        answers,
-    })
-}
-
-fn queue_said(
-    alloc: Global,
-    ends: &Directory,
-    name: &Name,
+    end: usize,
     near: u32,
     flow: u64,
     options: MessageOptions,
     content: Content,
-) -> Result<Option<Step>, AllocError>
-    ensures { IfOk result (λ step. step ≡ step_by (number_of ends.now name.now)
-        (λ end. Step.Queue end near flow options (content_bytes content))) }
+) -> Result<Step, AllocError>
+    ensures { IfOk result (λ step. step
+        ≡ Step.Queue end near flow options (content_bytes content)) }
 {
-    let Some(end) = ends.number_of(name) else {
-        return Ok(None);
-    };
     match content.into_message(alloc) {
-        Ok(message) => Ok(Some(Step::Queue {
+        Ok(message) => Ok(Step::Queue {
             end,
             near,
             flow,
             options,
             message,
-        })),
+        }),
         Err(_) => Err(AllocError),
     }
 }
 
-fn abandon_said(ends: &Directory, name: &Name, near: u32, flow: u64, seq: u64) -> Option<Step>
-    ensures { result ≡ step_by (number_of ends.now name.now)
-        (λ end. Step.Abandon end near flow seq) }
-{
-    let end = ends.number_of(name)?;
-    Some(Step::Abandon {
-        end,
-        near,
-        flow,
-        seq,
-    })
-}
-
-fn finish_said(ends: &Directory, name: &Name, near: u32, flow: u64) -> Option<Step>
-    ensures { result ≡ step_by (number_of ends.now name.now) (λ end. Step.Finish end near flow) }
-{
-    let end = ends.number_of(name)?;
-    Some(Step::Finish { end, near, flow })
-}
-
-fn introduce_said(ends: &Directory, name: &Name) -> Option<Step>
-    ensures { result ≡ step_by (number_of ends.now name.now) (λ end. Step.Introduce end) }
-{
-    let end = ends.number_of(name)?;
-    Some(Step::Introduce { end })
-}
-
-fn redirect_said(
+fn aim_said(
     alloc: Global,
     ends: &Directory,
     name: &Name,
     peer: &Name,
     addresses: &[Address],
-) -> Result<Option<Step>, AllocError>
+    aim: AimLine,
+) -> Result<Option<PlacedStep>, AllocError>
     ensures { IfOk result (λ step. step ≡ step_by_both (number_of ends.now name.now)
-        (number_of ends.now peer.now) (λ end other. Step.Redirect end other addresses.now)) }
+        (number_of ends.now peer.now) (λ end other. aim_step end other addresses.now aim)) }
 {
     let Some(end) = ends.number_of(name) else {
         return Ok(None);
@@ -314,57 +265,115 @@ fn redirect_said(
         return Ok(None);
     };
     let list = Addresses::of(Vec::from_slice(alloc, addresses)?);
-    Ok(Some(Step::Redirect { end, peer, list }))
+    Ok(Some(PlacedStep::World(aim_step(end, peer, list, aim))))
 }
 
-fn tick_said(ends: &Directory, name: &Name) -> Option<Step>
-    ensures { result ≡ step_by (number_of ends.now name.now) (λ end. Step.Tick end) }
+/// What an end is called to do towards a peer.
+fn aim_step(end: usize, peer: usize, list: Addresses, aim: AimLine) -> Step
+    ensures { result ≡ aim_step end peer list aim }
+{
+    match aim {
+        AimLine::Redirect => Step::Redirect { end, peer, list },
+        AimLine::Open => Step::Open { end, peer, list },
+    }
+}
+
+fn bring_said(ends: &Directory, name: &Name, from: Address, what: BringLine) -> Option<PlacedStep>
+    ensures { result ≡ step_by (number_of ends.now name.now) (λ end. bring_step end from what) }
 {
     let end = ends.number_of(name)?;
-    Some(Step::Tick { end })
+    Some(PlacedStep::World(bring_step(end, from, what)))
 }
 
-fn deliver_said(ends: &Directory, number: u64, name: &Name, from: Address) -> Option<Step>
-    ensures { result ≡ step_by (number_of ends.now name.now) (λ end. Step.Deliver number end from) }
+/// What is brought to an end from an address.
+fn bring_step(end: usize, from: Address, what: BringLine) -> Step
+    ensures { result ≡ bring_step end from what }
 {
-    let end = ends.number_of(name)?;
-    Some(Step::Deliver { number, end, from })
+    match what {
+        BringLine::Deliver { number } => Step::Deliver { number, end, from },
+        BringLine::Bent { number, place } => Step::Bent {
+            number,
+            place: place as usize,
+            end,
+            from,
+        },
+        BringLine::Inject { bytes } => Step::Inject { end, from, bytes },
+        BringLine::Forge { bytes } => Step::Forge {
+            end,
+            from,
+            plain: bytes,
+        },
+    }
 }
 
-fn bent_said(
+fn place_said(
     ends: &Directory,
-    number: u64,
-    place: usize,
+    places: &Places,
     name: &Name,
-    from: Address,
-) -> Option<Step>
-    ensures { result ≡ step_by (number_of ends.now name.now)
-        (λ end. Step.Bent number place end from) }
+    at: Address,
+    behind: Option<Name>,
+) -> Option<PlacedStep>
+    ensures { result ≡ place_by (number_of ends.now name.now) at
+        (behind_said places.now.translators behind) }
 {
-    let end = ends.number_of(name)?;
-    Some(Step::Bent {
-        number,
-        place,
-        end,
-        from,
+    let placed = ends.number_of(name)?;
+    let behind = behind_said(places, behind)?;
+    Some(PlacedStep::Place {
+        end: placed,
+        at,
+        behind,
     })
 }
 
-fn inject_said(ends: &Directory, name: &Name, from: Address, bytes: Message) -> Option<Step>
-    ensures { result ≡ step_by (number_of ends.now name.now) (λ end. Step.Inject end from bytes) }
+/// What an end is placed behind; nothing where that isn't there.
+fn behind_said(places: &Places, behind: Option<Name>) -> Option<Option<usize>>
+    ensures { result ≡ behind_said places.now.translators behind }
 {
-    let end = ends.number_of(name)?;
-    Some(Step::Inject { end, from, bytes })
-}
-
-fn forge_said(ends: &Directory, name: &Name, from: Address, plain: Message) -> Option<Step>
-    ensures { result ≡ step_by (number_of ends.now name.now) (λ end. Step.Forge end from plain) }
-{
-    let end = ends.number_of(name)?;
-    Some(Step::Forge { end, from, plain })
+    match behind {
+        Some(name) => Some(Some(places.translator_named(&name)?)),
+        None => Some(None),
+    }
 }
 
 // ---- the report
+
+/// Adds what is told of the line that the journal has more, if there is one, where so many
+/// datagrams were sent before it.
+fn tell(
+    keys: &mut GroupKeys,
+    world: &World,
+    sent: u64,
+    at: usize,
+    scratch: &mut Vec<u8>,
+    text: &mut Text,
+) -> Result<(), AllocError>
+    requires { keys.old ≡ group_secret }
+    ensures text { OnOk result (text.new ≡ text.old
+        ++ told_next (names_of world.now) sent (slice_get world.now.lines at)) }
+    ensures keys { keys.new ≡ keys.old }
+{
+    learn_line(keys, world, at);
+    let lines = world.journal().lines();
+    push_line(keys, world.named(), sent, lines, at, scratch, text)
+}
+
+/// Adds that a datagram was carried on this line and doesn't arrive, where one was.
+fn tell_lost(
+    world: &World,
+    number: u64,
+    lost: Option<LostLine>,
+    text: &mut Text,
+) -> Result<(), AllocError>
+    ensures { OnOk result (text.new ≡ text.old ++ told_lost (names_of world.now) number lost) }
+{
+    match lost {
+        Some(lost) => {
+            let name = name_at(world.named().as_slice(), lost.end);
+            push_lost(number, &name, lost.number, lost.lost, text)
+        }
+        None => Ok(()),
+    }
+}
 
 /// Adds what is told of the line of the journal with this index, if there is one, where so many
 /// datagrams were sent before it.

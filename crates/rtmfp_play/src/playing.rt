@@ -6,7 +6,7 @@ ghost use Rattle.rtmfp_play.specs.Playing.{PlayedAs, StaysAs};
 
 use crate::play::play_in;
 use crate::said::Said;
-use rendezvous_world::World;
+use placed_world::PlacedWorld;
 use rtmfp_base::limits::LINE;
 use rtmfp_report::GroupKeys;
 use rtmfp_text::Text;
@@ -16,12 +16,13 @@ use std::marker::Model;
 /// The secret of the group of every end of a script.
 const SECRET: [u8; 32] = [0; 32];
 
-/// A world whose steps are the lines of a script, and what their reports are made with.
+/// A world with the places of its ends, whose steps are the lines of a script, and what their
+/// reports are made with.
 ///
-/// Contracts see the world.
+/// Contracts see the world and the places.
 #[derive(Drop)]
 pub struct Playing {
-    world: World,
+    world: PlacedWorld,
     /// The keys of the group of every end.
     keys: GroupKeys,
     /// Holds a datagram while its report is made; its memory is used again.
@@ -30,10 +31,11 @@ pub struct Playing {
 
 impl Model for Playing {
     ghost use Rattle.std.specs.Prelude.{◌≡◌};
-    ghost use Rattle.rendezvous_world.specs.contracts.world.World as world_type;
-    ghost use Rattle.rendezvous_world.specs.Seen.{Seen, group_secret};
+    ghost use Rattle.placed_world.specs.contracts.world.PlacedWorld as world_type;
+    ghost use Rattle.placed_world.specs.Seen.{PlacedSeen};
+    ghost use Rattle.rendezvous_world.specs.Seen.{group_secret};
 
-    ghost Value = { Seen };
+    ghost Value = { PlacedSeen };
 
     ghost coded = { world_type.the_row.coded };
 
@@ -43,16 +45,16 @@ impl Model for Playing {
 }
 
 impl Playing {
-    ghost use Rattle.std.specs.Prelude.{◌≡◌, []};
+    ghost use Rattle.std.specs.Prelude.{◌≡◌};
+    ghost use Rattle.rtmfp_play.specs.Play.{empty_placed};
 
     /// A run over a script of which no line was done.
     pub fn new(alloc: Global) -> Playing
-        ensures moment { result.moment ≡ 0 }
-        ensures ends { result.ends ≡ [] }
-        ensures lines { result.lines ≡ [] }
+        ensures { result ≡ empty_placed }
     {
+        let world = PlacedWorld::new(alloc);
         Playing {
-            world: World::new(alloc),
+            world,
             keys: GroupKeys::of(alloc, &SECRET),
             scratch: Vec::new(alloc),
         }
@@ -69,13 +71,13 @@ pub fn play_line(
     text: &mut Text,
 ) -> Result<Said, AllocError>
     requires short { length line.now ≤ LINE }
-    requires above { AreBelow playing.old.lines number }
+    requires above { AreBelow playing.old.world.lines number }
     requires fits { number < 2 ^ 32 }
     ensures played { IfOk result (λ said. PlayedAs said playing.old number line.now playing.new
         text.new) }
     ensures stays { IfOk result (λ said. StaysAs said playing.old playing.new [] text.new) }
     ensures above { IfOk result (λ said. said ≡ Said.Text →
-        AreBelow playing.new.lines (number + 1)) }
+        AreBelow playing.new.world.lines (number + 1)) }
 {
     play_in(
         alloc,

@@ -4,6 +4,7 @@ pub mod FactText
 pub mod KeptKeys
 pub mod LineText
 pub mod LoneChunk
+pub mod LostText
 pub mod SentText
 pub mod EntryText
 pub mod RefusalText

@@ -7,6 +7,7 @@ mod facts;
 mod group_keys;
 mod lines;
 mod lone_chunk;
+mod lost;
 mod nonces;
 mod refusals;
 mod sent;
@@ -14,5 +15,6 @@ mod tally;
 
 pub use entries::push_entries;
 pub use group_keys::GroupKeys;
+pub use lost::push_lost;
 pub use refusals::{push_call_refusal, push_open_refusal, push_row_refusal};
 pub use tally::{Tally, push_summary};

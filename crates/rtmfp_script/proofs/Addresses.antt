@@ -9,7 +9,7 @@ use Rattle.std.proofs.lemmas.Fmt.{decimal_nonempty}
 use Rattle.hex.specs.Hex.{encode_lower}
 use Rattle.rtmfp_forms.specs.Address.{AddressParts}
 use Rattle.rtmfp_text.specs.AddressText.{address_text, host_text, v4_host_text, v6_host_text}
-use Rattle.rtmfp_script.specs.Grammar.{IsPlainAddress}
+use Rattle.rtmfp_script.specs.Grammar.{IsHost, IsPlainAddress}
 use Rattle.rtmfp_script.specs.Fields.{split_of, number_below, digits_of, v4_of, v6_of, v4_address, v6_address, address_at, address_of, is_lower_digit}
 use Rattle.rtmfp_script.proofs.Splits.{some_some, bind_some, Each, Lacks, each_is, each_append, each_passes, split_text, split_joined}
 use Rattle.rtmfp_script.proofs.Numbers.{number_below-some, number_below-decimal, IsDigit, each_decimal}
@@ -290,6 +290,50 @@ lacks_port host port small lacks =
 
 pub record HasNoSpace (xs : List ℕ) : Type 0 where
   pub lacks : Lacks 32 xs
+
+-- ---- a host alone
+
+short_host : (a b c d : ℕ) → v4_host_text (a ∷ b ∷ c ∷ d ∷ []) ≡ v4_host_text ((a ∷ b ∷ c ∷ d ∷ []) ++ replicate 12 0)
+unfolding v4_host_text
+short_host a b c d = refl
+
+pub v4_of-is_host : (word host : List ℕ) → v4_of word ≡ Some host → (word ≡ v4_host_text host) × IsHost host
+v4_of-is_host word host h =
+    let is = v4_of-some word host h in
+    subst (λ (bs : List ℕ). (word ≡ v4_host_text bs) × IsHost bs) (sym is.is) (
+      is.text ∙ v4_joined is.a is.b is.c is.d ∙ sym (short_host is.a is.b is.c is.d),
+      record {
+        size = refl;
+        each = and_from _ _ (lt-ltb is.a 256 is.a_fits) (and_from _ _ (lt-ltb is.b 256 is.b_fits) (and_from _ _ (lt-ltb is.c 256 is.c_fits) (and_from _ _ (lt-ltb is.d 256 is.d_fits) refl)));
+      },
+    )
+
+-- a host of four bytes is read, and there is no space in it
+pub record IsHostRead (host : List ℕ) : Type 0 where
+  pub read : v4_of (v4_host_text host) ≡ Some host
+  pub lacks : Lacks 32 (v4_host_text host)
+
+four_read : (a b c d : ℕ) → a < 256 → b < 256 → c < 256 → d < 256 → IsHostRead (a ∷ b ∷ c ∷ d ∷ [])
+four_read a b c d ha hb hc hd = record {
+  read = ap v4_of (short_host a b c d) ∙ v4_of-text a b c d ha hb hc hd;
+  lacks = subst (Lacks 32) (sym (short_host a b c d)) (lacks_space_v4 a b c d ha hb hc hd);
+}
+
+host_by : (host : List ℕ) → length host ≡ 4 → list_all (λ b. nat_lt b 256) host ≡ true → IsHostRead host
+host_by [] size fits = absurd (omega arith)
+host_by (a ∷ []) size fits = absurd (omega arith)
+host_by (a ∷ b ∷ []) size fits = absurd (omega arith)
+host_by (a ∷ b ∷ c ∷ []) size fits = absurd (omega arith)
+host_by (a ∷ b ∷ c ∷ d ∷ []) size fits =
+    let p = and_parts (nat_lt a 256) _ fits in
+    let q = and_parts (nat_lt b 256) _ p.1 in
+    let r = and_parts (nat_lt c 256) _ q.1 in
+    let s = and_parts (nat_lt d 256) _ r.1 in
+    four_read a b c d (grind (arith, nat_tests, p.0)) (grind (arith, nat_tests, q.0)) (grind (arith, nat_tests, r.0)) (grind (arith, nat_tests, s.0))
+host_by (a ∷ b ∷ c ∷ d ∷ e ∷ rest) size fits = absurd (omega arith)
+
+pub host_read : (host : List ℕ) → IsHost host → IsHostRead host
+host_read host is = host_by host is.size is.each
 
 no_space_v4 : (port a b c d : ℕ) → port < 2 ^ 16 → a < 256 → b < 256 → c < 256 → d < 256 → HasNoSpace (v4_host_text ((a ∷ b ∷ c ∷ d ∷ []) ++ replicate 12 0) ++ 58 ∷ decimal port)
 no_space_v4 port a b c d small ha hb hc hd = record { lacks = lacks_port (v4_host_text ((a ∷ b ∷ c ∷ d ∷ []) ++ replicate 12 0)) port small (lacks_space_v4 a b c d ha hb hc hd) }

@@ -3,20 +3,25 @@ use Rattle.std.proofs.Common.{◌≡◌, ℕ, ◌^◌, ◌<◌, ◌≤◌, true,
 use Rattle.std.specs.Prelude.{decimal, nat_le}
 use Rattle.std.proofs.lemmas.Bool.{le-leb}
 use Rattle.rtmfp_forms.specs.Address.{AddressParts}
-use Rattle.rtmfp_text.specs.AddressText.{address_text}
+use Rattle.rtmfp_text.specs.AddressText.{address_text, v4_host_text}
 use Rattle.rtmfp_text.specs.Words.{bytes_text, number_text}
+use Rattle.translators.specs.declared.rule.Rule.{Rule}
 use Rattle.rtmfp_script.specs.declared.line.ScriptLine.{ScriptLine}
-use Rattle.rtmfp_script.specs.declared.line.ScriptLine.TheVariants.{End, Introduce, Redirect, At, Open, Cancel, Close, Flow, Queue, Abandon, Finish, Tick, Deliver, Bent, Inject, Forge}
+use Rattle.rtmfp_script.specs.declared.line.ScriptLine.TheVariants.{End, At, Call, Towards, Bring, Translator, Place, Carry}
+use Rattle.rtmfp_script.specs.declared.line.CallLine.TheVariants.{Introduce, Cancel, Close, Flow, Queue, Abandon, Finish, Tick}
+use Rattle.rtmfp_script.specs.declared.line.AimLine.TheVariants.{Redirect, Open}
+use Rattle.rtmfp_script.specs.declared.line.BringLine.TheVariants.{Deliver, Bent, Inject, Forge}
 use Rattle.rtmfp_script.specs.declared.content.Content.{Content}
-use Rattle.rtmfp_script.specs.Grammar.{IsName, IsCert, IsPlainAddress, IsBytesUpTo, EachIsPlainAddress, AreBytes, IsBelow, IsContent, IsWithin, IsLineOf, content_text, word_for, line_text, words_text, line_limit}
+use Rattle.rtmfp_script.specs.Grammar.{IsName, IsCert, IsPlainAddress, IsBytesUpTo, EachIsPlainAddress, AreBytes, IsBelow, IsContent, IsHost, IsNameOrNone, IsWithin, IsLineOf, content_text, name_for, rule_text, word_for, line_text, words_text, line_limit}
 use Rattle.rtmfp_script.specs.Fields.{split_of, number_of, number_below, ◌>>=◌}
-use Rattle.rtmfp_script.specs.Lines.{end_of, introduce_of, redirect_of, at_of, open_of, open_to, cancel_of, close_of, session_at, flow_in, flow_of, queue_in, queue_of, abandon_of, finish_of, tick_of, deliver_of, bent_of, bytes_at, inject_of, forge_of, word_of, step_of}
+use Rattle.rtmfp_script.specs.Lines.{end_of, introduce_of, redirect_of, at_of, open_of, open_to, cancel_of, close_of, session_at, flow_in, flow_of, queue_in, queue_of, abandon_of, finish_of, tick_of, deliver_of, bent_of, bytes_at, inject_of, forge_of, translator_of, place_at, place_of, carry_of, word_of, step_of}
 use Rattle.rtmfp_script.proofs.Splits.{split_text, split_nothing}
 use Rattle.rtmfp_script.proofs.Numbers.{number_of-decimal, number_below-decimal}
 use Rattle.rtmfp_script.proofs.Digits.{bytes_of-text, hexadecimal_of-text}
 use Rattle.rtmfp_script.proofs.NamesRead.{name_of-name, lacks_name, cert_of-cert}
-use Rattle.rtmfp_script.proofs.Addresses.{address_of-text, lacks_address, lacks_low}
+use Rattle.rtmfp_script.proofs.Addresses.{address_of-text, host_read, lacks_address, lacks_low}
 use Rattle.rtmfp_script.proofs.AddressesRead.{addresses_of-text}
+use Rattle.rtmfp_script.proofs.PlacesRead.{rule_of-text, lacks_rule, place_at-text}
 use Rattle.rtmfp_script.proofs.Contents.{limit_by-text, no_space_number, no_space_bytes, answers_of-text, content_of-text}
 
 end_read : (name : List ℕ) (peers sessions : ℕ) (cert : List ℕ) → IsName name → peers < 2 ^ 32 → sessions < 2 ^ 32 → IsCert cert →
@@ -35,12 +40,12 @@ end_read name peers sessions cert n p s c =
       cert_of-cert cert c,
     ) refl
 
-introduce_read : (name : List ℕ) → IsName name → introduce_of name ≡ Some (Introduce name)
+introduce_read : (name : List ℕ) → IsName name → introduce_of name ≡ Some (Call name Introduce)
 unfolding introduce_of
 introduce_read name n = rw (name_of-name name n) refl
 
 redirect_read : (name peer : List ℕ) (first : AddressParts) (more : List AddressParts) → IsName name → IsName peer → length (first ∷ more) ≤ 16 → EachIsPlainAddress (first ∷ more) →
-    redirect_of (name ++ 32 ∷ (peer ++ 32 ∷ words_text (map address_text (first ∷ more)))) ≡ Some (Redirect name peer (first ∷ more))
+    redirect_of (name ++ 32 ∷ (peer ++ 32 ∷ words_text (map address_text (first ∷ more)))) ≡ Some (Towards name peer (first ∷ more) Redirect)
 unfolding redirect_of
 redirect_read name peer first more n p few good =
     rw (
@@ -56,11 +61,11 @@ at_read : (moment : ℕ) → moment < 2 ^ 64 → at_of (decimal moment) ≡ Some
 unfolding at_of
 at_read moment m = rw (number_of-decimal moment m) refl
 
-cancel_read : (name : List ℕ) (number : ℕ) → IsName name → number < 2 ^ 64 → cancel_of (name ++ 32 ∷ decimal number) ≡ Some (Cancel name number)
+cancel_read : (name : List ℕ) (number : ℕ) → IsName name → number < 2 ^ 64 → cancel_of (name ++ 32 ∷ decimal number) ≡ Some (Call name (Cancel number))
 unfolding cancel_of
 cancel_read name number n m = rw (split_text 32 name (decimal number) (lacks_name name n), name_of-name name n, number_of-decimal number m) refl
 
-close_read : (name : List ℕ) (near : ℕ) → IsName name → near < 2 ^ 32 → close_of (name ++ 32 ∷ decimal near) ≡ Some (Close name near)
+close_read : (name : List ℕ) (near : ℕ) → IsName name → near < 2 ^ 32 → close_of (name ++ 32 ∷ decimal near) ≡ Some (Call name (Close near))
 unfolding close_of
 close_read name near n m = rw (split_text 32 name (decimal near) (lacks_name name n), name_of-name name n, number_below-decimal (2 ^ 32) near (omega arith) m) refl
 
@@ -75,7 +80,7 @@ session_at_read name near behind n i =
     ) refl
 
 flow_in_read : (name : List ℕ) (near priority : ℕ) (metadata : List ℕ) (answers : Option ℕ) → priority < 256 → AreBytes metadata → IsBelow (2 ^ 64) answers →
-    flow_in name near (decimal priority ++ 32 ∷ words_text (bytes_text metadata ∷ word_for answers)) ≡ Some (Flow name near priority metadata answers)
+    flow_in name near (decimal priority ++ 32 ∷ words_text (bytes_text metadata ∷ word_for answers)) ≡ Some (Call name (Flow near priority metadata answers))
 unfolding flow_in
 flow_in_read name near priority metadata answers p m a =
     rw (
@@ -86,13 +91,13 @@ flow_in_read name near priority metadata answers p m a =
     ) refl
 
 flow_read : (name : List ℕ) (near priority : ℕ) (metadata : List ℕ) (answers : Option ℕ) → IsName name → near < 2 ^ 32 → priority < 256 → AreBytes metadata → IsBelow (2 ^ 64) answers →
-    flow_of (name ++ 32 ∷ (decimal near ++ 32 ∷ (decimal priority ++ 32 ∷ words_text (bytes_text metadata ∷ word_for answers)))) ≡ Some (Flow name near priority metadata answers)
+    flow_of (name ++ 32 ∷ (decimal near ++ 32 ∷ (decimal priority ++ 32 ∷ words_text (bytes_text metadata ∷ word_for answers)))) ≡ Some (Call name (Flow near priority metadata answers))
 unfolding flow_of
 flow_read name near priority metadata answers n i p m a =
     rw (session_at_read name near (decimal priority ++ 32 ∷ words_text (bytes_text metadata ∷ word_for answers)) n i) (flow_in_read name near priority metadata answers p m a)
 
 queue_in_read : (name : List ℕ) (near flow : ℕ) (deadline resends : Option ℕ) (content : Content) → flow < 2 ^ 64 → IsBelow (2 ^ 64) deadline → IsBelow (2 ^ 32) resends → IsContent content →
-    queue_in name near (decimal flow ++ 32 ∷ (number_text deadline ++ 32 ∷ (number_text resends ++ 32 ∷ content_text content))) ≡ Some (Queue name near flow deadline resends content)
+    queue_in name near (decimal flow ++ 32 ∷ (number_text deadline ++ 32 ∷ (number_text resends ++ 32 ∷ content_text content))) ≡ Some (Call name (Queue near flow deadline resends content))
 unfolding queue_in
 queue_in_read name near flow deadline resends content f d r c =
     rw (
@@ -106,13 +111,13 @@ queue_in_read name near flow deadline resends content f d r c =
     ) refl
 
 queue_read : (name : List ℕ) (near flow : ℕ) (deadline resends : Option ℕ) (content : Content) → IsName name → near < 2 ^ 32 → flow < 2 ^ 64 → IsBelow (2 ^ 64) deadline → IsBelow (2 ^ 32) resends → IsContent content →
-    queue_of (name ++ 32 ∷ (decimal near ++ 32 ∷ (decimal flow ++ 32 ∷ (number_text deadline ++ 32 ∷ (number_text resends ++ 32 ∷ content_text content))))) ≡ Some (Queue name near flow deadline resends content)
+    queue_of (name ++ 32 ∷ (decimal near ++ 32 ∷ (decimal flow ++ 32 ∷ (number_text deadline ++ 32 ∷ (number_text resends ++ 32 ∷ content_text content))))) ≡ Some (Call name (Queue near flow deadline resends content))
 unfolding queue_of
 queue_read name near flow deadline resends content n i f d r c =
     rw (session_at_read name near (decimal flow ++ 32 ∷ (number_text deadline ++ 32 ∷ (number_text resends ++ 32 ∷ content_text content))) n i) (queue_in_read name near flow deadline resends content f d r c)
 
 abandon_read : (name : List ℕ) (near flow seq : ℕ) → IsName name → near < 2 ^ 32 → flow < 2 ^ 64 → seq < 2 ^ 64 →
-    abandon_of (name ++ 32 ∷ (decimal near ++ 32 ∷ (decimal flow ++ 32 ∷ decimal seq))) ≡ Some (Abandon name near flow seq)
+    abandon_of (name ++ 32 ∷ (decimal near ++ 32 ∷ (decimal flow ++ 32 ∷ decimal seq))) ≡ Some (Call name (Abandon near flow seq))
 unfolding abandon_of
 abandon_read name near flow seq n i f s =
     rw (
@@ -126,7 +131,7 @@ abandon_read name near flow seq n i f s =
     ) refl
 
 finish_read : (name : List ℕ) (near flow : ℕ) → IsName name → near < 2 ^ 32 → flow < 2 ^ 64 →
-    finish_of (name ++ 32 ∷ (decimal near ++ 32 ∷ decimal flow)) ≡ Some (Finish name near flow)
+    finish_of (name ++ 32 ∷ (decimal near ++ 32 ∷ decimal flow)) ≡ Some (Call name (Finish near flow))
 unfolding finish_of
 finish_read name near flow n i f =
     rw (
@@ -137,12 +142,12 @@ finish_read name near flow n i f =
       number_of-decimal flow f,
     ) refl
 
-tick_read : (name : List ℕ) → IsName name → tick_of name ≡ Some (Tick name)
+tick_read : (name : List ℕ) → IsName name → tick_of name ≡ Some (Call name Tick)
 unfolding tick_of
 tick_read name n = rw (name_of-name name n) refl
 
 deliver_read : (number : ℕ) (name : List ℕ) (from : AddressParts) → number < 2 ^ 64 → IsName name → IsPlainAddress from →
-    deliver_of (decimal number ++ 32 ∷ (name ++ 32 ∷ address_text from)) ≡ Some (Deliver number name from)
+    deliver_of (decimal number ++ 32 ∷ (name ++ 32 ∷ address_text from)) ≡ Some (Bring name from (Deliver number))
 unfolding deliver_of
 deliver_read number name from m n f =
     rw (
@@ -154,7 +159,7 @@ deliver_read number name from m n f =
     ) refl
 
 bent_read : (number place : ℕ) (name : List ℕ) (from : AddressParts) → number < 2 ^ 64 → place < 2 ^ 64 → IsName name → IsPlainAddress from →
-    bent_of (decimal number ++ 32 ∷ (decimal place ++ 32 ∷ (name ++ 32 ∷ address_text from))) ≡ Some (Bent number place name from)
+    bent_of (decimal number ++ 32 ∷ (decimal place ++ 32 ∷ (name ++ 32 ∷ address_text from))) ≡ Some (Bring name from (Bent number place))
 unfolding bent_of
 bent_read number place name from m p n f =
     rw (
@@ -180,21 +185,21 @@ bytes_at_read most name from bytes n f b =
     ) refl
 
 inject_read : (name : List ℕ) (from : AddressParts) (bytes : List ℕ) → IsName name → IsPlainAddress from → IsBytesUpTo 2048 bytes →
-    inject_of (name ++ 32 ∷ (address_text from ++ 32 ∷ bytes_text bytes)) ≡ Some (Inject name from bytes)
+    inject_of (name ++ 32 ∷ (address_text from ++ 32 ∷ bytes_text bytes)) ≡ Some (Bring name from (Inject bytes))
 unfolding inject_of
 inject_read name from bytes n f b = rw (bytes_at_read 2048 name from bytes n f b) refl
 
 forge_read : (name : List ℕ) (from : AddressParts) (bytes : List ℕ) → IsName name → IsPlainAddress from → IsBytesUpTo 1164 bytes →
-    forge_of (name ++ 32 ∷ (address_text from ++ 32 ∷ bytes_text bytes)) ≡ Some (Forge name from bytes)
+    forge_of (name ++ 32 ∷ (address_text from ++ 32 ∷ bytes_text bytes)) ≡ Some (Bring name from (Forge bytes))
 unfolding forge_of
 forge_read name from bytes n f b = rw (bytes_at_read 1164 name from bytes n f b) refl
 
-open_alone : (name peer : List ℕ) → IsName name → IsName peer → open_of (name ++ 32 ∷ peer) ≡ Some (Open name peer [])
+open_alone : (name peer : List ℕ) → IsName name → IsName peer → open_of (name ++ 32 ∷ peer) ≡ Some (Towards name peer [] Open)
 unfolding open_of open_to
 open_alone name peer n p = rw (split_text 32 name peer (lacks_name name n), name_of-name name n, split_nothing 32 peer (lacks_name peer p), name_of-name peer p) refl
 
 open_read : (name peer : List ℕ) (first : AddressParts) (more : List AddressParts) → IsName name → IsName peer → length (first ∷ more) ≤ 32 → EachIsPlainAddress (first ∷ more) →
-    open_of (name ++ 32 ∷ (peer ++ 32 ∷ words_text (map address_text (first ∷ more)))) ≡ Some (Open name peer (first ∷ more))
+    open_of (name ++ 32 ∷ (peer ++ 32 ∷ words_text (map address_text (first ∷ more)))) ≡ Some (Towards name peer (first ∷ more) Open)
 unfolding open_of open_to
 open_read name peer first more n p few good =
     rw (
@@ -205,6 +210,32 @@ open_read name peer first more n p few good =
       addresses_of-text first more few good,
     ) refl
 
+translator_read : (name : List ℕ) (mapping filter : Rule) (host : List ℕ) (first : ℕ) → IsName name → IsHost host → first < 2 ^ 16 →
+    translator_of (name ++ 32 ∷ (rule_text mapping ++ 32 ∷ (rule_text filter ++ 32 ∷ (v4_host_text host ++ 32 ∷ decimal first)))) ≡ Some (Translator name mapping filter host first)
+unfolding translator_of
+translator_read name mapping filter host first n h f =
+    rw (
+      split_text 32 name (rule_text mapping ++ 32 ∷ (rule_text filter ++ 32 ∷ (v4_host_text host ++ 32 ∷ decimal first))) (lacks_name name n),
+      split_text 32 (rule_text mapping) (rule_text filter ++ 32 ∷ (v4_host_text host ++ 32 ∷ decimal first)) (lacks_rule mapping),
+      split_text 32 (rule_text filter) (v4_host_text host ++ 32 ∷ decimal first) (lacks_rule filter),
+      split_text 32 (v4_host_text host) (decimal first) (host_read host h).lacks,
+      name_of-name name n,
+      rule_of-text mapping,
+      rule_of-text filter,
+      (host_read host h).read,
+      number_below-decimal (2 ^ 16) first (omega arith) f,
+    ) refl
+
+place_read : (name : List ℕ) (at : AddressParts) (behind : Option (List ℕ)) → IsName name → IsPlainAddress at → IsNameOrNone behind →
+    place_of (name ++ 32 ∷ words_text (address_text at ∷ name_for behind)) ≡ Some (Place name at behind)
+unfolding place_of
+place_read name at behind n a b =
+    rw (split_text 32 name (words_text (address_text at ∷ name_for behind)) (lacks_name name n), name_of-name name n) (place_at-text name at behind a b)
+
+carry_read : (number : ℕ) → number < 2 ^ 64 → carry_of (decimal number) ≡ Some (Carry number)
+unfolding carry_of
+carry_read number m = rw (number_of-decimal number m) refl
+
 -- ---- by the first word
 
 abbrev cut_of : List ℕ → Option ScriptLine
@@ -213,23 +244,26 @@ cut_of line = split_of 32 line >>= λ a. word_of a.0 a.1
 said_read : (said : ScriptLine) → IsWithin said → cut_of (line_text said) ≡ Some said
 unfolding split_of word_of
 said_read (End name peers sessions cert) w = end_read name peers sessions cert w.0 w.1 w.2 w.3
-said_read (Introduce name) n = introduce_read name n
-said_read (Redirect name peer []) w = absurd (omega (arith, w.2))
-said_read (Redirect name peer (first ∷ more)) w = redirect_read name peer first more w.0 w.1 w.3 w.4
+said_read (Call name Introduce) n = introduce_read name n
+said_read (Towards name peer [] Redirect) w = absurd (omega (arith, w.2))
+said_read (Towards name peer (first ∷ more) Redirect) w = redirect_read name peer first more w.0 w.1 w.3 w.4
 said_read (At moment) m = at_read moment m
-said_read (Open name peer []) w = open_alone name peer w.0 w.1
-said_read (Open name peer (first ∷ more)) w = open_read name peer first more w.0 w.1 w.2 w.3
-said_read (Cancel name number) w = cancel_read name number w.0 w.1
-said_read (Close name near) w = close_read name near w.0 w.1
-said_read (Flow name near priority metadata answers) w = flow_read name near priority metadata answers w.0 w.1 w.2 w.3 w.4
-said_read (Queue name near flow deadline resends content) w = queue_read name near flow deadline resends content w.0 w.1 w.2 w.3 w.4 w.5
-said_read (Abandon name near flow seq) w = abandon_read name near flow seq w.0 w.1 w.2 w.3
-said_read (Finish name near flow) w = finish_read name near flow w.0 w.1 w.2
-said_read (Tick name) n = tick_read name n
-said_read (Deliver number name from) w = deliver_read number name from w.0 w.1 w.2
-said_read (Bent number place name from) w = bent_read number place name from w.0 w.1 w.2 w.3
-said_read (Inject name from bytes) w = inject_read name from bytes w.0 w.1 w.2
-said_read (Forge name from bytes) w = forge_read name from bytes w.0 w.1 w.2
+said_read (Towards name peer [] Open) w = open_alone name peer w.0 w.1
+said_read (Towards name peer (first ∷ more) Open) w = open_read name peer first more w.0 w.1 w.2 w.3
+said_read (Call name (Cancel number)) w = cancel_read name number w.0 w.1
+said_read (Call name (Close near)) w = close_read name near w.0 w.1
+said_read (Call name (Flow near priority metadata answers)) w = flow_read name near priority metadata answers w.0 w.1 w.2 w.3 w.4
+said_read (Call name (Queue near flow deadline resends content)) w = queue_read name near flow deadline resends content w.0 w.1 w.2 w.3 w.4 w.5
+said_read (Call name (Abandon near flow seq)) w = abandon_read name near flow seq w.0 w.1 w.2 w.3
+said_read (Call name (Finish near flow)) w = finish_read name near flow w.0 w.1 w.2
+said_read (Call name Tick) n = tick_read name n
+said_read (Bring name from (Deliver number)) w = deliver_read number name from w.0 w.1 w.2
+said_read (Bring name from (Bent number place)) w = bent_read number place name from w.0 w.1 w.2 w.3
+said_read (Bring name from (Inject bytes)) w = inject_read name from bytes w.0 w.1 w.2
+said_read (Bring name from (Forge bytes)) w = forge_read name from bytes w.0 w.1 w.2
+said_read (Translator name mapping filter host first) w = translator_read name mapping filter host first w.0 w.1 w.2
+said_read (Place name at behind) w = place_read name at behind w.0 w.1 w.2
+said_read (Carry number) m = carry_read number m
 
 pub step_complete : (line : List ℕ) (said : ScriptLine) → IsLineOf line said → step_of line ≡ Some said
 unfolding step_of

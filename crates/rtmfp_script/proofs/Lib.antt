@@ -6,6 +6,7 @@ pub mod NamesRead
 pub mod Addresses
 pub mod AddressesRead
 pub mod Contents
+pub mod PlacesRead
 pub mod Sound
 pub mod Complete
 pub mod Saying

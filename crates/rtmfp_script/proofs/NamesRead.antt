@@ -28,7 +28,7 @@ name_of-name name is =
     let test : is_name name ≡ true = and_from _ _ (le-leb 1 (length name) is.some) (and_from _ _ (le-leb (length name) 16 is.short) is.plain) in
     rw test refl
 
-not_space : (x : ℕ) → is_name_byte x ≡ true → x ≢ 32
+pub not_space : (x : ℕ) → is_name_byte x ≡ true → x ≢ 32
 not_space x h e = let space : is_name_byte 32 ≡ true = ap is_name_byte (sym e) ∙ h in cc space
 
 pub lacks_name : (name : List ℕ) → IsName name → Lacks 32 name

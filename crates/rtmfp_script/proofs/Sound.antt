@@ -8,17 +8,20 @@ use Rattle.rtmfp_forms.specs.Address.{AddressParts}
 use Rattle.rtmfp_text.specs.AddressText.{address_text}
 use Rattle.rtmfp_text.specs.Words.{bytes_text, number_text}
 use Rattle.rtmfp_script.specs.declared.line.ScriptLine.{ScriptLine}
-use Rattle.rtmfp_script.specs.declared.line.ScriptLine.TheVariants.{Redirect, Open, Flow, Queue, Abandon, Finish}
+use Rattle.rtmfp_script.specs.declared.line.ScriptLine.TheVariants.{Call, Towards, Translator}
+use Rattle.rtmfp_script.specs.declared.line.CallLine.TheVariants.{Flow, Queue, Abandon, Finish}
+use Rattle.rtmfp_script.specs.declared.line.AimLine.TheVariants.{Redirect, Open}
 use Rattle.rtmfp_script.specs.declared.content.Content.{Content}
 use Rattle.rtmfp_script.specs.Grammar.{IsName, IsPlainAddress, IsBytesUpTo, EachIsPlainAddress, AreBytes, IsBelow, IsContent, IsWithin, IsLineOf, content_text, word_for, line_text, words_text, line_limit}
-use Rattle.rtmfp_script.specs.Fields.{split_of, name_of, cert_of, number_of, number_below, bytes_of, hexadecimal_of, limit_by, content_of, address_of, addresses_of, either, ◌>>=◌}
-use Rattle.rtmfp_script.specs.Lines.{end_of, introduce_of, row_said, redirect_of, at_of, open_of, open_to, cancel_of, close_of, answers_of, session_at, flow_in, flow_of, queue_in, queue_of, abandon_of, finish_of, tick_of, deliver_of, bent_of, bytes_at, inject_of, forge_of, word_of, step_of}
+use Rattle.rtmfp_script.specs.Fields.{split_of, name_of, cert_of, number_of, number_below, bytes_of, hexadecimal_of, limit_by, content_of, rule_of, v4_of, address_of, addresses_of, either, ◌>>=◌}
+use Rattle.rtmfp_script.specs.Lines.{end_of, introduce_of, row_said, redirect_of, at_of, open_of, open_to, cancel_of, close_of, answers_of, session_at, flow_in, flow_of, queue_in, queue_of, abandon_of, finish_of, tick_of, deliver_of, bent_of, bytes_at, inject_of, forge_of, translator_of, place_at, place_of, carry_of, word_of, step_of}
 use Rattle.rtmfp_script.proofs.Splits.{some_some, bind_some, split_joined}
 use Rattle.rtmfp_script.proofs.Numbers.{number_of-some, number_below-some}
 use Rattle.rtmfp_script.proofs.Digits.{bytes_of-some, hexadecimal_of-some}
 use Rattle.rtmfp_script.proofs.NamesRead.{rejoin, name_of-some, cert_of-some}
-use Rattle.rtmfp_script.proofs.Addresses.{address_of-some}
+use Rattle.rtmfp_script.proofs.Addresses.{address_of-some, v4_of-is_host}
 use Rattle.rtmfp_script.proofs.AddressesRead.{addresses_of-some}
+use Rattle.rtmfp_script.proofs.PlacesRead.{rule_of-some, place_at-some}
 use Rattle.rtmfp_script.proofs.Contents.{limit_by-some, answers_of-some, content_of-some}
 
 -- a word, and what stands behind its space, say this
@@ -186,21 +189,21 @@ forge_sound rest said h =
 record IsPeer (name rest : List ℕ) (said : ScriptLine) : Type 0 where
   peer : List ℕ
   candidates : List AddressParts
-  is : Open name peer candidates ≡ said
+  is : Towards name peer candidates Open ≡ said
   text : rest ≡ words_text (peer ∷ map address_text candidates)
   peer_is : IsName peer
   few : length candidates ≤ 32
   good : EachIsPlainAddress candidates
 
 peer_by : (name rest : List ℕ) (said : ScriptLine) (o : Option (List ℕ × List ℕ)) → split_of 32 rest ≡ o →
-    either (name_of rest >>= λ peer. Some (Open name peer [])) (λ parts. name_of parts.0 >>= λ peer. addresses_of parts.1 >>= λ candidates. Some (Open name peer candidates)) o ≡ Some said → IsPeer name rest said
+    either (name_of rest >>= λ peer. Some (Towards name peer [] Open)) (λ parts. name_of parts.0 >>= λ peer. addresses_of parts.1 >>= λ candidates. Some (Towards name peer candidates Open)) o ≡ Some said → IsPeer name rest said
 peer_by name rest said None cut h =
-    let peer = bind_some (name_of rest) (λ peer. Some (Open name peer [])) said h in
+    let peer = bind_some (name_of rest) (λ peer. Some (Towards name peer [] Open)) said h in
     let p = name_of-some rest peer.0 peer.1 in
     record { peer = peer.0; candidates = []; is = some_some _ _ peer.2; text = p.0; peer_is = p.1; few = omega arith; good = tt }
 peer_by name rest said (Some parts) cut h =
-    let peer = bind_some (name_of parts.0) (λ peer. addresses_of parts.1 >>= λ candidates. Some (Open name peer candidates)) said h in
-    let candidates = bind_some (addresses_of parts.1) (λ candidates. Some (Open name peer.0 candidates)) said peer.2 in
+    let peer = bind_some (name_of parts.0) (λ peer. addresses_of parts.1 >>= λ candidates. Some (Towards name peer candidates Open)) said h in
+    let candidates = bind_some (addresses_of parts.1) (λ candidates. Some (Towards name peer.0 candidates Open)) said peer.2 in
     let p = name_of-some parts.0 peer.0 peer.1 in
     let l = addresses_of-some parts.1 candidates.0 candidates.1 in
     record {
@@ -232,7 +235,7 @@ open_sound rest said h =
 -- ---- redirect
 
 -- a row that is said has these addresses, 16 at most
-row_is : (name peer : List ℕ) (addresses : List AddressParts) (said : ScriptLine) → row_said name peer addresses ≡ Some said → (Redirect name peer addresses ≡ said) × (length addresses ≤ 16)
+row_is : (name peer : List ℕ) (addresses : List AddressParts) (said : ScriptLine) → row_said name peer addresses ≡ Some said → (Towards name peer addresses Redirect ≡ said) × (length addresses ≤ 16)
 row_is name peer addresses said h = elim (cases_Bool (nat_le (length addresses) 16)) [
   | inl few ↦ (some_some _ _ (rw few at h), leb-true _ _ few)
   | inr many ↦ absurd (let none : None ≡ Some said = rw many at h in cc)
@@ -292,7 +295,7 @@ record IsFlow (name : List ℕ) (near : ℕ) (rest : List ℕ) (said : ScriptLin
   priority : ℕ
   metadata : List ℕ
   answers : Option ℕ
-  is : Flow name near priority metadata answers ≡ said
+  is : Call name (Flow near priority metadata answers) ≡ said
   text : rest ≡ decimal priority ++ 32 ∷ words_text (bytes_text metadata ∷ word_for answers)
   small : priority < 256
   bytes : AreBytes metadata
@@ -312,7 +315,7 @@ flow_in_sound name near rest said h =
       priority = priority.0;
       metadata = metadata.0;
       answers = b.0.1;
-      is = some_some (Flow name near priority.0 metadata.0 b.0.1) said metadata.2;
+      is = some_some (Call name (Flow near priority.0 metadata.0 b.0.1)) said metadata.2;
       text = rejoin 32 rest a.0.0 a.0.1 _ _ (split_joined 32 rest a.0 a.1) p.0 (t.text ∙ ap (λ (w : List ℕ). words_text (w ∷ word_for b.0.1)) m.0);
       small = p.1;
       bytes = m.1;
@@ -325,7 +328,7 @@ flow_sound rest said h =
     let s = bind_some (session_at rest) _ said h in
     let i = session_at_sound rest s.0 s.1 in
     let f = flow_in_sound s.0.0 s.0.1 s.0.2 said s.2 in
-    subst (IsSaid (codes "flow") rest) {x = Flow s.0.0 s.0.1 f.priority f.metadata f.answers} f.is (record {
+    subst (IsSaid (codes "flow") rest) {x = Call s.0.0 (Flow s.0.1 f.priority f.metadata f.answers)} f.is (record {
       text = after (codes "flow") rest _ (i.text _ f.text);
       within = (i.name_is, i.near_fits, f.small, f.bytes, f.below);
     })
@@ -340,7 +343,7 @@ record IsQueue (name : List ℕ) (near : ℕ) (rest : List ℕ) (said : ScriptLi
   deadline : Option ℕ
   resends : Option ℕ
   content : Content
-  is : Queue name near flow deadline resends content ≡ said
+  is : Call name (Queue near flow deadline resends content) ≡ said
   text : rest ≡ queue_rest flow deadline resends content
   flow_fits : flow < 2 ^ 64
   deadline_fits : IsBelow (2 ^ 64) deadline
@@ -366,7 +369,7 @@ queue_in_sound name near rest said h =
       deadline = deadline.0;
       resends = resends.0;
       content = content.0;
-      is = some_some (Queue name near flow.0 deadline.0 resends.0 content.0) said content.2;
+      is = some_some (Call name (Queue near flow.0 deadline.0 resends.0 content.0)) said content.2;
       text =
           rejoin 32 rest a.0.0 a.0.1 _ _ (split_joined 32 rest a.0 a.1) f.0
           (rejoin 32 a.0.1 b.0.0 b.0.1 _ _ (split_joined 32 a.0.1 b.0 b.1) d.0
@@ -383,7 +386,7 @@ queue_sound rest said h =
     let s = bind_some (session_at rest) _ said h in
     let i = session_at_sound rest s.0 s.1 in
     let q = queue_in_sound s.0.0 s.0.1 s.0.2 said s.2 in
-    subst (IsSaid (codes "queue") rest) {x = Queue s.0.0 s.0.1 q.flow q.deadline q.resends q.content} q.is (record {
+    subst (IsSaid (codes "queue") rest) {x = Call s.0.0 (Queue s.0.1 q.flow q.deadline q.resends q.content)} q.is (record {
       text = after (codes "queue") rest _ (i.text (queue_rest q.flow q.deadline q.resends q.content) q.text);
       within = (i.name_is, i.near_fits, q.flow_fits, q.deadline_fits, q.resends_fit, q.content_is);
     })
@@ -402,7 +405,7 @@ abandon_sound rest said h =
     let i = number_below-some (2 ^ 32) b.0.0 near.0 near.1 in
     let f = number_of-some c.0.0 flow.0 flow.1 in
     let s = number_of-some c.0.1 seq.0 seq.1 in
-    subst (IsSaid (codes "abandon") rest) {x = Abandon name.0 near.0 flow.0 seq.0} (some_some _ _ seq.2) (record {
+    subst (IsSaid (codes "abandon") rest) {x = Call name.0 (Abandon near.0 flow.0 seq.0)} (some_some _ _ seq.2) (record {
       text = after (codes "abandon") rest _
           (rejoin 32 rest a.0.0 a.0.1 _ _ (split_joined 32 rest a.0 a.1) n.0
           (rejoin 32 a.0.1 b.0.0 b.0.1 _ _ (split_joined 32 a.0.1 b.0 b.1) i.0
@@ -421,12 +424,57 @@ finish_sound rest said h =
     let n = name_of-some a.0.0 name.0 name.1 in
     let i = number_below-some (2 ^ 32) b.0.0 near.0 near.1 in
     let f = number_of-some b.0.1 flow.0 flow.1 in
-    subst (IsSaid (codes "finish") rest) {x = Finish name.0 near.0 flow.0} (some_some _ _ flow.2) (record {
+    subst (IsSaid (codes "finish") rest) {x = Call name.0 (Finish near.0 flow.0)} (some_some _ _ flow.2) (record {
       text = after (codes "finish") rest _
           (rejoin 32 rest a.0.0 a.0.1 _ _ (split_joined 32 rest a.0 a.1) n.0
           (rejoin 32 a.0.1 b.0.0 b.0.1 _ _ (split_joined 32 a.0.1 b.0 b.1) i.0 f.0));
       within = (n.1, i.1, f.1);
     })
+
+-- ---- places
+
+translator_sound : (rest : List ℕ) (said : ScriptLine) → translator_of rest ≡ Some said → IsSaid (codes "translator") rest said
+unfolding translator_of
+translator_sound rest said h =
+    let a = bind_some (split_of 32 rest) _ said h in
+    let b = bind_some (split_of 32 a.0.1) _ said a.2 in
+    let c = bind_some (split_of 32 b.0.1) _ said b.2 in
+    let d = bind_some (split_of 32 c.0.1) _ said c.2 in
+    let name = bind_some (name_of a.0.0) _ said d.2 in
+    let mapping = bind_some (rule_of b.0.0) _ said name.2 in
+    let filter = bind_some (rule_of c.0.0) _ said mapping.2 in
+    let host = bind_some (v4_of d.0.0) _ said filter.2 in
+    let first = bind_some (number_below (2 ^ 16) d.0.1) _ said host.2 in
+    let n = name_of-some a.0.0 name.0 name.1 in
+    let v = v4_of-is_host d.0.0 host.0 host.1 in
+    let p = number_below-some (2 ^ 16) d.0.1 first.0 first.1 in
+    subst (IsSaid (codes "translator") rest) {x = Translator name.0 mapping.0 filter.0 host.0 first.0} (some_some _ _ first.2) (record {
+      text = after (codes "translator") rest _
+          (rejoin 32 rest a.0.0 a.0.1 _ _ (split_joined 32 rest a.0 a.1) n.0
+          (rejoin 32 a.0.1 b.0.0 b.0.1 _ _ (split_joined 32 a.0.1 b.0 b.1) (rule_of-some b.0.0 mapping.0 mapping.1)
+          (rejoin 32 b.0.1 c.0.0 c.0.1 _ _ (split_joined 32 b.0.1 c.0 c.1) (rule_of-some c.0.0 filter.0 filter.1)
+          (rejoin 32 c.0.1 d.0.0 d.0.1 _ _ (split_joined 32 c.0.1 d.0 d.1) v.0 p.0))));
+      within = (n.1, v.1, p.1);
+    })
+
+place_sound : (rest : List ℕ) (said : ScriptLine) → place_of rest ≡ Some said → IsSaid (codes "place") rest said
+unfolding place_of
+place_sound rest said h =
+    let a = bind_some (split_of 32 rest) _ said h in
+    let name = bind_some (name_of a.0.0) _ said a.2 in
+    let n = name_of-some a.0.0 name.0 name.1 in
+    let p = place_at-some name.0 a.0.1 said name.2 in
+    subst (IsSaid (codes "place") rest) p.is (record {
+      text = after (codes "place") rest _ (rejoin 32 rest a.0.0 a.0.1 _ _ (split_joined 32 rest a.0 a.1) n.0 p.text);
+      within = (n.1, p.at_is, p.behind_is);
+    })
+
+carry_sound : (rest : List ℕ) (said : ScriptLine) → carry_of rest ≡ Some said → IsSaid (codes "carry") rest said
+unfolding carry_of
+carry_sound rest said h =
+    let number = bind_some (number_of rest) _ said h in
+    let m = number_of-some rest number.0 number.1 in
+    subst (IsSaid (codes "carry") rest) (some_some _ _ number.2) (record { text = after (codes "carry") rest _ m.0; within = m.1 })
 
 -- ---- by the first word
 
@@ -460,7 +508,10 @@ word_sound word rest said =
     (by word rest said (codes "deliver") (deliver_of rest) _ (deliver_sound rest said)
     (by word rest said (codes "bent") (bent_of rest) _ (bent_sound rest said)
     (by word rest said (codes "inject") (inject_of rest) _ (inject_sound rest said)
-    (by word rest said (codes "forge") (forge_of rest) None (forge_sound rest said) (λ h. absurd (cc h)))))))))))))))))
+    (by word rest said (codes "forge") (forge_of rest) _ (forge_sound rest said)
+    (by word rest said (codes "translator") (translator_of rest) _ (translator_sound rest said)
+    (by word rest said (codes "place") (place_of rest) _ (place_sound rest said)
+    (by word rest said (codes "carry") (carry_of rest) None (carry_sound rest said) (λ h. absurd (cc h))))))))))))))))))))
 
 pub step_sound : (line : List ℕ) (said : ScriptLine) → step_of line ≡ Some said → IsLineOf line said
 unfolding step_of

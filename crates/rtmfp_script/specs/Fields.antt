@@ -1,10 +1,13 @@
 -- How the fields of a line are read, as functions.
-use Rattle.std.specs.Prelude.{ℕ, zero, suc, ◌+◌, ◌-◌, ◌*◌, ◌%◌, ◌^◌, ◌==◌, ◌&&◌, ◌||◌, nat_lt, nat_le, Bool, true, false, if◌then◌else◌, List, [], ◌∷◌, ◌++◌, length, drop, slice_index, replicate, Option, Some, None, Result, Ok, Err}
+use Rattle.std.specs.Prelude.{ℕ, zero, suc, ◌+◌, ◌-◌, ◌*◌, ◌%◌, ◌^◌, ◌==◌, ◌&&◌, ◌||◌, nat_lt, nat_le, Bool, true, false, if◌then◌else◌, List, [], ◌∷◌, ◌++◌, length, codes, drop, slice_index, replicate, Option, Some, None, Result, Ok, Err}
 use Rattle.std.specs.List.{list_all}
 use Rattle.std.specs.Char.{is_ascii_digit}
+use Rattle.std.specs.Str.{bytes_eq}
 use Rattle.hex.specs.Hex.{decode_pairs}
 use Rattle.hex.specs.declared.error.FromHexError.{FromHexError}
 use Rattle.rtmfp_forms.specs.Address.{AddressParts}
+use Rattle.translators.specs.declared.rule.Rule.{Rule}
+use Rattle.translators.specs.declared.rule.Rule.TheVariants.{Independent, Dependent}
 use Rattle.rtmfp_script.specs.Grammar.{is_name_byte, IsGiven}
 use Rattle.rtmfp_script.specs.declared.content.Content.{Content}
 use Rattle.rtmfp_script.specs.declared.content.Content.TheVariants.{Given, Counting}
@@ -48,6 +51,14 @@ is_cert rest =
 
 unfoldable pub cert_of : List ℕ → Option (List ℕ)
 cert_of rest = only_if (is_cert rest) rest
+
+-- ---- rules of translators
+
+unfoldable pub rule_of : List ℕ → Option Rule
+rule_of word =
+    if bytes_eq word (codes "independent") then Some Independent
+    else if bytes_eq word (codes "dependent") then Some Dependent
+    else None
 
 -- ---- numbers
 

@@ -2,10 +2,15 @@
 use Rattle.std.specs.Prelude.{◌≡◌, ℕ, zero, suc, ◌^◌, ◌%◌, ◌<◌, ◌≤◌, ◌&&◌, ◌||◌, nat_lt, nat_le, Bool, true, List, [], ◌∷◌, ◌++◌, map, length, codes, decimal, Option, Some, None}
 use Rattle.std.specs.List.{list_all}
 use Rattle.rtmfp_forms.specs.Address.{AddressParts, IsAddress}
-use Rattle.rtmfp_text.specs.AddressText.{address_text}
+use Rattle.rtmfp_text.specs.AddressText.{address_text, v4_host_text}
 use Rattle.rtmfp_text.specs.Words.{bytes_text, number_text}
+use Rattle.translators.specs.declared.rule.Rule.{Rule}
+use Rattle.translators.specs.declared.rule.Rule.TheVariants.{Independent, Dependent}
 use Rattle.rtmfp_script.specs.declared.line.ScriptLine.{ScriptLine}
-use Rattle.rtmfp_script.specs.declared.line.ScriptLine.TheVariants.{End, Introduce, Redirect, At, Open, Cancel, Close, Flow, Queue, Abandon, Finish, Tick, Deliver, Bent, Inject, Forge}
+use Rattle.rtmfp_script.specs.declared.line.ScriptLine.TheVariants.{End, At, Call, Towards, Bring, Translator, Place, Carry}
+use Rattle.rtmfp_script.specs.declared.line.CallLine.TheVariants.{Introduce, Cancel, Close, Flow, Queue, Abandon, Finish, Tick}
+use Rattle.rtmfp_script.specs.declared.line.AimLine.TheVariants.{Redirect, Open}
+use Rattle.rtmfp_script.specs.declared.line.BringLine.TheVariants.{Deliver, Bent, Inject, Forge}
 use Rattle.rtmfp_script.specs.declared.content.Content.{Content}
 use Rattle.rtmfp_script.specs.declared.content.Content.TheVariants.{Given, Counting}
 
@@ -38,36 +43,51 @@ abbrev pub word_for : Option ℕ → List (List ℕ)
 word_for None = []
 word_for (Some number) = decimal number ∷ []
 
+-- a name that is there where a translator is
+abbrev pub name_for : Option (List ℕ) → List (List ℕ)
+name_for None = []
+name_for (Some name) = name ∷ []
+
+abbrev pub rule_text : Rule → List ℕ
+rule_text Independent = codes "independent"
+rule_text Dependent = codes "dependent"
+
 -- the text of what a line says
 abbrev pub line_text : ScriptLine → List ℕ
 line_text (End name peers sessions cert) = words_text
     (codes "end" ∷ name ∷ decimal peers ∷ decimal sessions ∷ cert ∷ [])
-line_text (Introduce name) = words_text (codes "introduce" ∷ name ∷ [])
-line_text (Redirect name peer addresses) = words_text
+line_text (Call name Introduce) = words_text (codes "introduce" ∷ name ∷ [])
+line_text (Towards name peer addresses Redirect) = words_text
     (codes "redirect" ∷ name ∷ peer ∷ map address_text addresses)
 line_text (At moment) = words_text (codes "at" ∷ decimal moment ∷ [])
-line_text (Open name peer candidates) = words_text
+line_text (Towards name peer candidates Open) = words_text
     (codes "open" ∷ name ∷ peer ∷ map address_text candidates)
-line_text (Cancel name number) = words_text (codes "cancel" ∷ name ∷ decimal number ∷ [])
-line_text (Close name near) = words_text (codes "close" ∷ name ∷ decimal near ∷ [])
-line_text (Flow name near priority metadata answers) = words_text
+line_text (Call name (Cancel number)) = words_text (codes "cancel" ∷ name ∷ decimal number ∷ [])
+line_text (Call name (Close near)) = words_text (codes "close" ∷ name ∷ decimal near ∷ [])
+line_text (Call name (Flow near priority metadata answers)) = words_text
     (codes "flow" ∷ name ∷ decimal near ∷ decimal priority ∷ bytes_text metadata ∷ word_for answers)
-line_text (Queue name near flow deadline resends content) = words_text
+line_text (Call name (Queue near flow deadline resends content)) = words_text
     (codes "queue" ∷ name ∷ decimal near ∷ decimal flow ∷ number_text deadline ∷
     number_text resends ∷ content_text content ∷ [])
-line_text (Abandon name near flow seq) = words_text
+line_text (Call name (Abandon near flow seq)) = words_text
     (codes "abandon" ∷ name ∷ decimal near ∷ decimal flow ∷ decimal seq ∷ [])
-line_text (Finish name near flow) = words_text
+line_text (Call name (Finish near flow)) = words_text
     (codes "finish" ∷ name ∷ decimal near ∷ decimal flow ∷ [])
-line_text (Tick name) = words_text (codes "tick" ∷ name ∷ [])
-line_text (Deliver number name from) = words_text
+line_text (Call name Tick) = words_text (codes "tick" ∷ name ∷ [])
+line_text (Bring name from (Deliver number)) = words_text
     (codes "deliver" ∷ decimal number ∷ name ∷ address_text from ∷ [])
-line_text (Bent number place name from) = words_text
+line_text (Bring name from (Bent number place)) = words_text
     (codes "bent" ∷ decimal number ∷ decimal place ∷ name ∷ address_text from ∷ [])
-line_text (Inject name from bytes) = words_text
+line_text (Bring name from (Inject bytes)) = words_text
     (codes "inject" ∷ name ∷ address_text from ∷ bytes_text bytes ∷ [])
-line_text (Forge name from bytes) = words_text
+line_text (Bring name from (Forge bytes)) = words_text
     (codes "forge" ∷ name ∷ address_text from ∷ bytes_text bytes ∷ [])
+line_text (Translator name mapping filter host first) = words_text
+    (codes "translator" ∷ name ∷ rule_text mapping ∷ rule_text filter ∷ v4_host_text host ∷
+    decimal first ∷ [])
+line_text (Place name at behind) = words_text
+    (codes "place" ∷ name ∷ address_text at ∷ name_for behind)
+line_text (Carry number) = words_text (codes "carry" ∷ decimal number ∷ [])
 
 -- `a` to `z` and `0` to `9`
 abbrev pub is_name_byte : ℕ → Bool
@@ -94,6 +114,11 @@ abbrev pub EachIsPlainAddress : List AddressParts → Type 0
 EachIsPlainAddress [] = Unit {0}
 EachIsPlainAddress (address ∷ addresses) = IsPlainAddress address × EachIsPlainAddress addresses
 
+-- four numbers, which are the bytes of an IPv4 host
+pub record IsHost (host : List ℕ) : Type 0 where
+  pub size : length host ≡ 4
+  pub each : list_all (λ b. nat_lt b 256) host ≡ true
+
 -- at most so many bytes
 pub record IsBytesUpTo (most : ℕ) (bytes : List ℕ) : Type 0 where
   pub fits : length bytes ≤ most
@@ -112,31 +137,40 @@ abbrev pub IsBelow : ℕ → Option ℕ → Type 0
 IsBelow limit None = Unit {0}
 IsBelow limit (Some number) = number < limit
 
+-- a name, where there is one
+abbrev pub IsNameOrNone : Option (List ℕ) → Type 0
+IsNameOrNone None = Unit {0}
+IsNameOrNone (Some name) = IsName name
+
 -- what a line may say
 abbrev pub IsWithin : ScriptLine → Type 0
 IsWithin (End name peers sessions cert) = IsName name × (peers < 2 ^ 32) × (sessions < 2 ^ 32) ×
     IsCert cert
-IsWithin (Introduce name) = IsName name
-IsWithin (Redirect name peer addresses) = IsName name × IsName peer × (1 ≤ length addresses) ×
+IsWithin (Call name Introduce) = IsName name
+IsWithin (Towards name peer addresses Redirect) = IsName name × IsName peer × (1 ≤ length addresses) ×
     (length addresses ≤ 16) × EachIsPlainAddress addresses
 IsWithin (At moment) = moment < 2 ^ 64
-IsWithin (Open name peer candidates) = IsName name × IsName peer × (length candidates ≤ 32) ×
+IsWithin (Towards name peer candidates Open) = IsName name × IsName peer × (length candidates ≤ 32) ×
     EachIsPlainAddress candidates
-IsWithin (Cancel name number) = IsName name × (number < 2 ^ 64)
-IsWithin (Close name near) = IsName name × (near < 2 ^ 32)
-IsWithin (Flow name near priority metadata answers) = IsName name × (near < 2 ^ 32) ×
+IsWithin (Call name (Cancel number)) = IsName name × (number < 2 ^ 64)
+IsWithin (Call name (Close near)) = IsName name × (near < 2 ^ 32)
+IsWithin (Call name (Flow near priority metadata answers)) = IsName name × (near < 2 ^ 32) ×
     (priority < 256) × AreBytes metadata × IsBelow (2 ^ 64) answers
-IsWithin (Queue name near flow deadline resends content) = IsName name × (near < 2 ^ 32) ×
+IsWithin (Call name (Queue near flow deadline resends content)) = IsName name × (near < 2 ^ 32) ×
     (flow < 2 ^ 64) × IsBelow (2 ^ 64) deadline × IsBelow (2 ^ 32) resends × IsContent content
-IsWithin (Abandon name near flow seq) = IsName name × (near < 2 ^ 32) × (flow < 2 ^ 64) ×
+IsWithin (Call name (Abandon near flow seq)) = IsName name × (near < 2 ^ 32) × (flow < 2 ^ 64) ×
     (seq < 2 ^ 64)
-IsWithin (Finish name near flow) = IsName name × (near < 2 ^ 32) × (flow < 2 ^ 64)
-IsWithin (Tick name) = IsName name
-IsWithin (Deliver number name from) = (number < 2 ^ 64) × IsName name × IsPlainAddress from
-IsWithin (Bent number place name from) = (number < 2 ^ 64) × (place < 2 ^ 64) × IsName name ×
+IsWithin (Call name (Finish near flow)) = IsName name × (near < 2 ^ 32) × (flow < 2 ^ 64)
+IsWithin (Call name Tick) = IsName name
+IsWithin (Bring name from (Deliver number)) = (number < 2 ^ 64) × IsName name × IsPlainAddress from
+IsWithin (Bring name from (Bent number place)) = (number < 2 ^ 64) × (place < 2 ^ 64) × IsName name ×
     IsPlainAddress from
-IsWithin (Inject name from bytes) = IsName name × IsPlainAddress from × IsBytesUpTo 2048 bytes
-IsWithin (Forge name from bytes) = IsName name × IsPlainAddress from × IsBytesUpTo 1164 bytes
+IsWithin (Bring name from (Inject bytes)) = IsName name × IsPlainAddress from × IsBytesUpTo 2048 bytes
+IsWithin (Bring name from (Forge bytes)) = IsName name × IsPlainAddress from × IsBytesUpTo 1164 bytes
+IsWithin (Translator name mapping filter host first) = IsName name × IsHost host ×
+    (first < 2 ^ 16)
+IsWithin (Place name at behind) = IsName name × IsPlainAddress at × IsNameOrNone behind
+IsWithin (Carry number) = number < 2 ^ 64
 
 -- the bytes stand in digits
 abbrev pub IsGiven : Content → Type 0
@@ -145,22 +179,11 @@ IsGiven (Counting count) = ⊥
 
 -- what is read of the line takes memory
 abbrev pub TakesMemory : ScriptLine → Type 0
-TakesMemory (Inject name from bytes) = Unit {0}
-TakesMemory (Forge name from bytes) = Unit {0}
-TakesMemory (Flow name near priority metadata answers) = Unit {0}
-TakesMemory (Queue name near flow deadline resends content) = IsGiven content
-TakesMemory (End name peers sessions cert) = ⊥
-TakesMemory (Introduce name) = ⊥
-TakesMemory (Redirect name peer addresses) = ⊥
-TakesMemory (At moment) = ⊥
-TakesMemory (Open name peer candidates) = ⊥
-TakesMemory (Cancel name number) = ⊥
-TakesMemory (Close name near) = ⊥
-TakesMemory (Abandon name near flow seq) = ⊥
-TakesMemory (Finish name near flow) = ⊥
-TakesMemory (Tick name) = ⊥
-TakesMemory (Deliver number name from) = ⊥
-TakesMemory (Bent number place name from) = ⊥
+TakesMemory (Bring name from (Inject bytes)) = Unit {0}
+TakesMemory (Bring name from (Forge bytes)) = Unit {0}
+TakesMemory (Call name (Flow near priority metadata answers)) = Unit {0}
+TakesMemory (Call name (Queue near flow deadline resends content)) = IsGiven content
+TakesMemory other = ⊥
 
 -- the longest line, without its LF
 abbrev pub line_limit : ℕ

@@ -3,11 +3,14 @@ use Rattle.std.specs.Prelude.{ℕ, ◌^◌, nat_le, List, [], length, codes, Opt
 use Rattle.std.specs.Str.{bytes_eq}
 use Rattle.rtmfp_forms.specs.Address.{AddressParts}
 use Rattle.rtmfp_script.specs.declared.line.ScriptLine.{ScriptLine}
-use Rattle.rtmfp_script.specs.declared.line.ScriptLine.TheVariants.{End, Introduce, Redirect, At, Open, Cancel, Close, Flow, Queue, Abandon, Finish, Tick, Deliver, Bent, Inject, Forge}
+use Rattle.rtmfp_script.specs.declared.line.ScriptLine.TheVariants.{End, At, Call, Towards, Bring, Translator, Place, Carry}
+use Rattle.rtmfp_script.specs.declared.line.CallLine.TheVariants.{Introduce, Cancel, Close, Flow, Queue, Abandon, Finish, Tick}
+use Rattle.rtmfp_script.specs.declared.line.AimLine.TheVariants.{Redirect, Open}
+use Rattle.rtmfp_script.specs.declared.line.BringLine.TheVariants.{Deliver, Bent, Inject, Forge}
 use Rattle.rtmfp_script.specs.declared.line.Said.{Said}
 use Rattle.rtmfp_script.specs.declared.line.Said.TheVariants.{Nothing, Step, Outside}
 use Rattle.rtmfp_script.specs.Grammar.{IsLineOf, IsSkipped, TakesMemory, line_limit}
-use Rattle.rtmfp_script.specs.Fields.{split_of, name_of, cert_of, number_of, number_below, bytes_of, hexadecimal_of, limit_by, content_of, address_of, addresses_of, either, ◌>>=◌}
+use Rattle.rtmfp_script.specs.Fields.{split_of, name_of, cert_of, number_of, number_below, bytes_of, hexadecimal_of, limit_by, content_of, rule_of, v4_of, address_of, addresses_of, either, ◌>>=◌}
 
 -- what stands behind the first word of a line
 unfoldable pub end_of : List ℕ → Option ScriptLine
@@ -22,12 +25,12 @@ end_of rest =
     Some (End name peers sessions cert)
 
 unfoldable pub introduce_of : List ℕ → Option ScriptLine
-introduce_of rest = name_of rest >>= λ name. Some (Introduce name)
+introduce_of rest = name_of rest >>= λ name. Some (Call name Introduce)
 
 -- a row of these addresses, where they are 16 at most
 abbrev pub row_said : List ℕ → List ℕ → List AddressParts → Option ScriptLine
 row_said name peer addresses =
-    if nat_le (length addresses) 16 then Some (Redirect name peer addresses) else None
+    if nat_le (length addresses) 16 then Some (Towards name peer addresses Redirect) else None
 
 unfoldable pub redirect_of : List ℕ → Option ScriptLine
 redirect_of rest =
@@ -43,9 +46,9 @@ at_of rest = number_of rest >>= λ moment. Some (At moment)
 
 unfoldable pub open_to : List ℕ → List ℕ → Option ScriptLine
 open_to name rest = either
-    (name_of rest >>= λ peer. Some (Open name peer []))
+    (name_of rest >>= λ peer. Some (Towards name peer [] Open))
     (λ parts. name_of parts.0 >>= λ peer. addresses_of parts.1 >>= λ candidates. Some
-    (Open name peer candidates))
+    (Towards name peer candidates Open))
     (split_of 32 rest)
 
 unfoldable pub open_of : List ℕ → Option ScriptLine
@@ -56,14 +59,14 @@ cancel_of rest =
     split_of 32 rest >>= λ a.
     name_of a.0 >>= λ name.
     number_of a.1 >>= λ number.
-    Some (Cancel name number)
+    Some (Call name (Cancel number))
 
 unfoldable pub close_of : List ℕ → Option ScriptLine
 close_of rest =
     split_of 32 rest >>= λ a.
     name_of a.0 >>= λ name.
     number_below (2 ^ 32) a.1 >>= λ near.
-    Some (Close name near)
+    Some (Call name (Close near))
 
 -- a word, and the number behind it, where there is one
 unfoldable pub answers_of : List ℕ → Option (List ℕ × Option ℕ)
@@ -87,7 +90,7 @@ flow_in name near rest =
     number_below 256 a.0 >>= λ priority.
     answers_of a.1 >>= λ b.
     hexadecimal_of b.0 >>= λ metadata.
-    Some (Flow name near priority metadata b.1)
+    Some (Call name (Flow near priority metadata b.1))
 
 unfoldable pub flow_of : List ℕ → Option ScriptLine
 flow_of rest = session_at rest >>= λ s. flow_in s.0 s.1 s.2
@@ -102,7 +105,7 @@ queue_in name near rest =
     limit_by number_of b.0 >>= λ deadline.
     limit_by (number_below (2 ^ 32)) c.0 >>= λ resends.
     content_of c.1 >>= λ content.
-    Some (Queue name near flow deadline resends content)
+    Some (Call name (Queue near flow deadline resends content))
 
 unfoldable pub queue_of : List ℕ → Option ScriptLine
 queue_of rest = session_at rest >>= λ s. queue_in s.0 s.1 s.2
@@ -116,7 +119,7 @@ abandon_of rest =
     number_below (2 ^ 32) b.0 >>= λ near.
     number_of c.0 >>= λ flow.
     number_of c.1 >>= λ seq.
-    Some (Abandon name near flow seq)
+    Some (Call name (Abandon near flow seq))
 
 unfoldable pub finish_of : List ℕ → Option ScriptLine
 finish_of rest =
@@ -125,10 +128,10 @@ finish_of rest =
     name_of a.0 >>= λ name.
     number_below (2 ^ 32) b.0 >>= λ near.
     number_of b.1 >>= λ flow.
-    Some (Finish name near flow)
+    Some (Call name (Finish near flow))
 
 unfoldable pub tick_of : List ℕ → Option ScriptLine
-tick_of rest = name_of rest >>= λ name. Some (Tick name)
+tick_of rest = name_of rest >>= λ name. Some (Call name Tick)
 
 unfoldable pub deliver_of : List ℕ → Option ScriptLine
 deliver_of rest =
@@ -137,7 +140,7 @@ deliver_of rest =
     number_of a.0 >>= λ number.
     name_of b.0 >>= λ name.
     address_of b.1 >>= λ from.
-    Some (Deliver number name from)
+    Some (Bring name from (Deliver number))
 
 unfoldable pub bent_of : List ℕ → Option ScriptLine
 bent_of rest =
@@ -148,7 +151,7 @@ bent_of rest =
     number_of b.0 >>= λ place.
     name_of c.0 >>= λ name.
     address_of c.1 >>= λ from.
-    Some (Bent number place name from)
+    Some (Bring name from (Bent number place))
 
 -- an end, an address, and bytes, at most so many
 unfoldable pub bytes_at : ℕ → List ℕ → Option (List ℕ × AddressParts × List ℕ)
@@ -161,10 +164,36 @@ bytes_at most rest =
     Some (name, from, bytes)
 
 unfoldable pub inject_of : List ℕ → Option ScriptLine
-inject_of rest = bytes_at 2048 rest >>= λ d. Some (Inject d.0 d.1 d.2)
+inject_of rest = bytes_at 2048 rest >>= λ d. Some (Bring d.0 d.1 (Inject d.2))
 
 unfoldable pub forge_of : List ℕ → Option ScriptLine
-forge_of rest = bytes_at 1164 rest >>= λ d. Some (Forge d.0 d.1 d.2)
+forge_of rest = bytes_at 1164 rest >>= λ d. Some (Bring d.0 d.1 (Forge d.2))
+
+unfoldable pub translator_of : List ℕ → Option ScriptLine
+translator_of rest =
+    split_of 32 rest >>= λ a.
+    split_of 32 a.1 >>= λ b.
+    split_of 32 b.1 >>= λ c.
+    split_of 32 c.1 >>= λ d.
+    name_of a.0 >>= λ name.
+    rule_of b.0 >>= λ mapping.
+    rule_of c.0 >>= λ filter.
+    v4_of d.0 >>= λ host.
+    number_below (2 ^ 16) d.1 >>= λ first.
+    Some (Translator name mapping filter host first)
+
+unfoldable pub place_at : List ℕ → List ℕ → Option ScriptLine
+place_at name rest = either
+    (address_of rest >>= λ at. Some (Place name at None))
+    (λ parts. address_of parts.0 >>= λ at. name_of parts.1 >>= λ behind. Some
+    (Place name at (Some behind)))
+    (split_of 32 rest)
+
+unfoldable pub place_of : List ℕ → Option ScriptLine
+place_of rest = split_of 32 rest >>= λ a. name_of a.0 >>= λ name. place_at name a.1
+
+unfoldable pub carry_of : List ℕ → Option ScriptLine
+carry_of rest = number_of rest >>= λ number. Some (Carry number)
 
 -- by the first word, and what stands behind its space
 unfoldable pub word_of : List ℕ → List ℕ → Option ScriptLine
@@ -185,6 +214,9 @@ word_of word rest =
     else if bytes_eq word (codes "bent") then bent_of rest
     else if bytes_eq word (codes "inject") then inject_of rest
     else if bytes_eq word (codes "forge") then forge_of rest
+    else if bytes_eq word (codes "translator") then translator_of rest
+    else if bytes_eq word (codes "place") then place_of rest
+    else if bytes_eq word (codes "carry") then carry_of rest
     else None
 
 unfoldable pub step_of : List ℕ → Option ScriptLine

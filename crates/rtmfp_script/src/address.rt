@@ -52,7 +52,7 @@ fn v6_host(rest: &[u8]) -> Option<[u8; 16]>
 
 /// The host of four numbers with points between them.
 #[tactic(auto, unfolding(crate::specs::Fields::v4_of))]
-fn v4_host(host: &[u8]) -> Option<[u8; 4]>
+pub(crate) fn v4_host(host: &[u8]) -> Option<[u8; 4]>
     ensures { result ≡ v4_of host.now }
 {
     let (first, rest) = split(b'.', host)?;

@@ -5,7 +5,7 @@ ghost use Rattle.rtmfp_script.specs.Lines.{abandon_of, answers_of, finish_of, fl
 use crate::bytes::hexadecimal;
 use crate::content::read_content;
 use crate::fields::{limit, limit32, name, number, number8, number32, split};
-use crate::line::ScriptLine;
+use crate::line::{CallLine, ScriptLine};
 use rtmfp_base::Memory;
 use rtmfp_text::Name;
 use std::alloc::Global;
@@ -50,13 +50,13 @@ fn flow_in(alloc: Global, name: Name, near: u32, rest: &[u8]) -> Result<Option<S
     let Some(metadata) = hexadecimal(alloc, word)? else {
         return Ok(None);
     };
-    Ok(Some(ScriptLine::Flow {
-        name,
+    let call = CallLine::Flow {
         near,
         priority,
         metadata,
         answers,
-    }))
+    };
+    Ok(Some(ScriptLine::Call { name, call }))
 }
 
 /// A word, and the number behind it, where there is one.
@@ -109,14 +109,14 @@ fn queue_in(alloc: Global, name: Name, near: u32, rest: &[u8]) -> Result<Option<
     let Some(content) = read_content(alloc, rest)? else {
         return Ok(None);
     };
-    Ok(Some(ScriptLine::Queue {
-        name,
+    let call = CallLine::Queue {
         near,
         flow,
         deadline,
         resends,
         content,
-    }))
+    };
+    Ok(Some(ScriptLine::Call { name, call }))
 }
 
 #[tactic(auto, unfolding(crate::specs::Lines::abandon_of))]
@@ -126,11 +126,13 @@ pub(crate) fn read_abandon(rest: &[u8]) -> Option<ScriptLine>
     let (first, rest) = split(b' ', rest)?;
     let (second, rest) = split(b' ', rest)?;
     let (third, rest) = split(b' ', rest)?;
-    Some(ScriptLine::Abandon {
+    Some(ScriptLine::Call {
         name: name(first)?,
-        near: number32(second)?,
-        flow: number(third)?,
-        seq: number(rest)?,
+        call: CallLine::Abandon {
+            near: number32(second)?,
+            flow: number(third)?,
+            seq: number(rest)?,
+        },
     })
 }
 
@@ -140,9 +142,11 @@ pub(crate) fn read_finish(rest: &[u8]) -> Option<ScriptLine>
 {
     let (first, rest) = split(b' ', rest)?;
     let (second, rest) = split(b' ', rest)?;
-    Some(ScriptLine::Finish {
+    Some(ScriptLine::Call {
         name: name(first)?,
-        near: number32(second)?,
-        flow: number(rest)?,
+        call: CallLine::Finish {
+            near: number32(second)?,
+            flow: number(rest)?,
+        },
     })
 }

@@ -7,6 +7,7 @@ use rtmfp_base::Message;
 use rtmfp_forms::Address;
 use rtmfp_text::Name;
 use std::marker::Model;
+use translators::Rule;
 
 /// The most addresses of an `open` (own).
 pub(crate) const MOST_CANDIDATES: usize = 32;
@@ -59,6 +60,101 @@ impl Candidates {
     }
 }
 
+/// What an end is called to do by a line that names no other end (own form).
+#[derive(Drop)]
+pub enum CallLine {
+    /// `introduce NAME`: it introduces others to each other from now on.
+    Introduce,
+    /// `cancel NAME N`: it gives an attempt up.
+    Cancel {
+        /// The number of the attempt.
+        number: u64,
+    },
+    /// `close NAME ID`: it closes a session.
+    Close {
+        /// The session's ID at this end.
+        near: u32,
+    },
+    /// `flow NAME ID PRIORITY META` or `flow NAME ID PRIORITY META ANSWERS`: it opens a flow.
+    Flow {
+        /// The session's ID at this end.
+        near: u32,
+        /// The flow's priority.
+        priority: u8,
+        /// The flow's metadata.
+        metadata: Message,
+        /// The ID of the flow that it answers.
+        answers: Option<u64>,
+    },
+    /// `queue NAME ID FLOW DEADLINE RESENDS BYTES`: it queues a message in a flow.
+    Queue {
+        /// The session's ID at this end.
+        near: u32,
+        /// The flow's ID.
+        flow: u64,
+        /// The moment after which the message is abandoned.
+        deadline: Option<u64>,
+        /// How often a lost fragment of it is sent again at most.
+        resends: Option<u32>,
+        /// The message.
+        content: Content,
+    },
+    /// `abandon NAME ID FLOW SEQ`: it gives a message up.
+    Abandon {
+        /// The session's ID at this end.
+        near: u32,
+        /// The flow's ID.
+        flow: u64,
+        /// The number of the message's first fragment.
+        seq: u64,
+    },
+    /// `finish NAME ID FLOW`: it finishes a flow.
+    Finish {
+        /// The session's ID at this end.
+        near: u32,
+        /// The flow's ID.
+        flow: u64,
+    },
+    /// `tick NAME`: it does what is due.
+    Tick,
+}
+
+/// What an end does towards a peer, with addresses.
+#[derive(Clone, Copy, Drop)]
+pub enum AimLine {
+    /// `redirect NAME PEER ADDR ...`: it answers hellos for the peer with these, 1 to 16.
+    Redirect,
+    /// `open NAME PEER ADDR ...`: it opens towards the peer, and tries these.
+    Open,
+}
+
+/// What is brought to an end.
+#[derive(Drop)]
+pub enum BringLine {
+    /// `deliver D NAME ADDR`: a datagram that was sent.
+    Deliver {
+        /// Which of the datagrams of the run, counted from 1.
+        number: u64,
+    },
+    /// `bent D PLACE NAME ADDR`: the same with the lowest bit of one byte turned.
+    Bent {
+        /// Which of the datagrams of the run, counted from 1.
+        number: u64,
+        /// The place of the byte, counted from 0.
+        place: u64,
+    },
+    /// `inject NAME ADDR HEX`: these bytes.
+    Inject {
+        /// At most 2,048 bytes.
+        bytes: Message,
+    },
+    /// `forge NAME ADDR HEX`: this plain packet, sealed in the startup context.
+    Forge {
+        /// At most 1,164 bytes.
+        bytes: Message,
+    },
+}
+
 /// What a line of a script says: one step (own form). Addresses have origin 0.
 #[derive(Drop)]
 pub enum ScriptLine {
@@ -73,138 +169,64 @@ pub enum ScriptLine {
         /// Its certificate.
         cert: Certificate,
     },
-    /// `introduce NAME`: the end introduces others to each other from now on.
-    Introduce {
-        /// The end.
-        name: Name,
-    },
-    /// `redirect NAME PEER ADDR ...`: the end answers hellos for the peer with addresses.
-    Redirect {
-        /// The end.
-        name: Name,
-        /// The end that is sought.
-        peer: Name,
-        /// Where it may be, 1 to 16 addresses.
-        addresses: Candidates,
-    },
     /// `at MS`: the moment of all ends from now on, in milliseconds.
     At {
         /// The moment.
         moment: u64,
     },
-    /// `open NAME PEER ADDR ...`: the end opens towards the peer.
-    Open {
+    /// An end is called.
+    Call {
+        /// The end.
+        name: Name,
+        /// What it does.
+        call: CallLine,
+    },
+    /// An end is called towards a peer.
+    Towards {
         /// The end.
         name: Name,
         /// The end that is sought.
         peer: Name,
-        /// Where to try.
-        candidates: Candidates,
+        /// Where it may be.
+        addresses: Candidates,
+        /// What the end does.
+        aim: AimLine,
     },
-    /// `cancel NAME N`: the end gives an attempt up.
-    Cancel {
+    /// A datagram reaches an end.
+    Bring {
         /// The end.
         name: Name,
-        /// The number of the attempt.
-        number: u64,
+        /// Where it comes from.
+        from: Address,
+        /// Which.
+        what: BringLine,
     },
-    /// `close NAME ID`: the end closes a session.
-    Close {
+    /// `translator T MAPPING FILTER HOST FIRST`: a new translator of addresses.
+    Translator {
+        /// What the script calls it.
+        name: Name,
+        /// For what it makes a mapping.
+        mapping: Rule,
+        /// Whom it lets in.
+        filter: Rule,
+        /// Its public host.
+        host: [u8; 4],
+        /// The first of its ports, which may be 0 in the grammar alone.
+        first: u16,
+    },
+    /// `place NAME ADDR` or `place NAME ADDR T`: where an end is from now on.
+    Place {
         /// The end.
         name: Name,
-        /// The session's ID at this end.
-        near: u32,
+        /// Its address there.
+        at: Address,
+        /// The translator that it is behind.
+        behind: Option<Name>,
     },
-    /// `flow NAME ID PRIORITY META` or `flow NAME ID PRIORITY META ANSWERS`: the end opens a flow.
-    Flow {
-        /// The end.
-        name: Name,
-        /// The session's ID at this end.
-        near: u32,
-        /// The flow's priority.
-        priority: u8,
-        /// The flow's metadata.
-        metadata: Message,
-        /// The ID of the flow that it answers.
-        answers: Option<u64>,
-    },
-    /// `queue NAME ID FLOW DEADLINE RESENDS BYTES`: the end queues a message in a flow.
-    Queue {
-        /// The end.
-        name: Name,
-        /// The session's ID at this end.
-        near: u32,
-        /// The flow's ID.
-        flow: u64,
-        /// The moment after which the message is abandoned.
-        deadline: Option<u64>,
-        /// How often a lost fragment of it is sent again at most.
-        resends: Option<u32>,
-        /// The message.
-        content: Content,
-    },
-    /// `abandon NAME ID FLOW SEQ`: the end gives a message up.
-    Abandon {
-        /// The end.
-        name: Name,
-        /// The session's ID at this end.
-        near: u32,
-        /// The flow's ID.
-        flow: u64,
-        /// The number of the message's first fragment.
-        seq: u64,
-    },
-    /// `finish NAME ID FLOW`: the end finishes a flow.
-    Finish {
-        /// The end.
-        name: Name,
-        /// The session's ID at this end.
-        near: u32,
-        /// The flow's ID.
-        flow: u64,
-    },
-    /// `tick NAME`: the end does what is due.
-    Tick {
-        /// The end.
-        name: Name,
-    },
-    /// `deliver D NAME ADDR`: a datagram that was sent reaches an end.
-    Deliver {
+    /// `carry D`: a datagram that was sent goes from its sender's place to where it was sent to.
+    Carry {
         /// Which of the datagrams of the run, counted from 1.
         number: u64,
-        /// The end.
-        name: Name,
-        /// Where it comes from.
-        from: Address,
-    },
-    /// `bent D PLACE NAME ADDR`: the same with the lowest bit of one byte turned.
-    Bent {
-        /// Which of the datagrams of the run, counted from 1.
-        number: u64,
-        /// The place of the byte, counted from 0.
-        place: u64,
-        /// The end.
-        name: Name,
-        /// Where it comes from.
-        from: Address,
-    },
-    /// `inject NAME ADDR HEX`: these bytes reach an end.
-    Inject {
-        /// The end.
-        name: Name,
-        /// Where they come from.
-        from: Address,
-        /// At most 2,048 bytes.
-        bytes: Message,
-    },
-    /// `forge NAME ADDR HEX`: this plain packet, sealed in the startup context, reaches an end.
-    Forge {
-        /// The end.
-        name: Name,
-        /// Where it comes from.
-        from: Address,
-        /// At most 1,164 bytes.
-        bytes: Message,
     },
 }
 

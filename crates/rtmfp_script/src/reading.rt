@@ -7,7 +7,8 @@ use crate::address::{address, addresses};
 use crate::bytes::bytes;
 use crate::fields::{cert, name, number, number32, split};
 use crate::flows::{read_abandon, read_finish, read_flow, read_queue};
-use crate::line::{Candidates, Said, ScriptLine};
+use crate::line::{AimLine, BringLine, CallLine, Candidates, Said, ScriptLine};
+use crate::placing::{read_carry, read_place, read_translator};
 use rtmfp_base::limits::{CANDIDATES, LINE, PLAIN, TAKEN};
 use rtmfp_base::{Memory, Message};
 use rtmfp_forms::Address;
@@ -33,7 +34,10 @@ fn read_end(rest: &[u8]) -> Option<ScriptLine>
 fn read_introduce(rest: &[u8]) -> Option<ScriptLine>
     ensures { result ≡ introduce_of rest.now }
 {
-    Some(ScriptLine::Introduce { name: name(rest)? })
+    Some(ScriptLine::Call {
+        name: name(rest)?,
+        call: CallLine::Introduce,
+    })
 }
 
 #[tactic(auto, unfolding(crate::specs::Lines::redirect_of))]
@@ -52,10 +56,11 @@ fn row_said(name: Name, peer: Name, addresses: Candidates) -> Option<ScriptLine>
     if addresses.as_slice().len() > CANDIDATES {
         return None;
     }
-    Some(ScriptLine::Redirect {
+    Some(ScriptLine::Towards {
         name,
         peer,
         addresses,
+        aim: AimLine::Redirect,
     })
 }
 
@@ -82,15 +87,17 @@ fn open_to(name: Name, rest: &[u8]) -> Option<ScriptLine>
     ensures { result ≡ open_to name rest.now }
 {
     match split(b' ', rest) {
-        Some((first, rest)) => Some(ScriptLine::Open {
+        Some((first, rest)) => Some(ScriptLine::Towards {
             name,
             peer: crate::fields::name(first)?,
-            candidates: addresses(rest)?,
+            addresses: addresses(rest)?,
+            aim: AimLine::Open,
         }),
-        None => Some(ScriptLine::Open {
+        None => Some(ScriptLine::Towards {
             name,
             peer: crate::fields::name(rest)?,
-            candidates: Candidates::new(),
+            addresses: Candidates::new(),
+            aim: AimLine::Open,
         }),
     }
 }
@@ -100,9 +107,11 @@ fn read_cancel(rest: &[u8]) -> Option<ScriptLine>
     ensures { result ≡ cancel_of rest.now }
 {
     let (first, rest) = split(b' ', rest)?;
-    Some(ScriptLine::Cancel {
+    Some(ScriptLine::Call {
         name: name(first)?,
-        number: number(rest)?,
+        call: CallLine::Cancel {
+            number: number(rest)?,
+        },
     })
 }
 
@@ -111,9 +120,11 @@ fn read_close(rest: &[u8]) -> Option<ScriptLine>
     ensures { result ≡ close_of rest.now }
 {
     let (first, rest) = split(b' ', rest)?;
-    Some(ScriptLine::Close {
+    Some(ScriptLine::Call {
         name: name(first)?,
-        near: number32(rest)?,
+        call: CallLine::Close {
+            near: number32(rest)?,
+        },
     })
 }
 
@@ -121,7 +132,10 @@ fn read_close(rest: &[u8]) -> Option<ScriptLine>
 fn read_tick(rest: &[u8]) -> Option<ScriptLine>
     ensures { result ≡ tick_of rest.now }
 {
-    Some(ScriptLine::Tick { name: name(rest)? })
+    Some(ScriptLine::Call {
+        name: name(rest)?,
+        call: CallLine::Tick,
+    })
 }
 
 #[tactic(auto, unfolding(crate::specs::Lines::deliver_of))]
@@ -130,10 +144,11 @@ fn read_deliver(rest: &[u8]) -> Option<ScriptLine>
 {
     let (first, rest) = split(b' ', rest)?;
     let (second, rest) = split(b' ', rest)?;
-    Some(ScriptLine::Deliver {
-        number: number(first)?,
+    let number = number(first)?;
+    Some(ScriptLine::Bring {
         name: name(second)?,
         from: address(rest)?,
+        what: BringLine::Deliver { number },
     })
 }
 
@@ -144,11 +159,14 @@ fn read_bent(rest: &[u8]) -> Option<ScriptLine>
     let (first, rest) = split(b' ', rest)?;
     let (second, rest) = split(b' ', rest)?;
     let (third, rest) = split(b' ', rest)?;
-    Some(ScriptLine::Bent {
+    let what = BringLine::Bent {
         number: number(first)?,
         place: number(second)?,
+    };
+    Some(ScriptLine::Bring {
         name: name(third)?,
         from: address(rest)?,
+        what,
     })
 }
 
@@ -189,7 +207,11 @@ fn read_inject(alloc: Global, rest: &[u8]) -> Result<Option<ScriptLine>, Memory>
     let Some((name, from, bytes)) = bytes_at(alloc, rest, TAKEN)? else {
         return Ok(None);
     };
-    Ok(Some(ScriptLine::Inject { name, from, bytes }))
+    Ok(Some(ScriptLine::Bring {
+        name,
+        from,
+        what: BringLine::Inject { bytes },
+    }))
 }
 
 #[tactic(auto, unfolding(crate::specs::Lines::forge_of))]
@@ -200,7 +222,11 @@ fn read_forge(alloc: Global, rest: &[u8]) -> Result<Option<ScriptLine>, Memory>
     let Some((name, from, bytes)) = bytes_at(alloc, rest, PLAIN)? else {
         return Ok(None);
     };
-    Ok(Some(ScriptLine::Forge { name, from, bytes }))
+    Ok(Some(ScriptLine::Bring {
+        name,
+        from,
+        what: BringLine::Forge { bytes },
+    }))
 }
 
 /// Reads what stands behind the first word of a line.
@@ -256,6 +282,15 @@ fn read_word(alloc: Global, word: &[u8], rest: &[u8]) -> Result<Option<ScriptLin
     }
     if word == b"forge".as_slice() {
         return read_forge(alloc, rest);
+    }
+    if word == b"translator".as_slice() {
+        return Ok(read_translator(rest));
+    }
+    if word == b"place".as_slice() {
+        return Ok(read_place(rest));
+    }
+    if word == b"carry".as_slice() {
+        return Ok(read_carry(rest));
     }
     Ok(None)
 }

@@ -2,7 +2,7 @@
 //! shown by the script of the program `rtmfp_called`; what bytes count, here.
 
 use crate::cli::field;
-use rtmfp_script::{Said, ScriptLine, read_line};
+use rtmfp_script::{CallLine, Said, ScriptLine, read_line};
 use rtmfp_text::Text;
 use std::alloc::Global;
 use std::test::Fail;
@@ -74,6 +74,34 @@ finish a 1
 finish a 4294967296 0
 finish a 1 18446744073709551616
 finish a 1 0 0
+translator s independent dependent 10.1.0.1
+translator s independent dependent 10.1.0.1 
+translator s independent dependent 10.1.0.1 65536
+translator s independent dependent 10.1.0.1 01
+translator s independent dependent 10.1.0.1 1 1
+translator s independent dependent 10.1.0.1:1 1
+translator s independent dependent 10.1.0 1
+translator s independent dependent 10.1.0.256 1
+translator s independent dependent [000102030405060708090a0b0c0d0e0f] 1
+translator s independent Dependent 10.1.0.1 1
+translator s both dependent 10.1.0.1 1
+translator s independent 10.1.0.1 1
+translator S independent dependent 10.1.0.1 1
+translator s  independent dependent 10.1.0.1 1
+place a
+place a 
+place a 1.2.3.4
+place a 1.2.3.4:5 
+place a 1.2.3.4:5 S
+place a 1.2.3.4:5 s t
+place a 1.2.3.4:5 s 
+place 1.2.3.4:5
+carry
+carry 
+carry 01
+carry -
+carry 18446744073709551616
+carry 1 a
 ";
 
 /// Lines in the grammar, at the limits of their fields.
@@ -92,6 +120,14 @@ abandon a 0 0 0
 abandon a 4294967295 18446744073709551615 18446744073709551615
 finish a 0 0
 finish a 4294967295 18446744073709551615
+translator s independent dependent 10.1.0.1 0
+translator s dependent independent 255.255.255.255 65535
+place a 1.2.3.4:5
+place a [000102030405060708090a0b0c0d0e0f]:65535
+place a 1.2.3.4:5 a
+place a [000102030405060708090a0b0c0d0e0f]:0 abcdefghijklmnop
+carry 0
+carry 18446744073709551615
 ";
 
 /// A line, which has a part again and again behind its head.
@@ -136,9 +172,12 @@ fn first_other(alloc: Global) -> Result<Option<&'static str>, Fail> {
 /// The message that a line queues.
 fn message_of(alloc: Global, line: &str) -> Result<Vec<u8>, Fail> {
     match read_line(alloc, line.as_bytes())? {
-        Said::Step(ScriptLine::Queue { content, .. }) => {
-            Ok(content.into_message(alloc)?.into_bytes())
-        }
+        Said::Step(
+            ScriptLine::Call {
+                call: CallLine::Queue { content, .. },
+                ..
+            },
+        ) => Ok(content.into_message(alloc)?.into_bytes()),
         Said::Step(_) => Ok(Vec::new(alloc)),
         Said::Nothing => Ok(Vec::new(alloc)),
         Said::Outside => Ok(Vec::new(alloc)),

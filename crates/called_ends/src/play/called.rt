@@ -4,7 +4,7 @@ use endpoint::{CallRefusal, Draws, Endpoint, MessageOptions, OpenRefusal, Outbox
 use identity::Epd;
 use rtmfp_base::Message;
 use rtmfp_forms::Address;
-use rtmfp_script::ScriptLine;
+use rtmfp_script::{AimLine, CallLine, Candidates};
 
 /// The longest datagram that an end is given.
 const LONGEST: usize = 2048;
@@ -12,11 +12,15 @@ const LONGEST: usize = 2048;
 /// What is done with an end.
 #[derive(Drop)]
 pub(crate) enum Deed {
-    /// A step of a script that brings no datagram and no message, with the fingerprint of the peer
-    /// that it names, where it does.
-    Step {
-        step: ScriptLine,
+    /// A line of a script that brings no message and names no other end.
+    Call {
+        call: CallLine,
+    },
+    /// A line of a script that names a peer, with the fingerprint of that.
+    Aim {
+        aim: AimLine,
         peer: [u8; 32],
+        addresses: Candidates,
     },
     /// A message is queued.
     Queue {
@@ -145,48 +149,40 @@ fn ticks(end: &mut Endpoint, moment: u64, draws: &Draws, out: &mut Outbox) -> Ca
     }
 }
 
-/// Does a step on sessions and flows.
-fn calls(end: &mut Endpoint, step: &ScriptLine, moment: u64, out: &mut Outbox) -> Called {
-    match step {
-        ScriptLine::Cancel { number, .. } => cancels(end, *number, out),
-        ScriptLine::Close { near, .. } => closes(end, *near, moment, out),
-        ScriptLine::Flow {
+/// Does a step of one end.
+fn calls(end: &mut Endpoint, call: &CallLine, moment: u64, out: &mut Outbox) -> Called {
+    match call {
+        CallLine::Introduce => {
+            end.introduce();
+            Called::Done
+        }
+        CallLine::Cancel { number } => cancels(end, *number, out),
+        CallLine::Close { near } => closes(end, *near, moment, out),
+        CallLine::Flow {
             near,
             priority,
             metadata,
             answers,
-            ..
         } => opens_flow(end, *near, *priority, metadata.bytes(), *answers, out),
-        ScriptLine::Abandon {
-            near,
-            flow,
-            seq,
-            ..
-        } => abandons(end, *near, *flow, *seq, out),
-        ScriptLine::Finish { near, flow, .. } => finishes(end, *near, *flow, out),
+        CallLine::Abandon { near, flow, seq } => abandons(end, *near, *flow, *seq, out),
+        CallLine::Finish { near, flow } => finishes(end, *near, *flow, out),
         _ => Called::Done,
     }
 }
 
-/// Does a step that brings no datagram.
-fn steps(
+/// Does a step towards a peer.
+fn aims(
     end: &mut Endpoint,
-    step: &ScriptLine,
+    aim: AimLine,
     peer: [u8; 32],
+    addresses: &[Address],
     moment: u64,
     draws: &Draws,
     out: &mut Outbox,
 ) -> Called {
-    match step {
-        ScriptLine::Introduce { .. } => {
-            end.introduce();
-            Called::Done
-        }
-        ScriptLine::Redirect { addresses, .. } => adds_row(end, peer, addresses.as_slice()),
-        ScriptLine::Open { candidates, .. } => {
-            opens(end, peer, candidates.as_slice(), moment, draws, out)
-        }
-        other => calls(end, other, moment, out),
+    match aim {
+        AimLine::Redirect => adds_row(end, peer, addresses),
+        AimLine::Open => opens(end, peer, addresses, moment, draws, out),
     }
 }
 
@@ -199,7 +195,12 @@ pub(crate) fn do_deed(
     out: &mut Outbox,
 ) -> Called {
     match deed {
-        Deed::Step { step, peer } => steps(end, step, *peer, moment, draws, out),
+        Deed::Call { call } => calls(end, call, moment, out),
+        Deed::Aim {
+            aim,
+            peer,
+            addresses,
+        } => aims(end, *aim, *peer, addresses.as_slice(), moment, draws, out),
         Deed::Queue {
             near,
             flow,

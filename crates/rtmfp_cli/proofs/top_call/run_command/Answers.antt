@@ -4,5 +4,4 @@ use Rattle.rtmfp_cli.proofs.top_call.run_command.Goals as goal
 pub over_lines-requires-in-Lines-Replay-clause-holds :
     goal.over_lines-requires-in-Lines-Replay-clause-holds
 over_lines-requires-in-Lines-Replay-clause-holds g c =
-    let made = c.new-playing.ensures in
-    new_holds c.new-playing.result made.moment made.ends made.lines
+    new_holds c.new-playing.result c.new-playing.ensures
