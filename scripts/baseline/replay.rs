@@ -1,7 +1,7 @@
 //! A plain Rust program that prints what `rtmfp replay --generate N --steps K` prints: the bar for its speed.
 //! With `--flows` it makes another run instead, of two ends that call on flows, with `--calls` one of six ends that also
-//! call each other, hang up and move, and with `--transfer` one of K megabytes that go over, of whose datagrams each N-th
-//! is lost. With `--script` it prints the script of the run, and with
+//! call each other, hang up and move, with `--places` one of six ends that meet through address translators, and with
+//! `--transfer` one of K megabytes that go over, of whose datagrams each N-th is lost. With `--script` it prints the script of the run, and with
 //! `--report` the report of it. Without a seed it reads a script from its input, and prints the report of each line;
 //! with `--datagrams` alone it prints the bytes of each datagram that was sent instead, one a line, in hexadecimal.
 #[path = "replay/crypto.rs"]
@@ -12,6 +12,8 @@ mod end;
 mod flow;
 #[path = "replay/flows.rs"]
 mod flows;
+#[path = "replay/places.rs"]
+mod places;
 #[path = "replay/random.rs"]
 mod random;
 #[path = "replay/report.rs"]
@@ -24,6 +26,7 @@ mod wire;
 use crypto::{Context, Print};
 use end::{Draws, End, Entry, Fact, Group, Refusal};
 use flow::Options;
+use places::{Arrival, Lost, Places, Rule};
 use std::collections::{HashMap, HashSet};
 use std::io::{self, BufRead, BufWriter, Write};
 use std::process::ExitCode;
@@ -44,13 +47,19 @@ pub enum Step {
     Queue { end: usize, near: u32, flow: u64, options: Options, message: Vec<u8> },
     Abandon { end: usize, near: u32, flow: u64, seq: u64 },
     Finish { end: usize, near: u32, flow: u64 },
+    Introduce { end: usize },
+    Redirect { end: usize, peer: usize, list: Vec<Address> },
+    Translator { name: String, mapping: Rule, filter: Rule, host: [u8; 4], first: u16 },
+    Place { end: usize, at: Address, behind: Option<usize> },
+    Carry { number: usize },
 }
 
 pub struct JournalLine {
     pub line: u64,
     pub step: Step,
-    /// The end that was called, where there is one.
+    /// The end that was called, or that sent what was lost, where there is one.
     pub end: Option<usize>,
+    pub lost: Option<Lost>,
     pub datagram: Option<Rc<[u8]>>,
     pub refused: Option<Refusal>,
     pub entries: Vec<Entry>,
@@ -68,6 +77,7 @@ pub struct World {
     by_name: HashMap<String, usize>,
     by_print: HashMap<Print, usize>,
     moment: u64,
+    pub places: Places,
     pub journal: Vec<JournalLine>,
     sent: Vec<Sent>,
     /// In which contexts these bytes were sent.
@@ -88,6 +98,7 @@ impl World {
             by_name: HashMap::new(),
             by_print: HashMap::new(),
             moment: 0,
+            places: Places::default(),
             journal: Vec::new(),
             sent: Vec::new(),
             contexts: HashMap::new(),
@@ -109,7 +120,7 @@ impl World {
 
     fn step(&mut self, line: u64, step: Step) -> Result<(), StepFault> {
         let draws = Draws { nonce: numbers(0, line), tag: numbers(2, line), token: numbers(1, line), word: line as u32 };
-        let (mut datagram, mut refused, mut entries) = (None, None, Vec::new());
+        let (mut datagram, mut lost, mut refused, mut entries) = (None, None, None, Vec::new());
         let end = match &step {
             Step::End { name, max_peers, max_sessions, cert } => {
                 let end = End::new(name.clone(), *max_peers, *max_sessions, cert.clone().into_bytes(), self.group.clone());
@@ -161,15 +172,38 @@ impl World {
                 refused = self.ends[*end].finish(*near, *flow, &mut entries).err();
                 Some(*end)
             }
-            Step::Deliver { number, end, from } => {
-                let bytes = self.sent[*number - 1].datagram.clone();
-                let unsealed = self.ends[*end].unseal(&bytes);
-                // What opens in a context in which it wasn't sent is forged.
-                if unsealed.as_ref().is_ok_and(|unsealed| !self.was_sent(&bytes, &unsealed.context)) {
-                    return Err(StepFault::Forged);
+            Step::Introduce { end } => {
+                self.ends[*end].introduce();
+                Some(*end)
+            }
+            Step::Redirect { end, peer, list } => {
+                let peer = self.ends[*peer].print;
+                self.ends[*end].redirect(peer, list);
+                Some(*end)
+            }
+            Step::Translator { name, mapping, filter, host, first } => {
+                self.places.add(name, *mapping, *filter, *host, *first).ok_or(StepFault::BadStep)?;
+                None
+            }
+            Step::Place { end, at, behind } => {
+                self.places.place(*end, *at, *behind).ok_or(StepFault::BadStep)?;
+                None
+            }
+            Step::Carry { number } => {
+                let Sent { by, to, .. } = self.sent[*number - 1];
+                match self.places.carry(by, to).ok_or(StepFault::BadStep)? {
+                    Ok(Arrival { end, from }) => {
+                        datagram = Some(self.bring(*number, end, from, &draws, &mut entries)?);
+                        Some(end)
+                    }
+                    Err(why) => {
+                        lost = Some(why);
+                        Some(by)
+                    }
                 }
-                self.ends[*end].receive(*from, self.moment, unsealed, &draws, &mut entries);
-                datagram = Some(bytes);
+            }
+            Step::Deliver { number, end, from } => {
+                datagram = Some(self.bring(*number, *end, *from, &draws, &mut entries)?);
                 Some(*end)
             }
         };
@@ -181,8 +215,20 @@ impl World {
                 }
             }
         }
-        self.journal.push(JournalLine { line, step, end, datagram, refused, entries });
+        self.journal.push(JournalLine { line, step, end, lost, datagram, refused, entries });
         Ok(())
+    }
+
+    /// Brings a datagram to an end, and gives its bytes.
+    fn bring(&mut self, number: usize, end: usize, from: Address, draws: &Draws, out: &mut Vec<Entry>) -> Result<Rc<[u8]>, StepFault> {
+        let bytes = self.sent[number - 1].datagram.clone();
+        let unsealed = self.ends[end].unseal(&bytes);
+        // What opens in a context in which it wasn't sent is forged.
+        if unsealed.as_ref().is_ok_and(|unsealed| !self.was_sent(&bytes, &unsealed.context)) {
+            return Err(StepFault::Forged);
+        }
+        self.ends[end].receive(from, self.moment, unsealed, draws, out);
+        Ok(bytes)
     }
 
     fn was_sent(&self, datagram: &[u8], context: &Rc<Context>) -> bool {
@@ -259,7 +305,7 @@ fn run(seed: u64, steps: u64) -> Result<World, (StepFault, u64)> {
 }
 
 /// The run of a seed; with `--flows` one that calls on flows; with `--calls` one of ends that also call each other, hang
-/// up and move; with `--transfer` so many megabytes that go over, of whose datagrams each so many-th is lost, as the
+/// up and move; with `--places` one of ends that meet through translators; with `--transfer` so many megabytes that go over, of whose datagrams each so many-th is lost, as the
 /// seed says.
 fn generated(seed: u64, steps: u64, flags: &HashSet<String>) -> Result<World, (StepFault, u64)> {
     if flags.contains("--flows") {
@@ -267,6 +313,9 @@ fn generated(seed: u64, steps: u64, flags: &HashSet<String>) -> Result<World, (S
     }
     if flags.contains("--calls") {
         return random::calls(seed, steps);
+    }
+    if flags.contains("--places") {
+        return random::places(seed, steps);
     }
     if flags.contains("--transfer") {
         return random::transfer(seed, steps);
@@ -331,7 +380,7 @@ fn task() -> Option<Task> {
         match word.as_str() {
             "--generate" => seed = Some(words.next()?.parse().ok()?),
             "--steps" => steps = Some(words.next()?.parse().ok().filter(|n| *n <= 100_000)?),
-            "--script" | "--report" | "--flows" | "--calls" | "--transfer" => _ = flags.insert(word),
+            "--script" | "--report" | "--flows" | "--calls" | "--places" | "--transfer" => _ = flags.insert(word),
             "--datagrams" if seed.is_none() && steps.is_none() => return words.next().is_none().then_some(Task::Datagrams),
             _ => return None,
         }

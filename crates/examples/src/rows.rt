@@ -1,7 +1,7 @@
 //! Rows of scripts, each with its report, as texts in the crate's `data`. How such a text is
 //! written stands at its head.
 
-use crate::running::played;
+use crate::running::{played, played_to};
 use crate::tell;
 use rtmfp_cli::Status;
 use std::alloc::{AllocError, Global};
@@ -45,12 +45,15 @@ fn push_step(line: &str, script: &mut String) -> Result<(), AllocError> {
     script.push_str("\n")
 }
 
-/// A script, its report, and how many lines the script has.
+/// A script, its report or what that ends with, how many lines the script has, and whether each line
+/// that is to be bad was bad where it stands.
 #[derive(Drop)]
 struct Transcript {
     script: String,
     report: String,
+    is_whole: bool,
     steps: u64,
+    are_bad: bool,
 }
 
 impl Transcript {
@@ -58,8 +61,35 @@ impl Transcript {
         Transcript {
             script: String::new(alloc),
             report: String::new(alloc),
+            is_whole: true,
             steps: 0,
+            are_bad: true,
         }
+    }
+
+    /// How a run of a script ends, and whether it writes the report.
+    fn played(&self, alloc: Global, script: String) -> Result<(Status, bool), AllocError> {
+        if self.is_whole {
+            played(alloc, "replay", script, self.report.as_str())
+        } else {
+            played_to(alloc, script, self.report.as_str())
+        }
+    }
+
+    /// Notes of a line behind the script so far whether a run ends there as a bad line says.
+    fn try_bad(&mut self, alloc: Global, line: &str) -> Result<(), AllocError> {
+        let mut script = String::from_str(alloc, self.script.as_str())?;
+        push_step(line, &mut script)?;
+        let (status, written) = self.played(alloc, script)?;
+        let is_bad = status == Status::BadScript(self.steps.saturating_add(1));
+        self.are_bad = self.are_bad && is_bad && written;
+        Ok(())
+    }
+
+    /// What was reported so far isn't told.
+    fn leave_out(&mut self, alloc: Global) {
+        self.report = String::new(alloc);
+        self.is_whole = false;
     }
 
     /// Adds a line of the script or of the report.
@@ -73,13 +103,25 @@ impl Transcript {
     }
 
     /// Adds the lines that a line of a row stands for, of the script or of the report.
-    fn push_line(&mut self, alloc: Global, line: &str) -> Result<(), AllocError> {
+    fn push_lines(&mut self, alloc: Global, line: &str) -> Result<(), AllocError> {
         let step = line.strip_prefix("> ");
         let lines = lines_of(alloc, step.unwrap_or(line))?;
         for text in lines.iter() {
             self.push_one(alloc, text.as_str(), step.is_some())?;
         }
         Ok(())
+    }
+
+    /// Adds what a line of a row says.
+    fn push_line(&mut self, alloc: Global, line: &str) -> Result<(), AllocError> {
+        if let Some(bad) = line.strip_prefix("! ") {
+            return self.try_bad(alloc, bad);
+        }
+        if line == "..." {
+            self.leave_out(alloc);
+            return Ok(());
+        }
+        self.push_lines(alloc, line)
     }
 
     /// Adds lines, but no step where the script has so many.
@@ -160,8 +202,9 @@ fn whole_row(alloc: Global, rows: &str, lines: &str) -> Result<Transcript, Alloc
 /// Whether a run of the script of a row is done and writes its report.
 fn is_so(alloc: Global, rows: &str, lines: &str) -> Result<bool, AllocError> {
     let whole = whole_row(alloc, rows, lines)?;
-    let (status, written) = played(alloc, "replay", whole.script, whole.report.as_str())?;
-    Ok(written && status == Status::Done)
+    let script = String::from_str(alloc, whole.script.as_str())?;
+    let (status, written) = whole.played(alloc, script)?;
+    Ok(whole.are_bad && written && status == Status::Done)
 }
 
 /// Tells of a row whether its script has its report.

@@ -37,6 +37,14 @@ pub(crate) fn run_over<S: Source, K: Sink>(
     Ok(run_words(alloc, words.as_slice(), source, sink))
 }
 
+/// How a run of a command over a script ends, with what it wrote.
+fn ran(alloc: Global, command: &str, script: String) -> Result<(Status, MemorySink), AllocError> {
+    let mut source = MemorySource::new(script.into_bytes());
+    let mut sink = MemorySink::new(alloc);
+    let status = run_over(alloc, command, &mut source, &mut sink)?;
+    Ok((status, sink))
+}
+
 /// How a run of a command over a script ends, and whether it writes this report.
 pub(crate) fn played(
     alloc: Global,
@@ -44,8 +52,26 @@ pub(crate) fn played(
     script: String,
     report: &str,
 ) -> Result<(Status, bool), AllocError> {
-    let mut source = MemorySource::new(script.into_bytes());
-    let mut sink = MemorySink::new(alloc);
-    let status = run_over(alloc, command, &mut source, &mut sink)?;
+    let (status, sink) = ran(alloc, command, script)?;
     Ok((status, sink.written() == Some(report.as_bytes())))
+}
+
+/// Whether bytes end with a text.
+fn end_with(bytes: &[u8], end: &str) -> bool {
+    let at = bytes.len().saturating_sub(end.len());
+    bytes.get(at..) == Some(end.as_bytes())
+}
+
+/// How a run of a script ends, and whether its report ends with this.
+pub(crate) fn played_to(
+    alloc: Global,
+    script: String,
+    end: &str,
+) -> Result<(Status, bool), AllocError> {
+    let (status, sink) = ran(alloc, "replay", script)?;
+    let written = match sink.written() {
+        Some(bytes) => end_with(bytes, end),
+        None => false,
+    };
+    Ok((status, written))
 }

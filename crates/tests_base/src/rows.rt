@@ -1,16 +1,24 @@
-//! Lines of rows. In a line a word as `7..10` or `id=7..10` counts up, and the line stands for four
-//! lines; a last word `x4` says as well that it stands for four.
+//! Lines of rows. In a line a word as `7..10`, `id=7..10` or `10.0.0.7..10` counts up, and the line
+//! stands for four lines; a last word `x4` says as well that it stands for four.
 
 use std::alloc::{AllocError, Global};
 
-/// The label of a word that counts up and its first number, as `id` and 7 of `id=7..10`, and its
-/// last number. Without a label it is empty.
+/// What of a text stands behind the last of these marks in it.
+fn behind_marks(text: &str) -> &str {
+    match text.rsplit_once(['=', '.']) {
+        Some((_, part)) => part,
+        None => text,
+    }
+}
+
+/// What stands in front of the numbers of a word that counts up, as `id=` in `id=7..10`, and the
+/// first and the last of them.
 fn range_in(word: &str) -> Option<(&str, u64, u64)> {
     let (front, last) = word.split_once("..")?;
-    let (label, first) = front.rsplit_once('=').unwrap_or(("", front));
-    let first = first.parse::<u64>().ok()?;
+    let digits = behind_marks(front);
+    let first = digits.parse::<u64>().ok()?;
     let last = last.parse::<u64>().ok()?;
-    Some((label, first, last))
+    Some((front.strip_suffix(digits)?, first, last))
 }
 
 /// How often a line stands that has this word, if the word says it.
@@ -32,19 +40,12 @@ fn times(line: &str) -> u64 {
     1
 }
 
-/// What a word that counts up stands for.
-fn counted(alloc: Global, label: &str, value: u64) -> Result<String, AllocError> {
-    if label.is_empty() {
-        return format!(in alloc; "{value}");
-    }
-    format!(in alloc; "{label}={value}")
-}
-
 /// Adds what a word stands for in the line of this index, counted from 0.
 fn push_word(alloc: Global, word: &str, index: u64, text: &mut String) -> Result<(), AllocError> {
     match range_in(word) {
         Some((label, first, _)) => {
-            let word = counted(alloc, label, first.saturating_add(index))?;
+            let value = first.saturating_add(index);
+            let word = format!(in alloc; "{label}{value}")?;
             text.push_str(word.as_str())
         }
         None => text.push_str(word),

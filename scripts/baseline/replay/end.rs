@@ -104,6 +104,7 @@ pub enum Cause {
     FlowsFull(usize),
     Flow(FlowRefusal),
     AckBeyond(u64),
+    CandidatesFull(usize),
 }
 
 #[derive(Clone, Copy, Debug)]
@@ -326,6 +327,9 @@ pub struct End {
     peers: HashMap<Print, Peer>,
     attempts: BTreeMap<u32, Attempt>,
     sessions: BTreeMap<u32, Session>,
+    introduces: bool,
+    /// The addresses of other ends with which their hellos are answered.
+    rows: HashMap<Print, Vec<Address>>,
 }
 
 impl End {
@@ -344,6 +348,8 @@ impl End {
             peers: HashMap::new(),
             attempts: BTreeMap::new(),
             sessions: BTreeMap::new(),
+            introduces: false,
+            rows: HashMap::new(),
         }
     }
 
@@ -408,6 +414,15 @@ impl End {
         self.end_session(near, Why::Near, out);
         self.send_home(near, wire::CLOSE, moment, out);
         Ok(())
+    }
+
+    pub fn introduce(&mut self) {
+        self.introduces = true;
+    }
+
+    /// Has a row of 1 to 16 addresses for another end.
+    pub fn redirect(&mut self, peer: Print, list: &[Address]) {
+        self.rows.insert(peer, list.to_vec());
     }
 
     pub fn open_flow(
@@ -633,7 +648,8 @@ impl End {
         }
         match (place, chunk) {
             (_, Chunk::Fragment) => Err(Cause::Fragment),
-            (Place::Startup, Chunk::IHello { epd, tag }) => self.take_hello(epd, tag, from, moment, out),
+            (Place::Startup, Chunk::IHello { epd, tag }) => self.take_open_hello(epd, tag, from, moment, out),
+            (Place::Startup, Chunk::Redirect { tag, list }) => self.take_redirect(tag, &list, from, moment, out),
             (Place::Session(_), Chunk::FIHello { epd, reply, tag }) => self.take_hello(epd, tag, reply, moment, out),
             (Place::Startup, Chunk::RHello { tag, cookie, cert }) => self.take_rhello(tag, cookie, cert, from, moment, out),
             (Place::Startup, Chunk::CookieChange { old, new }) => self.take_cookie_change(None, old, new, moment, out),
@@ -686,6 +702,57 @@ impl End {
         put_counted(&self.cookie(to, moment), &mut payload);
         payload.extend_from_slice(&self.cert);
         self.send_startup(0, to, wire::RHELLO, &payload, out);
+        Ok(())
+    }
+
+    /// Answers a hello for this end; of one for another end it tells that one, or tells of it, or both.
+    fn take_open_hello(&mut self, epd: &[u8], tag: &[u8], from: Address, moment: u64, out: &mut Vec<Entry>) -> Result<(), Cause> {
+        let selected = epd.split_first().filter(|(kind, _)| **kind == 1).and_then(|(_, print)| Print::try_from(print).ok());
+        let Some(peer) = selected.filter(|print| *print != self.print) else {
+            return self.take_hello(epd, tag, from, moment, out);
+        };
+        not_wide(tag)?;
+        let before = out.len();
+        if let Held::Session(near) = self.held(&peer) {
+            if self.introduces && matches!(self.sessions[&near].state, State::Open) {
+                let mut payload = Vec::with_capacity(128);
+                put_counted(epd, &mut payload);
+                from.write(2, &mut payload);
+                payload.extend_from_slice(tag);
+                let to = self.sessions[&near].address;
+                self.send_in_session(near, to, wire::FIHELLO, &payload, moment, out);
+            }
+        }
+        if let Some(row) = self.rows.get(&peer) {
+            let mut payload = Vec::with_capacity(256);
+            put_counted(tag, &mut payload);
+            row.iter().for_each(|place| place.write(0, &mut payload));
+            self.send_startup(0, from, wire::REDIRECT, &payload, out);
+        }
+        if out.len() == before { Err(Cause::NotSelected) } else { Ok(()) }
+    }
+
+    fn take_redirect(&mut self, tag: &[u8], list: &[Address], from: Address, moment: u64, out: &mut Vec<Entry>) -> Result<(), Cause> {
+        not_wide(tag)?;
+        let (near, attempt) = self.attempts.iter_mut().find(|(_, a)| a.tag == tag).ok_or(Cause::NoAttempt)?;
+        if !matches!(attempt.stage, Stage::Hello) {
+            return Err(Cause::WrongState);
+        }
+        let (own, mut news) = ([from], Vec::new());
+        for place in if list.is_empty() { &own } else { list } {
+            if !attempt.candidates.contains(place) && !news.contains(place) {
+                news.push(*place);
+            }
+        }
+        if attempt.candidates.len() + news.len() > 16 {
+            return Err(Cause::CandidatesFull(attempt.candidates.len()));
+        }
+        if !news.is_empty() {
+            attempt.candidates.extend_from_slice(&news);
+            attempt.sent = moment;
+            let near = *near;
+            self.send_hellos(near, &news, out);
+        }
         Ok(())
     }
 
@@ -947,12 +1014,8 @@ impl End {
         let mut payload = Vec::with_capacity(256);
         match &attempt.stage {
             Stage::Hello => {
-                payload.extend_from_slice(&[33, 1]);
-                payload.extend_from_slice(&attempt.peer);
-                payload.extend_from_slice(&attempt.tag);
-                for to in attempt.candidates.clone() {
-                    self.send_startup(0, to, wire::IHELLO, &payload, out);
-                }
+                let list = attempt.candidates.clone();
+                self.send_hellos(near, &list, out);
             }
             Stage::Keying { address, cookie } => {
                 let to = *address;
@@ -963,6 +1026,15 @@ impl End {
                 payload.extend_from_slice(&self.group.sign.of(&[&payload]));
                 self.send_startup(0, to, wire::IIKEYING, &payload, out);
             }
+        }
+    }
+
+    /// Sends the hello of an attempt to some addresses.
+    fn send_hellos(&mut self, near: u32, list: &[Address], out: &mut Vec<Entry>) {
+        let attempt = &self.attempts[&near];
+        let payload = [&[33, 1], &attempt.peer[..], &attempt.tag].concat();
+        for to in list {
+            self.send_startup(0, *to, wire::IHELLO, &payload, out);
         }
     }
 

@@ -1,14 +1,22 @@
 //! Scripts of ends with sessions: random ones of two ends, which call on the flows of a session while datagrams are lost,
 //! repeated and reordered; random ones of several, which also call each other, hang up, call again and move in between;
-//! and transfers, of which each so many-th datagram is lost.
+//! random ones of several that stand behind address translators or without one, and meet by an introducer; and transfers,
+//! of which each so many-th datagram is lost.
 use crate::flow::Options;
 use crate::end::Entry;
-use crate::wire::Host;
+use crate::places::Rule;
+use crate::wire::{Address, Host};
 use crate::{address_of, Step, StepFault, World};
 use std::collections::VecDeque;
 
 const MESSAGES: [u64; 8] = [0, 1, 3, 999, 1_000, 1_001, 2_500, 20_000];
 const PARTS: u64 = 100;
+const RULES: [(Rule, Rule); 4] = [
+    (Rule::Independent, Rule::Independent),
+    (Rule::Independent, Rule::Dependent),
+    (Rule::Dependent, Rule::Independent),
+    (Rule::Dependent, Rule::Dependent),
+];
 /// How many ends call each other: they can keep twelve sessions and more.
 const CALLERS: usize = 6;
 
@@ -38,6 +46,16 @@ pub fn calls(seed: u64, steps: u64) -> Result<World, (StepFault, u64)> {
     let mut script = Script::new(seed, CALLERS);
     script.disorder = script.draw(40);
     let done = script.meet().and_then(|()| (0..steps).try_for_each(|_| script.call()));
+    done.map_err(|fault| (fault, script.line))?;
+    Ok(script.world)
+}
+
+/// A world of several ends at places, of which the first introduces the others, after a script of so many lines behind
+/// those that place them.
+pub fn places(seed: u64, steps: u64) -> Result<World, (StepFault, u64)> {
+    let mut script = Script::new(seed, CALLERS);
+    script.disorder = script.draw(20);
+    let done = script.meet().and_then(|()| script.settle()).and_then(|()| (0..steps).try_for_each(|_| script.go_between()));
     done.map_err(|fault| (fault, script.line))?;
     Ok(script.world)
 }
@@ -153,14 +171,15 @@ impl Script {
         self.step(Step::Queue { end, near, flow, options, message })
     }
 
-    /// Brings the next datagram, or loses it, or brings another one, also one that was brought before.
+    /// Brings the next datagram, or carries it from where its sender stands, or loses it, or brings another one, also one
+    /// that was brought before.
     fn bring_some(&mut self) -> Result<(), StepFault> {
         let Some(next) = self.pending.pop_front() else {
             let end = self.end();
             return self.step(Step::Tick { end });
         };
         if self.draw(PARTS) >= self.disorder {
-            return self.bring(next);
+            return self.bring_or_carry(next);
         }
         match self.draw(4) {
             0 | 1 => Ok(()),
@@ -171,8 +190,81 @@ impl Script {
             }
             _ => {
                 let number = 1 + self.draw(self.sent as u64) as usize;
-                self.bring(number)
+                self.bring_or_carry(number)
             }
+        }
+    }
+
+    fn bring_or_carry(&mut self, number: usize) -> Result<(), StepFault> {
+        if self.world.places.translators.is_empty() {
+            return self.bring(number);
+        }
+        self.step(Step::Carry { number })
+    }
+
+    /// Makes translators of all kinds, of which some have few ports, and places all ends.
+    fn settle(&mut self) -> Result<(), StepFault> {
+        for (index, (mapping, filter)) in RULES.into_iter().enumerate() {
+            let first = if self.draw(3) == 0 { u16::MAX - self.draw(4) as u16 } else { 40_000 };
+            let (name, host) = (format!("t{index}"), [10, 1, 0, index as u8]);
+            self.step(Step::Translator { name, mapping, filter, host, first })?;
+        }
+        self.step(Step::Introduce { end: 0 })?;
+        self.step(Step::Place { end: 0, at: address_of(0), behind: None })?;
+        (1..self.ends).try_for_each(|end| self.place(end))
+    }
+
+    /// Places an end: mostly behind a translator, mostly at an IPv4 place, always at one of its own.
+    fn place(&mut self, end: usize) -> Result<(), StepFault> {
+        let behind = (self.draw(4) > 0).then(|| self.draw(4) as usize);
+        let own = if behind.is_some() { [192, 168, 0, end as u8 + 1] } else { [10, 0, 0, end as u8 + 1] };
+        let host = if self.draw(40) == 0 { Host::V6([end as u8; 16]) } else { Host::V4(own) };
+        let at = Address { host, port: 1935 + self.draw(2) as u16 };
+        self.step(Step::Place { end, at, behind })
+    }
+
+    /// An address where somebody may be: the introducer's, one that something went to, that of an end, or a port of a
+    /// translator.
+    fn address(&mut self) -> Address {
+        match self.draw(8) {
+            0..=3 => address_of(0),
+            4..=5 if self.sent > 0 => {
+                let index = self.draw(self.sent as u64) as usize;
+                self.world.sent[index].to
+            }
+            6 => address_of(self.end()),
+            _ => Address { host: Host::V4([10, 1, 0, self.draw(4) as u8]), port: 40_000 + self.draw(6) as u16 },
+        }
+    }
+
+    /// A step of ends that meet through translators, or one that goes on with their messages.
+    fn go_between(&mut self) -> Result<(), StepFault> {
+        let (end, peer) = (self.end(), self.end());
+        match self.draw(PARTS) {
+            0..=4 => {
+                let list = (0..1 + self.draw(3)).map(|_| self.address()).collect();
+                self.step(Step::Open { end, peer, list })
+            }
+            5 if self.draw(8) == 0 => self.place(end.max(1)),
+            5 => {
+                let list = (0..1 + self.draw(2)).map(|_| self.address()).collect();
+                self.step(Step::Redirect { end: 0, peer, list })
+            }
+            6 if self.draw(4) == 0 => {
+                let near = self.near(end);
+                self.step(Step::Close { end, near })
+            }
+            7 => {
+                let n = 1 + self.draw(12);
+                self.step(Step::Cancel { end, n })
+            }
+            8 => self.flow(),
+            9 if self.draw(3) == 0 => {
+                let moment = self.world.moment + 20_000;
+                self.step(Step::At { moment })
+            }
+            9..=40 => self.bring_some(),
+            _ => self.go_on(),
         }
     }
 

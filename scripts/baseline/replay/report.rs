@@ -2,6 +2,7 @@
 use crate::crypto::Kinds;
 use crate::end::{Cause, Entry, Fact, Joined, Refusal, Why};
 use crate::flow::{QueueRefusal, Refusal as FlowRefusal};
+use crate::places::{Lost, Rule};
 use crate::wire::{Address, Host};
 use crate::{JournalLine, Step, World};
 use std::io::{self, BufWriter, Write};
@@ -25,13 +26,22 @@ pub fn print_script(world: &World) {
             Step::End { name, max_peers, max_sessions, cert } => writeln!(out, "end {name} {max_peers} {max_sessions} {cert}"),
             Step::At { moment } => writeln!(out, "at {moment}"),
             Step::Open { end, peer, list } => {
-                let list: String = list.iter().map(|place| format!(" {}", At(*place))).collect();
-                writeln!(out, "open {} {}{list}", name(end), name(peer))
+                writeln!(out, "open {} {}{}", name(end), name(peer), places(list))
             }
             Step::Cancel { end, n } => writeln!(out, "cancel {} {n}", name(end)),
             Step::Close { end, near } => writeln!(out, "close {} {near}", name(end)),
             Step::Deliver { number, end, from } => writeln!(out, "deliver {number} {} {}", name(end), At(*from)),
             Step::Tick { end } => writeln!(out, "tick {}", name(end)),
+            Step::Introduce { end } => writeln!(out, "introduce {}", name(end)),
+            Step::Redirect { end, peer, list } => writeln!(out, "redirect {} {}{}", name(end), name(peer), places(list)),
+            Step::Translator { name, mapping, filter, host: [a, b, c, d], first } => {
+                writeln!(out, "translator {name} {} {} {a}.{b}.{c}.{d} {first}", rule(*mapping), rule(*filter))
+            }
+            Step::Place { end, at, behind } => {
+                let behind = behind.map_or(String::new(), |place| format!(" {}", world.places.translators[place].name));
+                writeln!(out, "place {} {}{behind}", name(end), At(*at))
+            }
+            Step::Carry { number } => writeln!(out, "carry {number}"),
             Step::Flow { end, near, priority, metadata, answers } => {
                 let answers = answers.map_or(String::new(), |flow| format!(" {flow}"));
                 write!(out, "flow {} {near} {priority} ", name(end))
@@ -64,6 +74,9 @@ pub fn write_line(out: &mut impl Write, world: &World, line: &JournalLine, sent:
     if let Some(refused) = &line.refused {
         writeln!(out, "{} {name} refused {}", line.line, refusal(refused))?;
     }
+    if let (Some(why), Step::Carry { number }) = (line.lost, &line.step) {
+        writeln!(out, "{} {name} lost {number} {}", line.line, lost(why))?;
+    }
     for entry in &line.entries {
         write!(out, "{} {name} ", line.line)?;
         match entry {
@@ -90,6 +103,27 @@ pub fn write_line(out: &mut impl Write, world: &World, line: &JournalLine, sent:
         }
     }
     Ok(())
+}
+
+fn places(list: &[Address]) -> String {
+    list.iter().map(|place| format!(" {}", At(*place))).collect()
+}
+
+fn rule(rule: Rule) -> &'static str {
+    match rule {
+        Rule::Independent => "independent",
+        Rule::Dependent => "dependent",
+    }
+}
+
+fn lost(lost: Lost) -> &'static str {
+    match lost {
+        Lost::Family => "family",
+        Lost::PortsFull => "ports-full",
+        Lost::Unmapped => "unmapped",
+        Lost::Filtered => "filtered",
+        Lost::Nobody => "nobody",
+    }
 }
 
 fn limit(value: Option<impl std::fmt::Display>) -> String {
@@ -161,7 +195,9 @@ fn write_fact(out: &mut impl Write, world: &World, fact: &Fact) -> io::Result<()
 fn kind_name(kind: u8) -> &'static str {
     match kind {
         0x30 => "ihello",
+        0x0f => "fihello",
         0x70 => "rhello",
+        0x71 => "redirect",
         0x79 => "cookiechange",
         0x38 => "iikeying",
         0x78 => "rikeying",
@@ -227,5 +263,6 @@ fn cause_text(cause: &Cause) -> String {
         Cause::Flow(FlowRefusal::AfterFinal(n)) => format!("after-final {n}"),
         Cause::Flow(FlowRefusal::BeyondBuffer(n)) => format!("beyond-buffer {n}"),
         Cause::AckBeyond(n) => format!("ack-beyond {n}"),
+        Cause::CandidatesFull(n) => format!("candidates-full {n}"),
     }
 }

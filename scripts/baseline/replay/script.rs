@@ -1,6 +1,6 @@
-//! Scripts that are read, line by line: `end`, `at`, `open`, `cancel`, `close`, `deliver`, `tick`, and the calls on
-//! flows.
+//! Scripts that are read, line by line: all lines but `bent`, `inject` and `forge`.
 use crate::flow::Options;
+use crate::places::Rule;
 use crate::wire::{Address, Host};
 use crate::{Step, World};
 
@@ -17,41 +17,57 @@ fn step(world: &World, word: &str, rest: &str) -> Option<Step> {
     let end = |name: Option<&str>| world.end_named(name?);
     if word == "end" {
         let mut words = rest.splitn(4, ' ');
-        let name = words.next()?.to_owned();
-        let (max_peers, max_sessions) = (words.next()?.parse().ok()?, words.next()?.parse().ok()?);
+        let name = name(words.next()?)?;
+        let (max_peers, max_sessions) = (number(words.next()?)?, number(words.next()?)?);
         return Some(Step::End { name, max_peers, max_sessions, cert: words.next()?.to_owned() });
     }
     let mut words = rest.split(' ');
     let step = match word {
-        "at" => Step::At { moment: words.next()?.parse().ok()? },
+        "at" => Step::At { moment: number(words.next()?)? },
         "open" => {
             let (end, peer) = (end(words.next())?, end(words.next())?);
             Step::Open { end, peer, list: words.by_ref().map(address).collect::<Option<_>>()? }
         }
-        "cancel" => Step::Cancel { end: end(words.next())?, n: words.next()?.parse().ok()? },
-        "close" => Step::Close { end: end(words.next())?, near: words.next()?.parse().ok()? },
+        "cancel" => Step::Cancel { end: end(words.next())?, n: number(words.next()?)? },
+        "close" => Step::Close { end: end(words.next())?, near: number(words.next()?)? },
         "deliver" => {
-            let number = words.next()?.parse().ok().filter(|number| world.was_numbered(*number))?;
+            let number = number(words.next()?).filter(|number| world.was_numbered(*number))?;
             Step::Deliver { number, end: end(words.next())?, from: address(words.next()?)? }
         }
         "tick" => Step::Tick { end: end(words.next())? },
+        "introduce" => Step::Introduce { end: end(words.next())? },
+        "redirect" => {
+            let (end, peer) = (end(words.next())?, end(words.next())?);
+            let list: Vec<Address> = words.by_ref().map(address).collect::<Option<_>>()?;
+            (1..=16).contains(&list.len()).then_some(Step::Redirect { end, peer, list })?
+        }
+        "translator" => {
+            let (name, mapping, filter) = (name(words.next()?)?, rule(words.next()?)?, rule(words.next()?)?);
+            Step::Translator { name, mapping, filter, host: host(words.next()?)?, first: number(words.next()?)? }
+        }
+        "place" => {
+            let (end, at) = (end(words.next())?, address(words.next()?)?);
+            let behind = words.next().map_or(Some(None), |name| world.places.translator_named(name).map(Some))?;
+            Step::Place { end, at, behind }
+        }
+        "carry" => Step::Carry { number: number(words.next()?).filter(|number| world.was_numbered(*number))? },
         "flow" => {
-            let (end, near) = (end(words.next())?, words.next()?.parse().ok()?);
-            let (priority, metadata) = (words.next()?.parse().ok()?, bytes(words.next()?)?);
-            let answers = words.next().map(|word| word.parse().ok()).map_or(Some(None), |flow| flow.map(Some))?;
+            let (end, near) = (end(words.next())?, number(words.next()?)?);
+            let (priority, metadata) = (number(words.next()?)?, bytes(words.next()?)?);
+            let answers = words.next().map(number).map_or(Some(None), |flow| flow.map(Some))?;
             Step::Flow { end, near, priority, metadata, answers }
         }
         "queue" => {
-            let (end, near, flow) = (end(words.next())?, words.next()?.parse().ok()?, words.next()?.parse().ok()?);
+            let (end, near, flow) = (end(words.next())?, number(words.next()?)?, number(words.next()?)?);
             let options = Options { deadline: limit(words.next()?)?, resends: limit(words.next()?)? };
             Step::Queue { end, near, flow, options, message: message(words.next()?)? }
         }
         "abandon" => {
-            let (end, near, flow) = (end(words.next())?, words.next()?.parse().ok()?, words.next()?.parse().ok()?);
-            Step::Abandon { end, near, flow, seq: words.next()?.parse().ok()? }
+            let (end, near, flow) = (end(words.next())?, number(words.next()?)?, number(words.next()?)?);
+            Step::Abandon { end, near, flow, seq: number(words.next()?)? }
         }
         "finish" => {
-            let (end, near, flow) = (end(words.next())?, words.next()?.parse().ok()?, words.next()?.parse().ok()?);
+            let (end, near, flow) = (end(words.next())?, number(words.next()?)?, number(words.next()?)?);
             Step::Finish { end, near, flow }
         }
         _ => return None,
@@ -59,12 +75,40 @@ fn step(world: &World, word: &str, rest: &str) -> Option<Step> {
     words.next().is_none().then_some(step)
 }
 
+fn rule(word: &str) -> Option<Rule> {
+    match word {
+        "independent" => Some(Rule::Independent),
+        "dependent" => Some(Rule::Dependent),
+        _ => None,
+    }
+}
+
+fn host(text: &str) -> Option<[u8; 4]> {
+    let mut bytes = [0; 4];
+    let mut parts = text.split('.');
+    for byte in &mut bytes {
+        *byte = number(parts.next()?)?;
+    }
+    parts.next().is_none().then_some(bytes)
+}
+
+fn name(word: &str) -> Option<String> {
+    let is_name = (1..=16).contains(&word.len()) && word.bytes().all(|x| x.is_ascii_lowercase() || x.is_ascii_digit());
+    is_name.then(|| word.to_owned())
+}
+
+/// A number without leading zeros.
+fn number<T: std::str::FromStr>(word: &str) -> Option<T> {
+    let is_number = word.bytes().all(|x| x.is_ascii_digit()) && (word.len() == 1 || !word.starts_with('0'));
+    word.parse().ok().filter(|_| is_number)
+}
+
 /// A number, or none for a hyphen.
 fn limit<T: std::str::FromStr>(word: &str) -> Option<Option<T>> {
     if word == "-" {
         return Some(None);
     }
-    word.parse().ok().map(Some)
+    number(word).map(Some)
 }
 
 fn bytes(word: &str) -> Option<Vec<u8>> {
@@ -85,24 +129,17 @@ fn message(word: &str) -> Option<Vec<u8>> {
     match word.strip_prefix('*') {
         None => bytes(word),
         Some(length) => {
-            let length = length.parse().ok().filter(|length| *length <= 2_000_000)?;
+            let length = number(length).filter(|length| *length <= 2_000_000)?;
             Some((0..length).map(|i: u32| (i % 251) as u8).collect())
         }
     }
 }
 
 fn address(text: &str) -> Option<Address> {
-    let (host, port) = text.rsplit_once(':')?;
-    let host = match host.strip_prefix('[') {
+    let (front, port) = text.rsplit_once(':')?;
+    let host = match front.strip_prefix('[') {
         Some(digits) => Host::V6(u128::from_str_radix(digits.strip_suffix(']')?, 16).ok()?.to_be_bytes()),
-        None => {
-            let mut bytes = [0; 4];
-            let mut parts = host.split('.');
-            for byte in &mut bytes {
-                *byte = parts.next()?.parse().ok()?;
-            }
-            parts.next().is_none().then_some(Host::V4(bytes))?
-        }
+        None => Host::V4(host(front)?),
     };
-    Some(Address { host, port: port.parse().ok()? })
+    Some(Address { host, port: number(port)? })
 }

@@ -2,14 +2,14 @@
 use crate::flow::{self, put_vlu, Ack};
 use crate::flows::Data;
 
-#[derive(Clone, Copy, PartialEq, Eq, Debug)]
+#[derive(Clone, Copy, PartialEq, Eq, Hash, Debug)]
 pub enum Host {
     V4([u8; 4]),
     V6([u8; 16]),
 }
 
 /// A place. Where it is from doesn't count for anything here, so it isn't kept.
-#[derive(Clone, Copy, PartialEq, Eq, Debug)]
+#[derive(Clone, Copy, PartialEq, Eq, Hash, Debug)]
 pub struct Address {
     pub host: Host,
     pub port: u16,
@@ -162,6 +162,7 @@ pub fn packet(mode: u8, stamp: Option<u16>, echo: Option<u16>, kind: u8, payload
 pub const IHELLO: u8 = 0x30;
 pub const FIHELLO: u8 = 0x0f;
 pub const RHELLO: u8 = 0x70;
+pub const REDIRECT: u8 = 0x71;
 pub const COOKIECHANGE: u8 = 0x79;
 pub const IIKEYING: u8 = 0x38;
 pub const RIKEYING: u8 = 0x78;
@@ -179,6 +180,7 @@ pub enum Chunk<'a> {
     IHello { epd: &'a [u8], tag: &'a [u8] },
     FIHello { epd: &'a [u8], reply: Address, tag: &'a [u8] },
     RHello { tag: &'a [u8], cookie: &'a [u8], cert: &'a [u8] },
+    Redirect { tag: &'a [u8], list: Vec<Address> },
     CookieChange { old: &'a [u8], new: &'a [u8] },
     IIKeying(IIKeying<'a>),
     RIKeying(RIKeying<'a>),
@@ -251,6 +253,13 @@ impl<'a> Chunk<'a> {
                     return Err(ChunkFault::Malformed(at));
                 }
                 Chunk::RHello { tag, cookie, cert }
+            }
+            REDIRECT => {
+                let (tag, mut list) = (r.counted()?, Vec::new());
+                while r.at < payload.len() {
+                    list.push(r.address()?);
+                }
+                Chunk::Redirect { tag, list }
             }
             COOKIECHANGE => Chunk::CookieChange { old: r.counted()?, new: r.rest() },
             IIKEYING => Chunk::IIKeying(IIKeying::read(payload)?),
