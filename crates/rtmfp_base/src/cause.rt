@@ -23,9 +23,9 @@ pub enum Cause {
     WrongPlace,
     /// A hello whose discriminator selects nothing that is answered or forwarded.
     NotSelected,
-    /// No attempt is held that the chunk could speak of.
+    /// There is no attempt or search that the chunk could speak of.
     NoAttempt,
-    /// The chunk is of another end than the attempt's peer.
+    /// The chunk is of another end than the attempt's peer, or of one without the search's name.
     WrongPeer,
     /// The attempt or the session is in a state that doesn't take the chunk.
     WrongState,
@@ -35,7 +35,7 @@ pub enum Cause {
     BadSignature,
     /// The component names another responder.
     WrongResponder,
-    /// The initiator's certificate is this end's own.
+    /// The certificate of an initiator, or of what answers a search, is this end's own.
     OwnCertificate,
     /// The attempt's number isn't above the greatest one seen of the peer, which is given.
     Stale(u64),
@@ -65,4 +65,8 @@ pub enum Cause {
     FlowsFull(u64),
     /// A tag, a cookie or a ping has this many bytes, more than may be.
     Wide(u64),
+    /// Something is held with the end that answers a search; its near id.
+    AlreadyHeld(u32),
+    /// 2^64-1 attempts were started, and a search is answered.
+    AttemptsSpent,
 }

@@ -3,22 +3,20 @@ use Rattle.std.proofs.Common.{ℕ, ◌≡◌, ◌<◌, ◌+◌, ◌≤◌, ◌||
 use Rattle.std.specs.FinMap.{get}
 use Rattle.std.proofs.lemmas.Bool.Decides.{nat_tests}
 use Rattle.rtmfp_base.proofs.Counts.{count_removed, count_changed}
-use Rattle.glare_core.specs.declared.facts.Fact.{Fact}
-use Rattle.glare_core.specs.declared.facts.Fact.TheVariants.{Ended}
 use Rattle.glare_core.specs.declared.facts.Why.TheVariants.{Expired}
 use Rattle.startup.specs.declared.aim.Aim.{Aim}
-use Rattle.startup.specs.declared.aim.Aim.TheVariants.{AtPeer}
+use Rattle.startup.specs.declared.aim.Aim.TheVariants.{AtPeer, ByName}
 use Rattle.startup.specs.declared.answer.Due.{Due}
-use Rattle.startup.specs.declared.answer.Due.TheVariants.{Ended as EndDue}
 use Rattle.startup.specs.Aims.{end_of_aim}
 use Rattle.startup.specs.State.{AttemptState, StartupState}
 use Rattle.startup.specs.Attempts.{lowest}
-use Rattle.startup.specs.Due.{gap_of, is_over, is_repeat_due, is_due, repeated, due, due_end, due_of, after_due, after_due_of, due_count}
+use Rattle.startup.specs.Due.{gap_of, is_over, is_repeat_due, is_due, repeated, due, due_by, due_end, due_of, after_due, after_due_of, due_count}
 use Rattle.startup.proofs.Keeping.{lowest_is_there, lowest_passes}
 
 -- the end that is due is that of what is aimed at
-pub due_end_is : (near : ℕ) (aim : Aim) (fact : Fact) → end_of_aim near Expired aim ≡ Some fact → due_end near aim ≡ EndDue fact
-due_end_is near (AtPeer peer n) fact e = let same : Ended peer near Expired ≡ fact = cc in ap (λ (f : Fact). EndDue f) same
+pub due_end_is : (near : ℕ) (aim : Aim) → due_by near (end_of_aim near Expired aim) ≡ due_end near aim
+due_end_is near (AtPeer peer n) = refl
+due_end_is near (ByName name) = refl
 
 a_gap : (gap : ℕ) → 1 ≤ gap_of gap
 a_gap gap = grind (arith, nat_tests)

@@ -8,6 +8,7 @@ use Rattle.cookies.specs.declared.CookieTest.TheVariants.{Bad, Moved, Expired, C
 use Rattle.cookies.specs.Cookie.{cookie_test}
 use Rattle.glare_core.specs.declared.facts.Joined.{Joined}
 use Rattle.glare_core.specs.declared.answers.Keying.{Keying}
+use Rattle.glare_core.specs.declared.answers.HearRefusal.{HearRefusal}
 use Rattle.glare_core.specs.declared.answers.Way.{Way}
 use Rattle.glare_core.specs.declared.answers.Judged.{Judged}
 use Rattle.glare_core.specs.declared.answers.Judged.TheVariants.{Birth as IsBirth}
@@ -25,7 +26,8 @@ use Rattle.startup.specs.State.{StartupState}
 use Rattle.startup_packets.specs.Packets.{is_signed}
 use Rattle.startup.specs.Attempts.{wide}
 use Rattle.startup_packets.specs.Readings.{InitiatorKeying}
-use Rattle.startup.specs.Keyings.{is_own, heard_cause, cookie_cause, named_cause, keying_of, repeated_session, initiator_cause, change_answer, session_answer, again_or_birth, after_again_or_birth, keyed_with, after_keyed_with, needs_row_with}
+use Rattle.startup.specs.Attempts.{is_own}
+use Rattle.startup.specs.Keyings.{heard_cause, cookie_cause, named_cause, keying_of, repeated_session, initiator_cause, change_answer, session_answer, again_or_birth, after_again_or_birth, keyed_with, after_keyed_with, needs_row_with}
 use Rattle.startup.specs.Judging.{unless_cause, heard_as, hearing, judged_initiator}
 use Rattle.glare_core.proofs.Judging.{unrefused}
 use Rattle.startup.proofs.Uncaused.{IsHeard, no_cause_is_heard}
@@ -70,6 +72,21 @@ judged_ok s read full found named other e =
     let is = unrefused (again_or_way (session_again thing (keying_of read)) way) found (hear_refusal s.ledger (keying_of read) (is_none full)) e in
     let same : again_or_way (repeated_session thing (keying_of read)) way ≡ found = sym (ap (λ o. again_or_way o way) (same_session thing (keying_of read))) ∙ is.1 in
     sym (λ i. unless_cause (heard_as (keying_of read) (same i)) (first_that_stands (where_true (not (named i)) WrongResponder ∷ where_true (other i) OwnCertificate ∷ heard_cause full (is.0 i) ∷ [])))
+
+-- and so it is why the keying is discarded
+refused_is : (found : Judged) (refusal : HearRefusal) (o : Option HearRefusal) → unless_refused found o ≡ Err refusal → o ≡ Some refusal
+refused_is found refusal None e = absurd (cc)
+refused_is found refusal (Some x) e = cc
+
+pub judged_err : (s : StartupState) (read : InitiatorKeying) (full : Option ℕ) (refusal : HearRefusal) (cause : Cause) →
+    bytes_eq read.part.responder (sha256 s.cert) ≡ true → is_own s read.cert ≡ false → judged s.ledger (keying_of read) (is_none full) ≡ Err refusal → heard_cause full (Some refusal) ≡ Some cause →
+    Err cause ≡ unless_cause (hearing s read Current) (named_cause s read full)
+judged_err s read full refusal cause named other e stands =
+    let thing : Option Held = held_with s.ledger (sha256 read.cert) in
+    let way : Way = way_of s.ledger (sha256 read.cert) in
+    let is = refused_is (again_or_way (session_again thing (keying_of read)) way) refusal (hear_refusal s.ledger (keying_of read) (is_none full)) e in
+    let third : heard_cause full (hear_refusal s.ledger (keying_of read) (is_none full)) ≡ Some cause = ap (heard_cause full) is ∙ stands in
+    sym (λ i. unless_cause (hearing s read Current) (first_that_stands (where_true (not (named i)) WrongResponder ∷ where_true (other i) OwnCertificate ∷ third i ∷ [])))
 
 -- ---- the three ways
 

@@ -1,7 +1,7 @@
 -- The attempts and the ledger name the same things after each call on attempts, and after what time makes due.
 use Rattle.std.proofs.Common.{inl, inr, is_some, ◌⊎◌, ◌==◌, if◌then◌else◌, ◌∷◌, ℕ, ◌+◌, List, ◌≡◌, Bool, true, false, cond, refl, sym, ap, subst, ◌∙◌, Option, Some, None}
-use Rattle.std.specs.FinMap.{get, insert}
-use Rattle.rtmfp_base.proofs.Maps.{same_or_not, none_is_some, get_inserted, get_beside, found_inserted}
+use Rattle.std.specs.FinMap.{get, insert, remove}
+use Rattle.rtmfp_base.proofs.Maps.{same_or_not, none_is_some, get_inserted, get_beside, get_left, found_inserted, found_left}
 use Rattle.rtmfp_base.proofs.Lowest.{first_is_there}
 use Rattle.rtmfp_forms.specs.Address.{AddressParts}
 use Rattle.glare_core.specs.declared.facts.Why.{Why}
@@ -15,12 +15,12 @@ use Rattle.rtmfp_base.specs.Reasons.{first_that_stands, where_true}
 use Rattle.glare_core.specs.Calls.{start_refusal, start_held, started_fact, confirmed_fact, ended_fact}
 use Rattle.glare_core.proofs.Tails.{same_end}
 use Rattle.startup.specs.declared.aim.Aim.{Aim}
-use Rattle.startup.specs.declared.aim.Aim.TheVariants.{AtPeer}
+use Rattle.startup.specs.declared.aim.Aim.TheVariants.{AtPeer, ByName}
 use Rattle.startup.specs.declared.attempt.Stage.{Stage}
 use Rattle.startup.specs.Aims.{peer_of_aim, IsHeldAs, end_of_aim}
 use Rattle.startup.specs.declared.attempt.Stage.TheVariants.{Hello, Keying}
-use Rattle.startup.specs.State.{AttemptState, Attempts, StartupState, IsSound, peer_of_attempt}
-use Rattle.startup.specs.Attempts.{lowest, has_cookie, with_ledger, with_attempt, without_attempt_by, begun_attempt, after_begin, after_confirm, session_in, after_end, is_cookie_of, again_signed, if_cookie, changed}
+use Rattle.startup.specs.State.{AttemptState, Attempts, StartupState, FitsStage, IsSound, peer_of_attempt}
+use Rattle.startup.specs.Attempts.{lowest, has_cookie, with_ledger, with_attempt, without_attempt_by, begun_attempt, after_begin, begun_search, after_seek, after_start, met, after_confirm, session_in, after_end, is_cookie_of, with_cookie, again_signed, if_cookie, changed}
 use Rattle.startup.specs.Keyings.{opening_id, without}
 use Rattle.startup.proofs.Stepping.{held_after, held_after_own, sound_after}
 
@@ -57,41 +57,106 @@ held_beside l fact unheld near ni (AtPeer peer n) was =
       | inl d ↦ absurd (none_is_some (Opening n near ni) (held_with l peer) (ap (held_with l) (sym d.0) ∙ unheld) was)
       | inr d ↦ ap (λ b. cond b (after fact (held_with l (peer_of fact))) (held_with l peer)) d.1 ∙ was
     ]
+held_beside l fact unheld near ni (ByName name) was = tt
 
--- They do after an attempt has begun, under a near id that no attempt has, with a peer with which nothing is held.
-pub begun_is_sound : (s : StartupState) (peer : List ℕ) (candidates : List AddressParts) (near : ℕ) (ni tag : List ℕ) (moment : ℕ) →
-    IsSound s → get s.attempts near ≡ None → held_with s.ledger peer ≡ None → IsSound (after_begin s peer candidates near ni tag moment)
-begun_is_sound s peer candidates near ni tag moment sound free unheld =
-    let fact : Fact = started_fact s.ledger peer near ni in
-    let a : AttemptState = begun_attempt s peer candidates ni tag moment in
+-- They do after an attempt towards a peer has started, with which nothing is held, under a near id that no attempt towards a peer has.
+pub started_is_sound : (s : StartupState) (peer : List ℕ) (near : ℕ) (a : AttemptState) → IsSound s → a.aim ≡ AtPeer peer (s.ledger.started + 1) →
+    peer_of_attempt (get s.attempts near) ≡ None → held_with s.ledger peer ≡ None → IsSound (with_attempt (with_ledger s (noted s.ledger (started_fact s.ledger peer near a.ni))) near a)
+started_is_sound s peer near a sound aims free unheld =
+    let fact : Fact = started_fact s.ledger peer near a.ni in
     record {
       own = sound.own;
       held = λ k b e. elim (found_inserted s.attempts near a k b e) [
         | inl here ↦
             subst (λ (c : AttemptState). IsHeldAs (noted s.ledger fact) k c.ni c.aim) here.1
-            (held_after_own s.ledger fact ∙ ap (λ (id : ℕ). Some (Opening (s.ledger.started + 1) id ni)) (sym here.0))
+            (subst (λ (aim : Aim). IsHeldAs (noted s.ledger fact) k a.ni aim) (sym aims)
+            (held_after_own s.ledger fact ∙ ap (λ (id : ℕ). Some (Opening (s.ledger.started + 1) id a.ni)) (sym here.0)))
         | inr other ↦ held_beside s.ledger fact unheld k b.ni b.aim (sound.held k b other.1)
+      ];
+      stages = λ k b e. elim (found_inserted s.attempts near a k b e) [
+        | inl here ↦
+            subst (λ (c : AttemptState). FitsStage c.aim c.stage) here.1
+            (subst (λ (aim : Aim). FitsStage aim a.stage) (sym aims) tt)
+        | inr other ↦ sound.stages k b other.1
       ];
       there = λ q n k ki e. elim (same_end peer q) [
         | inl d ↦
-            let here : Some (Opening (s.ledger.started + 1) near ni) ≡ Some (Opening n k ki) = sym (held_after_own s.ledger fact) ∙ ap (held_with (noted s.ledger fact)) d.0 ∙ e in
+            let here : Some (Opening (s.ledger.started + 1) near a.ni) ≡ Some (Opening n k ki) = sym (held_after_own s.ledger fact) ∙ ap (held_with (noted s.ledger fact)) d.0 ∙ e in
             let id : near ≡ k = cc in
-            ap (λ (i : ℕ). peer_of_attempt (get (insert s.attempts near a) i)) (sym id) ∙ ap peer_of_attempt (get_inserted s.attempts near a) ∙ ap (λ (p : List ℕ). Some p) d.0
+            ap (λ (i : ℕ). peer_of_attempt (get (insert s.attempts near a) i)) (sym id) ∙ ap peer_of_attempt (get_inserted s.attempts near a) ∙ ap peer_of_aim aims ∙ ap (λ (p : List ℕ). Some p) d.0
         | inr d ↦
             let was : held_with s.ledger q ≡ Some (Opening n k ki) = sym (held_after s.ledger fact q ∙ ap (λ b'. cond b' (after fact (held_with s.ledger peer)) (held_with s.ledger q)) d.1) ∙ e in
             let at : peer_of_attempt (get s.attempts k) ≡ Some q = sound.there q n k ki was in
             elim (same_or_not k near) [
-              | inl is ↦ absurd (none_is_some q (peer_of_attempt (get s.attempts k)) (ap (λ (i : ℕ). peer_of_attempt (get s.attempts i)) is.0 ∙ ap peer_of_attempt free) at)
+              | inl is ↦ absurd (none_is_some q (peer_of_attempt (get s.attempts k)) (ap (λ (i : ℕ). peer_of_attempt (get s.attempts i)) is.0 ∙ free) at)
               | inr is ↦ ap peer_of_attempt (get_beside s.attempts near a k is.0) ∙ at
             ]
       ];
     }
 
+-- They do after an attempt has begun, under a near id that no attempt has, with a peer with which nothing is held.
+pub begun_is_sound : (s : StartupState) (peer : List ℕ) (candidates : List AddressParts) (near : ℕ) (ni tag : List ℕ) (moment : ℕ) →
+    IsSound s → get s.attempts near ≡ None → held_with s.ledger peer ≡ None → IsSound (after_begin s peer candidates near ni tag moment)
+begun_is_sound s peer candidates near ni tag moment sound free unheld =
+    started_is_sound s peer near (begun_attempt s peer candidates ni tag moment) sound refl (ap peer_of_attempt free) unheld
+
+-- ---- a search
+
+-- no peer is known of a search
+no_peer : (a : AttemptState) (name : List ℕ) → a.aim ≡ ByName name → peer_of_aim a.aim ≡ None
+no_peer a name searches = ap peer_of_aim searches
+
+-- They do after a search has begun, under a near id that no attempt has.
+pub sought_is_sound : (s : StartupState) (name : List ℕ) (candidates : List AddressParts) (near : ℕ) (ni tag : List ℕ) (moment : ℕ) →
+    IsSound s → get s.attempts near ≡ None → IsSound (after_seek s name candidates near ni tag moment)
+sought_is_sound s name candidates near ni tag moment sound free =
+    let a : AttemptState = begun_search name candidates ni tag moment in
+    record {
+      own = sound.own;
+      held = λ k b e. elim (found_inserted s.attempts near a k b e) [
+        | inl here ↦ subst (λ (c : AttemptState). IsHeldAs s.ledger k c.ni c.aim) here.1 tt
+        | inr other ↦ sound.held k b other.1
+      ];
+      stages = λ k b e. elim (found_inserted s.attempts near a k b e) [
+        | inl here ↦ subst (λ (c : AttemptState). FitsStage c.aim c.stage) here.1 tt
+        | inr other ↦ sound.stages k b other.1
+      ];
+      there = λ q n k ki e.
+          let at : peer_of_attempt (get s.attempts k) ≡ Some q = sound.there q n k ki e in
+          elim (same_or_not k near) [
+            | inl is ↦ absurd (none_is_some q (peer_of_attempt (get s.attempts k)) (ap (λ (i : ℕ). peer_of_attempt (get s.attempts i)) is.0 ∙ ap peer_of_attempt free) at)
+            | inr is ↦ ap peer_of_attempt (get_beside s.attempts near a k is.0) ∙ at
+          ];
+    }
+
+-- They do after a search was given up.
+pub unsought_is_sound : (s : StartupState) (near : ℕ) (a : AttemptState) (name : List ℕ) → IsSound s → get s.attempts near ≡ Some a → a.aim ≡ ByName name →
+    IsSound (record s { attempts = remove s.attempts near })
+unsought_is_sound s near a name sound at searches =
+    record {
+      own = sound.own;
+      held = λ k b e. sound.held k b (found_left s.attempts near k b e).1;
+      stages = λ k b e. sound.stages k b (found_left s.attempts near k b e).1;
+      there = λ q n k ki e.
+          let was : peer_of_attempt (get s.attempts k) ≡ Some q = sound.there q n k ki e in
+          elim (same_or_not k near) [
+            | inl is ↦
+                absurd (none_is_some q (peer_of_attempt (get s.attempts k)) (ap (λ (i : ℕ). peer_of_attempt (get s.attempts i)) is.0 ∙ ap peer_of_attempt at ∙ no_peer a name searches) was)
+            | inr is ↦ ap peer_of_attempt (get_left s.attempts near k is.0) ∙ was
+          ];
+    }
+
+-- They do after a search was answered by an end with which nothing is held: it is an attempt towards that end.
+pub met_is_sound : (s : StartupState) (peer : List ℕ) (near : ℕ) (a : AttemptState) (name : List ℕ) (from : AddressParts) (cookie : List ℕ) (moment : ℕ) →
+    IsSound s → get s.attempts near ≡ Some a → a.aim ≡ ByName name → held_with s.ledger peer ≡ None → IsSound (after_start s peer near a from cookie moment)
+met_is_sound s peer near a name from cookie moment sound at searches unheld =
+    started_is_sound s peer near (met a peer (s.ledger.started + 1) from cookie moment) sound refl (ap peer_of_attempt at ∙ no_peer a name searches) unheld
+
 -- ---- an attempt goes on
 
 -- They do after an attempt was changed that is still towards the same, with the same nonce.
-pub changed_is_sound : (s : StartupState) (near : ℕ) (a b : AttemptState) → IsSound s → get s.attempts near ≡ Some a → b.aim ≡ a.aim → b.ni ≡ a.ni → IsSound (with_attempt s near b)
-changed_is_sound s near a b sound at same_aim same_ni =
+pub changed_is_sound : (s : StartupState) (near : ℕ) (a b : AttemptState) → IsSound s → get s.attempts near ≡ Some a → b.aim ≡ a.aim → b.ni ≡ a.ni → FitsStage b.aim b.stage → IsSound (with_attempt s near b)
+changed_is_sound s near a b sound at same_aim same_ni fits =
     let was : IsHeldAs s.ledger near a.ni a.aim = sound.held near a at in
     let now : IsHeldAs s.ledger near b.ni b.aim =
     subst (λ (aim : Aim). IsHeldAs s.ledger near b.ni aim) (sym same_aim) (subst (λ (ni : List ℕ). IsHeldAs s.ledger near ni a.aim) (sym same_ni) was) in
@@ -103,6 +168,10 @@ changed_is_sound s near a b sound at same_aim same_ni =
             (subst (λ (id : ℕ). IsHeldAs s.ledger id b.ni b.aim) (sym here.0) now)
         | inr other ↦ sound.held k c other.1
       ];
+      stages = λ k c e. elim (found_inserted s.attempts near b k c e) [
+        | inl here ↦ subst (λ (x : AttemptState). FitsStage x.aim x.stage) here.1 fits
+        | inr other ↦ sound.stages k c other.1
+      ];
       there = λ q n k ki e.
           let old : peer_of_attempt (get s.attempts k) ≡ Some q = sound.there q n k ki e in
           elim (same_or_not k near) [
@@ -113,17 +182,27 @@ changed_is_sound s near a b sound at same_aim same_ni =
           ];
     }
 
+-- an attempt that is answered is towards a peer, and one whose cookie changes has one
+pub peer_fits : (aim : Aim) (peer : List ℕ) (n : ℕ) (stage : Stage) → aim ≡ AtPeer peer n → FitsStage aim stage
+peer_fits aim peer n stage aims = subst (λ (x : Aim). FitsStage x stage) (sym aims) tt
+
+pub recookied_fits : (aim : Aim) (stage : Stage) (cookie : List ℕ) → FitsStage aim stage → FitsStage aim (with_cookie cookie stage)
+recookied_fits (AtPeer peer n) stage cookie fits = tt
+recookied_fits (ByName name) Hello cookie fits = tt
+recookied_fits (ByName name) (Keying at old) cookie fits = absurd fits
+
 -- ---- an attempt ends
 
--- They do after the end of an attempt that is there.
-end_by_aim : (s : StartupState) (near : ℕ) (why : Why) (ni : List ℕ) (aim : Aim) → IsSound s → IsHeldAs s.ledger near ni aim → IsSound (without_attempt_by s near (end_of_aim near why aim))
-end_by_aim s near why ni (AtPeer peer n) sound was =
+-- They do after the end of an attempt or a search that is there.
+end_by_aim : (s : StartupState) (near : ℕ) (why : Why) (a : AttemptState) (aim : Aim) → IsSound s → get s.attempts near ≡ Some a → a.aim ≡ aim → IsHeldAs s.ledger near a.ni aim → IsSound (without_attempt_by s near (end_of_aim near why aim))
+end_by_aim s near why a (ByName name) sound at aims was = unsought_is_sound s near a name sound at aims
+end_by_aim s near why a (AtPeer peer n) sound at aims was =
     subst (λ (gone : Option ℕ). IsSound (record s { ledger = noted s.ledger (Ended peer near why); attempts = without s.attempts gone })) (ap opening_id was)
     (sound_after s (Ended peer near why) sound (ap opening_id (held_after_own s.ledger (Ended peer near why))))
 
 pub end_is_sound : (s : StartupState) (e : ℕ × AttemptState) (why : Why) → IsSound s → get s.attempts e.0 ≡ Some e.1 →
     IsSound (without_attempt_by s e.0 (end_of_aim e.0 why e.1.aim))
-end_is_sound s e why sound at = end_by_aim s e.0 why e.1.ni e.1.aim sound (sound.held e.0 e.1 at)
+end_is_sound s e why sound at = end_by_aim s e.0 why e.1 e.1.aim sound at refl (sound.held e.0 e.1 at)
 
 -- ---- a session is confirmed or ends
 

@@ -15,3 +15,4 @@ pub mod Marking
 pub mod Widths
 pub mod Rising
 pub mod Owning
+pub mod Greeted

@@ -15,5 +15,6 @@ new_is_sound cert secret cookie_secret max_peers = let s = new_startup cert secr
     record {
       own = refl;
       held = λ near a e. absurd (none_is_some a (get s.attempts near) (get-empty nat_cmp near) e);
+      stages = λ near a e. absurd (none_is_some a (get s.attempts near) (get-empty nat_cmp near) e);
       there = λ peer n near ni e. absurd (none_is_some (Opening n near ni) (held_with s.ledger peer) (ap (λ (o : Option PeerRow). (row_or_blank o).held) (get-empty (slice_cmp nat_cmp) peer)) e);
     }

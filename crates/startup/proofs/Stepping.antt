@@ -26,7 +26,7 @@ use Rattle.glare_core.specs.Calls.{is_born_of, again_of, heard, heard_noted, aga
 use Rattle.glare_core.proofs.Tails.{same_end}
 use Rattle.glare_core.proofs.Maps.{row_inserted}
 use Rattle.startup.specs.declared.aim.Aim.{Aim}
-use Rattle.startup.specs.declared.aim.Aim.TheVariants.{AtPeer}
+use Rattle.startup.specs.declared.aim.Aim.TheVariants.{AtPeer, ByName}
 use Rattle.startup.specs.Aims.{peer_of_aim, IsHeldAs}
 use Rattle.startup.specs.State.{AttemptState, Attempts, StartupState, IsSound, peer_of_attempt}
 use Rattle.startup.specs.Keyings.{again_or_birth, session_answer, born_session, repeated_session, attempt_gone, opening_id, without, after_again_or_birth, opened_with, after_opening}
@@ -103,6 +103,7 @@ stepped s fact = record s { ledger = noted s.ledger fact; attempts = without s.a
 still_held : (l : Ledger) (fact : Fact) (near : ℕ) (ni : List ℕ) (aim : Aim) → (opening_id (held_with l (peer_of fact)) ≡ Some near → ⊥) → IsHeldAs l near ni aim → IsHeldAs (noted l fact) near ni aim
 still_held l fact near ni (AtPeer peer n) other is =
     held_after_other l fact peer (λ same. other (ap (λ q. opening_id (held_with l q)) same ∙ ap opening_id is)) ∙ is
+still_held l fact near ni (ByName name) other is = tt
 
 -- Where a fact leaves no attempt with its peer, and that attempt isn't kept, all is sound.
 pub sound_after : (s : StartupState) (fact : Fact) → IsSound s → opening_id (held_with (noted s.ledger fact) (peer_of fact)) ≡ None → IsSound (stepped s fact)
@@ -114,6 +115,7 @@ sound_after s fact sound none =
       held = λ near a e.
           let there = left s.attempts gone near a e in
           still_held s.ledger fact near a.ni a.aim there.other (sound.held near a there.was);
+      stages = λ near a e. sound.stages near a (left s.attempts gone near a e).was;
       there = λ peer n near ni e.
           elim (same_end p peer) [
             | inl d ↦
@@ -255,6 +257,7 @@ attempt_there s near peer sound there = go (get s.attempts near) refl there
           aims = aims ∙ ap (λ (q : List ℕ). AtPeer q n) same;
           is_held = ap (held_with s.ledger) (sym same) ∙ held_is;
         }
+    by_aim a at (ByName name) aims e = absurd (cc)
 
     go : (o : Option AttemptState) → get s.attempts near ≡ o → peer_of_attempt o ≡ Some peer → IsTowards s near peer
     go None at e = absurd (cc)

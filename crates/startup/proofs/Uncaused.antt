@@ -19,9 +19,9 @@ use Rattle.rtmfp_base.specs.declared.cause.Cause.{Cause}
 use Rattle.rtmfp_base.specs.declared.cause.Cause.TheVariants.{OwnCertificate, BadSignature, WrongResponder}
 use Rattle.startup_packets.specs.Packets.{is_signed}
 use Rattle.startup.specs.State.{StartupState}
-use Rattle.startup.specs.Attempts.{wide}
+use Rattle.startup.specs.Attempts.{wide, is_own}
 use Rattle.startup_packets.specs.Readings.{InitiatorKeying}
-use Rattle.startup.specs.Keyings.{keying_of, is_own, heard_cause, named_cause, cookie_cause, initiator_cause}
+use Rattle.startup.specs.Keyings.{keying_of, heard_cause, named_cause, cookie_cause, initiator_cause}
 
 -- of three answers none stands where the first that stands is none
 second_none : {A : Type 0} (a b c : Option A) → first_that_stands (a ∷ b ∷ c ∷ []) ≡ None → b ≡ None

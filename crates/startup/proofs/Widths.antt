@@ -7,7 +7,7 @@ use Rattle.glare_core.proofs.Tails.{same_end}
 use Rattle.startup.specs.declared.attempt.Stage.{Stage}
 use Rattle.startup.specs.declared.attempt.Stage.TheVariants.{Hello, Keying}
 use Rattle.startup.specs.declared.attempt.Change.{Change}
-use Rattle.startup.specs.declared.attempt.Change.TheVariants.{Answered, Recookied, Extended, Repeated}
+use Rattle.startup.specs.declared.attempt.Change.TheVariants.{Answered, Met, Recookied, Extended, Repeated}
 use Rattle.startup.specs.State.{AttemptState, Attempts}
 use Rattle.startup.specs.Attempts.{lowest, has_tag, has_cookie, is_cookie_of, with_cookie}
 use Rattle.startup.specs.Sought.{change_of, Allows}
@@ -42,6 +42,7 @@ recookied_is_narrow new (Keying at old) narrow = narrow
 -- there is room for what comes with a change
 pub change_is_sized : (change : Change) (moment : ℕ) (a : AttemptState) → Allows change a → IsSized a → IsSized (change_of change moment a)
 change_is_sized (Answered from cookie) moment a allows is = record { tag = is.tag; cookie = allows }
+change_is_sized (Met peer n from cookie) moment a allows is = record { tag = is.tag; cookie = allows }
 change_is_sized (Recookied new) moment a allows is = record { tag = is.tag; cookie = recookied_is_narrow new.now a.stage allows }
 change_is_sized (Extended new) moment a allows is = record { tag = is.tag; cookie = is.cookie }
 change_is_sized Repeated moment a allows is = record { tag = is.tag; cookie = is.cookie }

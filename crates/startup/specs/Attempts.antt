@@ -1,5 +1,5 @@
 -- The attempts of an end: how one begins, goes on from hellos to keyings, and ends.
-use Rattle.std.specs.Prelude.{ℕ, ◌+◌, ◌==◌, Bool, false, nat_lt, if◌then◌else◌, List, [], ◌∷◌, ◌++◌, length, Option, Some, None}
+use Rattle.std.specs.Prelude.{ℕ, ◌+◌, ◌-◌, ◌^◌, ◌==◌, ◌||◌, not, Bool, false, nat_lt, if◌then◌else◌, List, [], ◌∷◌, ◌++◌, drop, length, Option, Some, None}
 use Rattle.std.specs.List.{find, fold, list_any}
 use Rattle.std.specs.Str.{bytes_eq}
 use Rattle.std.specs.FinMap.{get, insert, remove, entries}
@@ -11,19 +11,22 @@ use Rattle.glare_core.specs.declared.facts.Why.TheVariants.{Cancelled}
 use Rattle.glare_core.specs.declared.facts.Fact.{Fact}
 use Rattle.glare_core.specs.declared.facts.Held.{Held}
 use Rattle.glare_core.specs.declared.facts.Held.TheVariants.{Opening, HalfOpen, KeptAsResponder, KeptAsInitiator}
-use Rattle.glare_core.specs.Ledger.{Ledger, held_with, noted, noted_if}
+use Rattle.glare_core.specs.declared.answers.StartRefusal.{StartRefusal}
+use Rattle.glare_core.specs.declared.answers.StartRefusal.TheVariants.{AttemptsSpent as NoNumber, PeersFull as NoRow}
+use Rattle.glare_core.specs.Ledger.{Ledger, held_with, row_count, noted, noted_if}
+use Rattle.glare_core.specs.Things.{near_of}
 use Rattle.rtmfp_base.specs.Reasons.{where_true, first_that_stands}
-use Rattle.glare_core.specs.Calls.{started_fact, confirmed_fact, ended_fact}
+use Rattle.glare_core.specs.Calls.{peers_full, started_fact, confirmed_fact, ended_fact}
 use Rattle.startup.specs.declared.attempt.Stage.{Stage}
 use Rattle.startup.specs.declared.attempt.Stage.TheVariants.{Hello, Keying}
 use Rattle.startup.specs.declared.answer.Answer.{Answer}
 use Rattle.rtmfp_base.specs.declared.cause.Cause.{Cause}
-use Rattle.rtmfp_base.specs.declared.cause.Cause.TheVariants.{Wide, NoAttempt, WrongState, WrongPeer}
+use Rattle.rtmfp_base.specs.declared.cause.Cause.TheVariants.{Wide, NoAttempt, WrongState, WrongPeer, OwnCertificate, AlreadyHeld, AttemptsSpent, PeersFull}
 use Rattle.startup.specs.declared.aim.Aim.{Aim}
-use Rattle.startup.specs.declared.aim.Aim.TheVariants.{AtPeer}
-use Rattle.startup.specs.Aims.{is_numbered, is_towards, discriminator_of_aim, keying_of_aim, end_of_aim}
+use Rattle.startup.specs.declared.aim.Aim.TheVariants.{AtPeer, ByName}
+use Rattle.startup.specs.Aims.{is_search, is_numbered, discriminator_of_aim, keying_of_aim, end_of_aim}
 use Rattle.startup.specs.State.{AttemptState, Attempts, StartupState, SpreadParts}
-use Rattle.startup_packets.specs.Packets.{ihello_packet}
+use Rattle.startup_packets.specs.Packets.{ihello_packet, iikeying_signed}
 
 -- ---- finding attempts
 
@@ -122,6 +125,44 @@ abbrev pub begin_spread : StartupState → List ℕ → List AddressParts → Li
 begin_spread s peer candidates ni tag moment =
     hello_spread (begun_attempt s peer candidates ni tag moment) (distinct_candidates candidates)
 
+-- ---- a search begins, and is given up
+
+-- It has no number yet, and nothing is noted of it.
+abbrev pub begun_search : List ℕ → List AddressParts → List ℕ → List ℕ → ℕ → AttemptState
+begun_search name candidates ni tag moment =
+    record {
+      aim = ByName name;
+      ni = ni;
+      tag = tag;
+      start = moment;
+      candidates = distinct_candidates candidates;
+      stage = Hello;
+      last = moment;
+      gap = 0;
+    }
+
+abbrev pub after_seek : StartupState → List ℕ → List AddressParts → ℕ → List ℕ → List ℕ → ℕ →
+    StartupState
+after_seek s name candidates near ni tag moment =
+    with_attempt s near (begun_search name candidates ni tag moment)
+
+abbrev pub seek_spread : List ℕ → List AddressParts → List ℕ → List ℕ → ℕ → SpreadParts
+seek_spread name candidates ni tag moment =
+    hello_spread (begun_search name candidates ni tag moment) (distinct_candidates candidates)
+
+-- whether a search is there
+abbrev pub is_search_in : Option AttemptState → Bool
+is_search_in None = false
+is_search_in (Some a) = is_search a.aim
+
+abbrev pub has_search : StartupState → ℕ → Bool
+has_search s near = is_search_in (get s.attempts near)
+
+-- what is left when the search with this near id is given up; an attempt stays
+abbrev pub after_unseek : StartupState → ℕ → StartupState
+after_unseek s near = if has_search s near then record s { attempts = remove s.attempts near }
+    else s
+
 -- ---- an attempt is given up
 
 abbrev pub end_of : Option (ℕ × AttemptState) → Why → Option Fact
@@ -168,45 +209,144 @@ after_end s peer why = with_ledger s (noted_if s.ledger (end_fact s peer why))
 abbrev pub wide : List ℕ → Option Cause
 wide bytes = where_true (nat_lt 128 (length bytes)) (Wide (length bytes))
 
--- why an attempt isn't answered by the hello of an end with this fingerprint
-abbrev pub hello_cause : Stage → Aim → List ℕ → Option Cause
-hello_cause Hello aim print = if is_towards print aim then None else Some WrongPeer
-hello_cause (Keying at cookie) aim print = Some WrongState
+-- Whether it is the own certificate. Another one with the same fingerprint would count as the own
+-- one, too, since ends are named by their fingerprints; nobody knows such a pair.
+abbrev pub is_own : StartupState → List ℕ → Bool
+is_own s cert = bytes_eq cert s.cert || bytes_eq (sha256 cert) (sha256 s.cert)
 
-abbrev pub hello_cause_at : Option (ℕ × AttemptState) → List ℕ → Option Cause
-hello_cause_at None print = Some NoAttempt
-hello_cause_at (Some e) print = hello_cause e.1.stage e.1.aim print
+-- What is held with the end that answers a search keeps an attempt towards it from starting.
+abbrev pub held_cause : Option Held → Option Cause
+held_cause None = None
+held_cause (Some thing) = Some (AlreadyHeld (near_of thing))
 
-abbrev pub hello_cause_among : Attempts → List ℕ → List ℕ → List ℕ → Option Cause
-hello_cause_among attempts tag cookie print =
-    first_that_stands (wide tag ∷ wide cookie ∷ hello_cause_at (lowest (has_tag tag) attempts) print
+-- There is no number for one more attempt, or no row for its peer.
+abbrev pub spent_cause : Ledger → List ℕ → Option Cause
+spent_cause l peer = first_that_stands (where_true (l.started == 2 ^ 64 - 1) AttemptsSpent
+    ∷ where_true (peers_full l peer) (PeersFull (row_count l)) ∷ [])
+
+-- the same by the ledger's answer to an attempt that would start, where its first reasons don't
+-- stand
+abbrev pub start_cause : Option StartRefusal → Option Cause
+start_cause None = None
+start_cause (Some NoNumber) = Some AttemptsSpent
+start_cause (Some (NoRow count)) = Some (PeersFull count)
+start_cause (Some refusal) = None
+
+-- Why a search for a name isn't answered by the hello of an end with this certificate. The name of
+-- a certificate is all that stands behind its 16 instance bytes.
+abbrev pub search_cause : StartupState → List ℕ → List ℕ → Option Cause
+search_cause s name cert = first_that_stands (
+    where_true (not (bytes_eq name (drop 16 cert))) WrongPeer
+    ∷ where_true (is_own s cert) OwnCertificate
+    ∷ held_cause (held_with s.ledger (sha256 cert))
+    ∷ spent_cause s.ledger (sha256 cert)
     ∷ [])
+
+-- the same of an attempt or a search, by what it is towards
+abbrev pub aim_cause : StartupState → Aim → List ℕ → Option Cause
+aim_cause s (AtPeer peer n) cert = if bytes_eq (sha256 cert) peer then None else Some WrongPeer
+aim_cause s (ByName name) cert = search_cause s name cert
+
+-- and by its stage
+abbrev pub hello_cause : StartupState → Stage → Aim → List ℕ → Option Cause
+hello_cause s Hello aim cert = aim_cause s aim cert
+hello_cause s (Keying at cookie) aim cert = Some WrongState
+
+abbrev pub hello_cause_at : StartupState → Option (ℕ × AttemptState) → List ℕ → Option Cause
+hello_cause_at s None cert = Some NoAttempt
+hello_cause_at s (Some e) cert = hello_cause s e.1.stage e.1.aim cert
 
 -- why a responder's hello with this tag, cookie and certificate is discarded
 abbrev pub rhello_cause : StartupState → List ℕ → List ℕ → List ℕ → Option Cause
-rhello_cause s tag cookie cert = hello_cause_among s.attempts tag cookie (sha256 cert)
+rhello_cause s tag cookie cert = first_that_stands (wide tag ∷ wide cookie
+    ∷ hello_cause_at s (lowest (has_tag tag) s.attempts) cert ∷ [])
 
 -- an attempt that was answered, from an address with a cookie
 abbrev pub answered : AttemptState → AddressParts → List ℕ → ℕ → AttemptState
 answered a from cookie moment = record a { stage = Keying from cookie; last = moment; gap = 0 }
 
-abbrev pub after_answer : StartupState → Option (ℕ × AttemptState) → AddressParts → List ℕ → ℕ →
+-- A search that was answered by an end with this fingerprint: it is the attempt towards it with
+-- this number, which starts at this moment.
+abbrev pub met : AttemptState → List ℕ → ℕ → AddressParts → List ℕ → ℕ → AttemptState
+met a peer n from cookie moment = record a {
+  aim = AtPeer peer n;
+  start = moment;
+  stage = Keying from cookie;
+  last = moment;
+  gap = 0;
+}
+
+-- the fact that an answer by an end with this fingerprint states: the start of the attempt that a
+-- search becomes
+abbrev pub answer_fact_as : StartupState → List ℕ → ℕ → List ℕ → Aim → Option Fact
+answer_fact_as s print near ni (AtPeer peer n) = None
+answer_fact_as s print near ni (ByName name) = Some (started_fact s.ledger print near ni)
+
+abbrev pub answer_fact : StartupState → List ℕ → Option (ℕ × AttemptState) → Option Fact
+answer_fact s print None = None
+answer_fact s print (Some e) = answer_fact_as s print e.0 e.1.ni e.1.aim
+
+-- a search is an attempt towards this end, whose start is noted
+abbrev pub after_start : StartupState → List ℕ → ℕ → AttemptState → AddressParts → List ℕ → ℕ →
     StartupState
-after_answer s None from cookie moment = s
-after_answer s (Some e) from cookie moment = with_attempt s e.0 (answered e.1 from cookie moment)
+after_start s peer near a from cookie moment =
+    with_attempt (with_ledger s (noted s.ledger (started_fact s.ledger peer near a.ni))) near
+    (met a peer (s.ledger.started + 1) from cookie moment)
 
-abbrev pub answer_keying : StartupState → Option (ℕ × AttemptState) → AddressParts → List ℕ →
-    Option Answer
-answer_keying s None from cookie = None
-answer_keying s (Some e) from cookie = Some (keying_answer s e.0 e.1 from cookie)
+-- what it leaves: the attempt goes on, or the search is an attempt
+abbrev pub after_answer_as : StartupState → List ℕ → ℕ × AttemptState → AddressParts → List ℕ → ℕ →
+    Aim → StartupState
+after_answer_as s print e from cookie moment (AtPeer peer n) =
+    with_attempt s e.0 (answered e.1 from cookie moment)
+after_answer_as s print e from cookie moment (ByName name) =
+    after_start s print e.0 e.1 from cookie moment
 
--- what a responder's hello leaves, and the keying that answers it
-abbrev pub after_rhello : StartupState → List ℕ → List ℕ → AddressParts → ℕ → StartupState
-after_rhello s tag cookie from moment = after_answer s (lowest (has_tag tag) s.attempts) from cookie
-    moment
+abbrev pub after_answer : StartupState → List ℕ → Option (ℕ × AttemptState) → AddressParts →
+    List ℕ → ℕ → StartupState
+after_answer s print None from cookie moment = s
+after_answer s print (Some e) from cookie moment =
+    after_answer_as s print e from cookie moment e.1.aim
 
-abbrev pub rhello_keying : StartupState → List ℕ → List ℕ → AddressParts → Option Answer
-rhello_keying s tag cookie from = answer_keying s (lowest (has_tag tag) s.attempts) from cookie
+-- the keying that goes to the end that answered, with the number that the attempt has then
+abbrev pub keying_towards : StartupState → ℕ → List ℕ → List ℕ → ℕ → AddressParts → List ℕ → Answer
+keying_towards s near ni peer n to cookie = record {
+  to = to;
+  sid = 0;
+  plain = iikeying_signed (sign_key_of s.secret) near cookie s.cert ni n peer;
+}
+
+abbrev pub answer_keying_as : StartupState → List ℕ → ℕ → List ℕ → AddressParts → List ℕ → Aim →
+    Answer
+answer_keying_as s print near ni from cookie (AtPeer peer n) =
+    keying_towards s near ni peer n from cookie
+answer_keying_as s print near ni from cookie (ByName name) =
+    keying_towards s near ni print (s.ledger.started + 1) from cookie
+
+abbrev pub answer_keying : StartupState → List ℕ → Option (ℕ × AttemptState) → AddressParts →
+    List ℕ → Option Answer
+answer_keying s print None from cookie = None
+answer_keying s print (Some e) from cookie =
+    Some (answer_keying_as s print e.0 e.1.ni from cookie e.1.aim)
+
+-- what a responder's hello states, what it leaves, and the keying that answers it
+abbrev pub rhello_fact : StartupState → List ℕ → List ℕ → Option Fact
+rhello_fact s tag cert = answer_fact s (sha256 cert) (lowest (has_tag tag) s.attempts)
+
+abbrev pub after_rhello : StartupState → List ℕ → List ℕ → List ℕ → AddressParts → ℕ → StartupState
+after_rhello s tag cookie cert from moment = after_answer s (sha256 cert)
+    (lowest (has_tag tag) s.attempts) from cookie moment
+
+abbrev pub rhello_keying : StartupState → List ℕ → List ℕ → List ℕ → AddressParts → Option Answer
+rhello_keying s tag cookie cert from = answer_keying s (sha256 cert)
+    (lowest (has_tag tag) s.attempts) from cookie
+
+-- whether it starts an attempt, and so takes memory
+abbrev pub is_search_at : Option (ℕ × AttemptState) → Bool
+is_search_at None = false
+is_search_at (Some e) = is_search e.1.aim
+
+abbrev pub rhello_starts : StartupState → List ℕ → Bool
+rhello_starts s tag = is_search_at (lowest (has_tag tag) s.attempts)
 
 -- ---- a cookie changes
 

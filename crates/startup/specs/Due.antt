@@ -3,15 +3,16 @@ use Rattle.std.specs.Prelude.{ℕ, ◌+◌, ◌==◌, ◌||◌, Bool, nat_le, if
 use Rattle.rtmfp_forms.specs.Address.{AddressParts}
 use Rattle.crypto_profile.specs.Keys.{sign_key_of}
 use Rattle.glare_core.specs.declared.facts.Why.TheVariants.{Expired}
+use Rattle.glare_core.specs.declared.facts.Fact.{Fact}
 use Rattle.glare_core.specs.declared.facts.Fact.TheVariants.{Ended}
 use Rattle.rtmfp_base.specs.Counts.{count_where}
 use Rattle.startup.specs.declared.attempt.Stage.{Stage}
 use Rattle.startup.specs.declared.attempt.Stage.TheVariants.{Hello, Keying}
 use Rattle.startup.specs.declared.answer.Due.{Due}
-use Rattle.startup.specs.declared.answer.Due.TheVariants.{Ended as EndDue, Hello as HelloDue, Keying as KeyingDue}
+use Rattle.startup.specs.declared.answer.Due.TheVariants.{Ended as EndDue, Hello as HelloDue, Keying as KeyingDue, Unsought}
 use Rattle.startup.specs.State.{AttemptState, StartupState}
 use Rattle.startup.specs.declared.aim.Aim.{Aim}
-use Rattle.startup.specs.declared.aim.Aim.TheVariants.{AtPeer}
+use Rattle.startup.specs.declared.aim.Aim.TheVariants.{AtPeer, ByName}
 use Rattle.startup.specs.Aims.{end_of_aim}
 use Rattle.startup.specs.Attempts.{lowest, with_attempt, without_attempt_by, hello_spread, keying_signed}
 
@@ -55,6 +56,12 @@ repeat_of s near a = repeat_signed (sign_key_of s.secret) s.cert near a a.stage
 -- what is done at its end, by what it is towards
 abbrev pub due_end : ℕ → Aim → Due
 due_end near (AtPeer peer n) = EndDue (Ended peer near Expired)
+due_end near (ByName name) = Unsought near
+
+-- the same by the fact with which it ends, which a search hasn't
+abbrev pub due_by : ℕ → Option Fact → Due
+due_by near None = Unsought near
+due_by near (Some fact) = EndDue fact
 
 -- the one thing that is done of an attempt that is due: its end where it is over, and else its
 -- repeat

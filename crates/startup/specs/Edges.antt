@@ -2,7 +2,7 @@
 use Rattle.std.specs.Prelude.{◌≡◌, ℕ, List, [], ◌∷◌, false, replicate}
 use Rattle.std.specs.FinMap.{entries}
 use Rattle.rtmfp_forms.specs.Address.{AddressParts}
-use Rattle.startup.specs.declared.aim.Aim.TheVariants.{AtPeer}
+use Rattle.startup.specs.declared.aim.Aim.TheVariants.{AtPeer, ByName}
 use Rattle.startup.specs.declared.attempt.Stage.TheVariants.{Hello, Keying}
 use Rattle.startup.specs.State.{AttemptState, Attempts}
 
@@ -23,6 +23,10 @@ timed start last gap a = record a { start = start; last = last; gap = gap }
 -- an attempt, but towards this peer, with this number
 abbrev pub towards : List ℕ → ℕ → AttemptState → AttemptState
 towards peer n a = record a { aim = AtPeer peer n }
+
+-- a search for this name, but else as an attempt
+abbrev pub searching : List ℕ → AttemptState → AttemptState
+searching name a = record a { aim = ByName name }
 
 -- an attempt, but in the hello stage, or in the keying stage with an address and a cookie
 abbrev pub in_hello : AttemptState → AttemptState

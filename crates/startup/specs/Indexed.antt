@@ -1,8 +1,8 @@
 -- The near ids of attempts by a word of each.
-use Rattle.std.specs.Prelude.{ℕ, ◌≡◌, ◌≤◌, Bool, true, length, Some, refl}
+use Rattle.std.specs.Prelude.{ℕ, ◌≡◌, ◌≤◌, Bool, true, length, Option, Some, None, refl}
 use Rattle.std.specs.Coded.{Coded, code_by, coded×, coded_ℕ, coded_bool}
 use Rattle.std.specs.Ordering.{nat_cmp}
-use Rattle.std.specs.FinMap.{FinMap, get, code}
+use Rattle.std.specs.FinMap.{FinMap, get, insert, remove, code}
 use Rattle.startup.specs.declared.attempt.Stage.{Stage}
 use Rattle.startup.specs.declared.attempt.Stage.TheVariants.{Hello, Keying}
 use Rattle.startup.specs.Aims.{aim_word}
@@ -22,16 +22,27 @@ words_code =
     (λ w. (w.nears, (w.whole, w.spare))) (λ p. record { nears = p.0; whole = p.1.0; spare = p.1.1 })
     (λ _. refl)
 
-abbrev pub number_word : AttemptState → ℕ
+abbrev pub number_word : AttemptState → Option ℕ
 number_word a = aim_word a.aim
 
-abbrev pub tag_word : AttemptState → ℕ
-tag_word a = word_of a.tag
+abbrev pub tag_word : AttemptState → Option ℕ
+tag_word a = Some (word_of a.tag)
 
--- While the index is whole, each attempt is found by its word.
-abbrev pub IsIndexed : (AttemptState → ℕ) → Words → Attempts → Type 0
-IsIndexed word words attempts = words.whole ≡ true → (near : ℕ) (a : AttemptState) →
-    get attempts near ≡ Some a → get words.nears (word a) ≡ Some near
+-- While the index is whole, each attempt that has a word is found by it.
+abbrev pub IsIndexed : (AttemptState → Option ℕ) → Words → Attempts → Type 0
+IsIndexed word words attempts = words.whole ≡ true → (near : ℕ) (a : AttemptState) (w : ℕ) →
+    get attempts near ≡ Some a → word a ≡ Some w → get words.nears w ≡ Some near
+
+-- Where there is a word, and the index is whole afterwards, it was free, and has the near id now.
+abbrev pub IsPut : Option ℕ → ℕ → Words → Words → Type 0
+IsPut None near old new = new ≡ old
+IsPut (Some word) near old new = new.whole ≡ true → (old.whole ≡ true) ×
+    (get old.nears word ≡ None) × (new.nears ≡ insert old.nears word near)
+
+-- Where there is a word it is taken out.
+abbrev pub IsTaken : Option ℕ → Words → Words → Type 0
+IsTaken None old new = new ≡ old
+IsTaken (Some word) old new = (new.whole ≡ old.whole) × (new.nears ≡ remove old.nears word)
 
 -- While the index is whole, each attempt that passes is found by this word.
 abbrev pub IsFoundBy : (AttemptState → Bool) → Words → ℕ → Attempts → Type 0

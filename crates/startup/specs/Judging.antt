@@ -16,8 +16,9 @@ use Rattle.rtmfp_base.specs.declared.cause.Cause.{Cause}
 use Rattle.startup.specs.declared.judging.Hearing.{Hearing}
 use Rattle.startup.specs.declared.judging.Hearing.TheVariants.{Change, Again, Birth}
 use Rattle.startup.specs.declared.leaving.Found.{Found}
+use Rattle.startup.specs.declared.leaving.Greeting.{Greeting}
 use Rattle.startup.specs.State.{AttemptState, StartupState, SpreadParts}
-use Rattle.startup.specs.Attempts.{hello_spread}
+use Rattle.startup.specs.Attempts.{hello_spread, hello_cause_at}
 use Rattle.startup.specs.Redirects.{after_extension}
 use Rattle.startup_packets.specs.Readings.{InitiatorKeying}
 use Rattle.startup.specs.Keyings.{keying_of, repeated_session, initiator_cause}
@@ -63,6 +64,14 @@ with_near near (Some a) = Some (near, a)
 
 abbrev pub found_in : StartupState → Found → Option (ℕ × AttemptState)
 found_in s found = with_near found.near (get s.attempts found.near)
+
+-- The attempt or search that is chosen was found for the hello of an end with this certificate,
+-- which isn't discarded.
+pub record IsGreeted (s : StartupState) (greeting : Greeting) (chosen : Option (ℕ × AttemptState))
+    (cert : List ℕ) : Type 0 where
+  pub found : IsFound s greeting.found chosen
+  pub print : greeting.print ≡ sha256 cert
+  pub none : hello_cause_at s chosen cert ≡ None
 
 -- ---- redirects
 

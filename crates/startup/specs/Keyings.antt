@@ -1,6 +1,6 @@
 -- The keyings that bear and open sessions: how they read, why they are discarded, and what they
 -- make.
-use Rattle.std.specs.Prelude.{ℕ, List, [], ◌∷◌, ◌-◌, ◌==◌, ◌||◌, Bool, true, false, not, Option, Some, None, is_none, Result, Ok, Err, if◌then◌else◌}
+use Rattle.std.specs.Prelude.{ℕ, List, [], ◌∷◌, ◌==◌, Bool, true, false, not, Option, Some, None, is_none, Result, Ok, Err, if◌then◌else◌}
 use Rattle.std.specs.Str.{bytes_eq}
 use Rattle.std.specs.FinMap.{contains_key, get, remove}
 use Rattle.sha2.specs.Sha256.{sha256}
@@ -29,14 +29,14 @@ use Rattle.startup.specs.declared.answer.Answer.{Answer}
 use Rattle.startup.specs.declared.answer.Keyed.{Keyed}
 use Rattle.startup.specs.declared.answer.Keyed.TheVariants.{Change, Again, Birth}
 use Rattle.startup.specs.declared.aim.Aim.{Aim}
-use Rattle.startup.specs.declared.aim.Aim.TheVariants.{AtPeer}
+use Rattle.startup.specs.declared.aim.Aim.TheVariants.{AtPeer, ByName}
 use Rattle.startup.specs.declared.attempt.Stage.{Stage}
 use Rattle.startup.specs.declared.attempt.Stage.TheVariants.{Hello, Keying as KeyingStage}
 use Rattle.startup_packets.specs.Readings.{InitiatorKeying, ResponderKeying, initiator_keying_in, responder_keying_in}
 use Rattle.startup_packets.specs.Packets.{is_signed, rhello_packet, cookiechange_packet, rikeying_packet}
-use Rattle.startup.specs.Aims.{is_towards}
+use Rattle.startup.specs.Aims.{is_search, is_towards}
 use Rattle.startup.specs.State.{AttemptState, Attempts, StartupState}
-use Rattle.startup.specs.Attempts.{wide, without_attempt}
+use Rattle.startup.specs.Attempts.{wide, is_own, without_attempt}
 
 -- ---- how they read
 
@@ -71,11 +71,6 @@ keying_of keying = record {
   ni = keying.part.ni;
   far = keying.near;
 }
-
--- Whether it is the own certificate. Another one with the same fingerprint would count as the own
--- one, too, since ends are named by their fingerprints; nobody knows such a pair.
-abbrev pub is_own : StartupState → List ℕ → Bool
-is_own s cert = bytes_eq cert s.cert || bytes_eq (sha256 cert) (sha256 s.cert)
 
 -- the limit on sessions, which is told where there is no room for one more
 abbrev pub limit_told : Option ℕ → ℕ
@@ -271,12 +266,13 @@ abbrev pub is_in_hello : Stage → Bool
 is_in_hello Hello = true
 is_in_hello (KeyingStage at cookie) = false
 
--- why a responder's keying doesn't open this attempt
+-- why a responder's keying doesn't open this attempt; a search it never opens
 abbrev pub attempt_cause : ResponderKeying → Option AttemptState → Option Cause
 attempt_cause keying None = Some NoAttempt
 attempt_cause keying (Some a) =
     first_that_stands (
-    where_true (is_in_hello a.stage) WrongState
+    where_true (is_search a.aim) NoAttempt
+    ∷ where_true (is_in_hello a.stage) WrongState
     ∷ where_true (not (is_towards keying.part.responder a.aim)) WrongPeer
     ∷ where_true (not (bytes_eq keying.part.ni a.ni)) NoAttempt
     ∷ [])
@@ -314,6 +310,7 @@ opened_with near keying peer n ni =
 -- the same of an attempt with a nonce, by what it is towards
 abbrev pub opened_as : ℕ → ResponderKeying → List ℕ → Aim → Option Fact
 opened_as near keying ni (AtPeer peer n) = Some (opened_with near keying peer n ni)
+opened_as near keying ni (ByName name) = None
 
 abbrev pub opened_reading : ℕ → Option AttemptState → Result ResponderKeying Cause → Option Fact
 opened_reading near (Some a) (Ok keying) = opened_as near keying a.ni a.aim

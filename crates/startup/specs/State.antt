@@ -9,7 +9,9 @@ use Rattle.rtmfp_forms.specs.Address.{AddressParts}
 use Rattle.glare_core.specs.declared.facts.Held.TheVariants.{Opening}
 use Rattle.glare_core.specs.Ledger.{Ledger, new_ledger, held_with}
 use Rattle.startup.specs.declared.aim.Aim.{Aim}
+use Rattle.startup.specs.declared.aim.Aim.TheVariants.{AtPeer, ByName}
 use Rattle.startup.specs.declared.attempt.Stage.{Stage}
+use Rattle.startup.specs.declared.attempt.Stage.TheVariants.{Hello, Keying}
 use Rattle.startup.specs.Aims.{peer_of_aim, IsHeldAs}
 
 -- one packet for several addresses, in this order
@@ -17,7 +19,7 @@ pub record SpreadParts : Type 0 where
   pub to : List AddressParts
   pub plain : List ℕ
 
--- an attempt
+-- an attempt, or a search
 pub record AttemptState : Type 0 where
   -- what it is towards
   pub aim : Aim
@@ -36,7 +38,7 @@ pub record AttemptState : Type 0 where
   -- how many repeats were sent in this stage, of those that lengthen the gap
   pub gap : ℕ
 
--- the attempts, by their near ids
+-- the attempts and searches, by their near ids
 abbrev pub Attempts : Type 0
 Attempts = FinMap nat_cmp AttemptState
 
@@ -66,6 +68,12 @@ abbrev pub peer_of_attempt : Option AttemptState → Option (List ℕ)
 peer_of_attempt None = None
 peer_of_attempt (Some a) = peer_of_aim a.aim
 
+-- A search sends hellos: it has no keying stage.
+abbrev pub FitsStage : Aim → Stage → Type 0
+FitsStage (AtPeer peer n) stage = Unit {0}
+FitsStage (ByName name) Hello = Unit {0}
+FitsStage (ByName name) (Keying at cookie) = ⊥
+
 -- The attempts and the ledger name the same things.
 pub record IsSound (s : StartupState) : Type 0 where
   -- the ledger is of the own fingerprint
@@ -73,6 +81,9 @@ pub record IsSound (s : StartupState) : Type 0 where
   -- each attempt is held as what it aims at
   pub held : (near : ℕ) (a : AttemptState) → get s.attempts near ≡ Some a →
       IsHeldAs s.ledger near a.ni a.aim
+  -- each is in a stage that what it aims at has
+  pub stages : (near : ℕ) (a : AttemptState) → get s.attempts near ≡ Some a →
+      FitsStage a.aim a.stage
   -- each attempt that is held is there under its near id
   pub there : (peer : List ℕ) (n near : ℕ) (ni : List ℕ) →
       held_with s.ledger peer ≡ Some (Opening n near ni) →

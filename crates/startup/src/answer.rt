@@ -72,6 +72,8 @@ pub enum KeyRefusal {
 pub enum Due {
     /// An attempt wasn't answered in time; its end.
     Ended(Fact),
+    /// A search wasn't answered in time; its near id. It is given up.
+    Unsought(u32),
     /// The hellos of an attempt, again.
     Hello(Spread),
     /// The keying of an attempt, again.

@@ -123,7 +123,7 @@ impl Model for Attempt {
 
 impl Attempt {
     ghost use Rattle.std.specs.Prelude.{◌≡◌, ◌+◌, ◌≤◌, length};
-    ghost use Rattle.startup.specs.Attempts.{answered, recookied};
+    ghost use Rattle.startup.specs.Attempts.{answered, met, recookied};
     ghost use Rattle.startup.specs.Due.{repeated};
     ghost use Rattle.startup.specs.Redirects.{extended};
     ghost use Rattle.startup.specs.Sought.{change_of, Allows};
@@ -135,6 +135,12 @@ impl Attempt {
     {
         match change {
             Change::Answered(from, cookie) => self.answer(from, cookie, moment),
+            Change::Met {
+                peer,
+                n,
+                from,
+                cookie,
+            } => self.meet(peer, *n, from, cookie, moment),
             Change::Recookied(new) => self.recookie(new, moment),
             Change::Extended(new) => self.extend(new, moment),
             Change::Repeated => self.repeat(moment),
@@ -152,6 +158,24 @@ impl Attempt {
         };
         self.last = moment;
         self.gap = 0;
+    }
+
+    /// The search was answered by this end, from this address with this cookie: it is the attempt
+    /// towards it with this number, which starts now.
+    pub(crate) fn meet(
+        &mut self,
+        peer: &[u8; 32],
+        n: u64,
+        from: &Address,
+        cookie: &[u8],
+        moment: u64,
+    )
+        requires { length cookie.now ≤ 128 }
+        ensures { self.new ≡ met self.old peer.now n from.now cookie.now moment }
+    {
+        self.aim = Aim::AtPeer { peer: *peer, n };
+        self.start = moment;
+        self.answer(from, cookie, moment);
     }
 
     /// Its keying goes out with another cookie from now on.
@@ -206,6 +230,14 @@ impl Attempt {
 pub(crate) enum Change<'a> {
     /// The responder answered from this address with this cookie.
     Answered(&'a Address, &'a [u8]),
+    /// The search was answered from this address with this cookie, and is the attempt with this
+    /// number towards this end.
+    Met {
+        peer: &'a [u8; 32],
+        n: u64,
+        from: &'a Address,
+        cookie: &'a [u8],
+    },
     /// Its keying goes out with this cookie from now on.
     Recookied(&'a [u8]),
     /// It has these further candidates, which hellos went to.

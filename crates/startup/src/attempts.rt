@@ -98,8 +98,8 @@ impl Startup {
         Ok((fact, spread))
     }
 
-    /// Gives up the attempt with this number; None exactly where no held attempt has it. It takes
-    /// no memory.
+    /// Gives up the attempt with this number; None exactly where no held attempt has it, as no
+    /// search does. It takes no memory.
     pub fn cancel(&mut self, n: u64) -> Option<Fact>
         ensures fact { result ≡ cancel_fact self.old n }
         ensures after { self.new ≡ after_cancel self.old n }
@@ -107,7 +107,7 @@ impl Startup {
         match self.attempts.find(&Sought::Number(n)) {
             Some(found) => {
                 let near = found.near;
-                Some(end_at(&mut self.peers, &mut self.attempts, near, Why::Cancelled))
+                end_at(&mut self.peers, &mut self.attempts, near, Why::Cancelled)
             }
             None => None,
         }

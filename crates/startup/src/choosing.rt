@@ -1,16 +1,17 @@
 //! Which attempt a chunk speaks of, and why it is discarded.
 
-ghost use Rattle.std.specs.Prelude.{◌≡◌, ◌≤◌, length, IfOk, IfErr, Some, None};
+ghost use Rattle.std.specs.Prelude.{◌≡◌, ◌≤◌, length, drop, false, IfOk, IfErr, Some, None};
 ghost use Rattle.std.specs.FinMap.{get};
-ghost use Rattle.sha2.specs.Sha256.{sha256};
-ghost use Rattle.startup.specs.Attempts.{wide, lowest, has_tag, hello_cause, hello_cause_among, changed, if_cookie, change_cause_among};
+ghost use Rattle.std.specs.Str.{bytes_eq};
+ghost use Rattle.glare_core.specs.Ledger.{held_with};
+ghost use Rattle.glare_core.specs.Things.{near_of};
+ghost use Rattle.startup.specs.Attempts.{wide, changed, if_cookie, change_cause_among, held_cause, spent_cause, start_cause};
 ghost use Rattle.startup.specs.Sought.{IsChosenNear, IsChosenAt};
 
-use crate::attempt::{Attempt, Stage};
 use crate::indexed::IndexedAttempts;
 use crate::rows::{Sought, has_cookie};
+use glare_core::{Held, Peers, StartRefusal};
 use rtmfp_base::Cause;
-use sha2::{Digest, Sha256};
 
 /// The most bytes of a tag or a cookie that is taken from a peer (own).
 const WIDTH: usize = 128;
@@ -26,54 +27,60 @@ pub fn wide(bytes: &[u8]) -> Option<Cause>
     }
 }
 
-/// Why an attempt isn't answered by the hello of an end with this certificate, which is hashed where
-/// the attempt sends hellos alone.
-fn hello_cause(attempt: &Attempt, cert: &[u8]) -> Option<Cause>
-    ensures { result ≡ hello_cause attempt.now.stage attempt.now.aim (sha256 cert.now) }
+/// The bytes of a certificate before its name.
+const INSTANCE: usize = 16;
+
+/// Whether a certificate has this name: whether all that stands behind its 16 instance bytes is.
+pub(crate) fn has_name(cert: &[u8], name: &[u8]) -> bool
+    ensures { result ≡ bytes_eq name.now (drop 16 cert.now) }
 {
-    match &attempt.stage {
-        Stage::Hello => {
-            if attempt.aim.is_towards(&Sha256::digest(cert)) {
-                None
-            } else {
-                Some(Cause::WrongPeer)
-            }
-        }
-        Stage::Keying { .. } => Some(Cause::WrongState),
+    let start = cert.len().min(INSTANCE);
+    name == &cert[start..]
+}
+
+/// The near id of what is held.
+fn near_of(held: &Held) -> u32
+    ensures { result ≡ near_of held.now }
+{
+    match held {
+        Held::Opening { near, .. } => *near,
+        Held::HalfOpen(joined) | Held::KeptAsResponder(joined) | Held::KeptAsInitiator(joined) =>
+            joined.near,
     }
 }
 
-/// The near id of the attempt that a responder's hello with this tag, cookie and certificate
-/// answers, or why it is discarded.
-pub(crate) fn answered_near(
-    attempts: &IndexedAttempts,
-    tag: &[u8],
-    cookie: &[u8],
-    cert: &[u8],
-) -> Result<u32, Cause>
-    ensures ok { IfOk result (IsChosenAt (lowest (has_tag tag.now) attempts.now.attempts)
-        attempts.now.attempts) }
-    ensures cookie { IfOk result (λ _. length cookie.now ≤ 128) }
-    ensures cause { IfOk result (λ _. hello_cause_among attempts.now.attempts tag.now cookie.now
-        (sha256 cert.now) ≡ None) }
-    ensures refused { IfErr result (λ e. hello_cause_among attempts.now.attempts tag.now cookie.now
-        (sha256 cert.now) ≡ Some e) }
+/// Why no attempt starts towards an end with which something is held.
+pub(crate) fn held_cause(peers: &Peers, print: &[u8; 32]) -> Option<Cause>
+    ensures { result ≡ held_cause (held_with peers.now print.now) }
 {
-    match wide(tag) {
-        Some(cause) => return Err(cause),
-        None => {}
+    match peers.held(print) {
+        Some(thing) => Some(Cause::AlreadyHeld(near_of(thing))),
+        None => None,
     }
-    match wide(cookie) {
-        Some(cause) => return Err(cause),
-        None => {}
+}
+
+/// The cause that goes with a refusal of the ledger, where it is of the last two.
+fn start_cause(refusal: Option<StartRefusal>) -> Option<Cause>
+    ensures { result ≡ start_cause refusal }
+{
+    match refusal {
+        Some(StartRefusal::AttemptsSpent) => Some(Cause::AttemptsSpent),
+        Some(StartRefusal::PeersFull(count)) => Some(Cause::PeersFull(count)),
+        Some(StartRefusal::OwnPrint) => None,
+        Some(StartRefusal::Opening(_)) => None,
+        Some(StartRefusal::Open(_)) => None,
+        Some(StartRefusal::Memory) => None,
+        None => None,
     }
-    let Some(found) = attempts.find(&Sought::Tag(tag)) else {
-        return Err(Cause::NoAttempt);
-    };
-    match hello_cause(found.attempt, cert) {
-        Some(cause) => Err(cause),
-        None => Ok(found.near),
-    }
+}
+
+/// Why no attempt starts towards another end with which nothing is held.
+pub(crate) fn spent_cause(peers: &Peers, print: &[u8; 32]) -> Option<Cause>
+    requires other { bytes_eq print.now peers.now.own ≡ false }
+    requires unheld { held_with peers.now print.now ≡ None }
+    ensures { result ≡ spent_cause peers.now print.now }
+{
+    start_cause(peers.start_refusal(print))
 }
 
 /// This near id, where its attempt has this cookie.

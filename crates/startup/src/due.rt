@@ -1,11 +1,24 @@
 //! What time makes due of the attempts.
 
+ghost use Rattle.std.specs.Prelude.{◌≡◌};
+ghost use Rattle.startup.specs.Due.{due_by};
+
 use crate::answer::Due;
 use crate::attempt::Change;
 use crate::rows::{end_at, is_over};
 use crate::sending::repeat_of;
 use crate::startup::Startup;
-use glare_core::Why;
+use glare_core::{Fact, Why};
+
+/// What is done at an end with this fact: without one it is that of a search.
+fn due_by(near: u32, end: Option<Fact>) -> Due
+    ensures { result ≡ due_by near end }
+{
+    match end {
+        Some(fact) => Due::Ended(fact),
+        None => Due::Unsought(near),
+    }
+}
 
 impl Startup {
     ghost use Rattle.std.specs.Prelude.{◌≡◌, ◌<◌, IfSome};
@@ -20,8 +33,9 @@ impl Startup {
     }
 
     /// The first thing that is due at this moment, by rising near id: an attempt ends 95,000 ms
-    /// after its start, and before that it repeats what it sends. None exactly where nothing is
-    /// due. It takes no memory.
+    /// after its start, and before that it repeats what it sends. A search is given up 95,000 ms
+    /// after it began, and before that it repeats its hellos. None exactly where nothing is due. It
+    /// takes no memory.
     ///
     /// What is given isn't due any more at this moment, so calls until None give all that is.
     pub fn due(&mut self, moment: u64) -> Option<Due>
@@ -34,12 +48,8 @@ impl Startup {
         };
         let near = found.near;
         if is_over(found.attempt, moment) {
-            return Some(Due::Ended(end_at(
-                &mut self.peers,
-                &mut self.attempts,
-                near,
-                Why::Expired,
-            )));
+            let end = end_at(&mut self.peers, &mut self.attempts, near, Why::Expired);
+            return Some(due_by(near, end));
         }
         let repeat = repeat_of(near, found.attempt, &self.sign, &self.cert);
         self.attempts.change(near, &Change::Repeated, moment);

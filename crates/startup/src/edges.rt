@@ -17,15 +17,14 @@ ghost use Rattle.glare_core.specs.declared.facts.Why.TheVariants.{Expired as Las
 ghost use Rattle.startup.specs.declared.aim.Aim.{Aim};
 ghost use Rattle.startup.specs.declared.aim.Aim.TheVariants.{AtPeer};
 ghost use Rattle.startup.specs.declared.attempt.Stage.TheVariants.{Hello, Keying};
-ghost use Rattle.startup.specs.Aims.{is_towards};
 ghost use Rattle.rtmfp_base.specs.declared.cause.Cause.{Cause};
 ghost use Rattle.rtmfp_base.specs.declared.cause.Cause.TheVariants.{BadCookie, BadSignature, CandidatesFull, Malformed, NoAttempt, OwnCertificate, SessionsFull as CauseFull, Wide, WrongPeer, WrongResponder, WrongState};
 ghost use Rattle.startup.specs.declared.answer.Due.TheVariants.{Ended as EndDue, Hello as HelloDue, Keying as KeyingDue};
 ghost use Rattle.startup.specs.State.{AttemptState, Attempts, StartupState};
-ghost use Rattle.startup.specs.Attempts.{after_answer, after_change, answered, begun_attempt, change_cause_among, changed, has_tag, hello_cause, hello_cause_among, keying_signed, lowest, distinct_candidates, recookied, wide, with_attempt, without_attempt};
+ghost use Rattle.startup.specs.Attempts.{after_answer, after_change, answered, begun_attempt, change_cause_among, changed, has_tag, hello_cause, rhello_cause, is_own, keying_signed, lowest, distinct_candidates, recookied, wide, with_attempt, without_attempt};
 ghost use Rattle.startup.specs.Due.{after_due_of, due_of, gap_of, is_over, is_repeat_due, repeat_signed, repeated, sends};
 ghost use Rattle.startup_packets.specs.Readings.{InitiatorKeying, ResponderKeying};
-ghost use Rattle.startup.specs.Keyings.{attempt_cause, change_answer, cookie_cause, heard_cause, initiator_cause, initiator_hello_answer, is_own, keying_of, named_cause, responder_cause, session_answer};
+ghost use Rattle.startup.specs.Keyings.{attempt_cause, change_answer, cookie_cause, heard_cause, initiator_cause, initiator_hello_answer, keying_of, named_cause, responder_cause, session_answer};
 ghost use Rattle.startup.specs.Refusals.{rhello_refusal_with};
 ghost use Rattle.startup_packets.specs.Packets.{cookiechange_packet, ihello_packet, iikeying_signed, is_signed, rhello_packet, rikeying_packet};
 ghost use Rattle.startup.specs.Redirects.{after_extension, extended, full_cause, new_candidates, or_source, redirect_cause_among, redirect_cause_at, redirect_spread_of, told_addresses};
@@ -104,9 +103,10 @@ pub fn an_attempt_begins_with_its_hello()
 /// An answer begins the keying stage: its gaps begin anew at 1,000 ms, and the attempt lasts as
 /// long as before.
 pub fn the_keying_stage_begins_again_at_the_first_gap()
-    ensures kept { (s : StartupState) (a : AttemptState) (from : AddressParts) (cookie : List ℕ)
-        (moment : ℕ) → after_answer s (Some (5, a)) from cookie moment
-        ≡ with_attempt s 5 (answered a from cookie moment) }
+    ensures kept { (s : StartupState) (a : AttemptState) (print peer : List ℕ) (n : ℕ)
+        (from : AddressParts) (cookie : List ℕ) (moment : ℕ) →
+        after_answer s print (Some (5, towards peer n a)) from cookie moment
+        ≡ with_attempt s 5 (answered (towards peer n a) from cookie moment) }
     ensures answered { (a : AttemptState) (from : AddressParts) (cookie : List ℕ) →
         answered (in_hello (timed 0 1000 3 a)) from cookie 3000
         ≡ in_keying from cookie (timed 0 3000 0 a) }
@@ -225,12 +225,12 @@ pub fn the_lowest_near_id_of_a_tag_counts()
 pub fn a_field_of_129_bytes_is_wide()
     ensures most { wide (replicate 128 0) ≡ None }
     ensures above { wide (replicate 129 0) ≡ Some (Wide 129) }
-    ensures tag_first { (attempts : Attempts) (print : List ℕ) →
-        hello_cause_among attempts (replicate 129 0) (replicate 130 0) print ≡ Some (Wide 129) }
-    ensures then_cookie { (attempts : Attempts) (print : List ℕ) →
-        hello_cause_among attempts (replicate 128 0) (replicate 130 0) print ≡ Some (Wide 130) }
-    ensures then_attempt { (all : Attempts) (print : List ℕ) → entries all ≡ [] →
-        hello_cause_among all (replicate 128 0) (replicate 128 0) print ≡ Some NoAttempt }
+    ensures tag_first { (s : StartupState) (cert : List ℕ) →
+        rhello_cause s (replicate 129 0) (replicate 130 0) cert ≡ Some (Wide 129) }
+    ensures then_cookie { (s : StartupState) (cert : List ℕ) →
+        rhello_cause s (replicate 128 0) (replicate 130 0) cert ≡ Some (Wide 130) }
+    ensures then_attempt { (s : StartupState) (cert : List ℕ) → entries s.attempts ≡ [] →
+        rhello_cause s (replicate 128 0) (replicate 128 0) cert ≡ Some NoAttempt }
     ensures old_first { (attempts : Attempts) (sid : ℕ) →
         change_cause_among attempts sid (replicate 129 0) (replicate 130 0) ≡ Some (Wide 129) }
     ensures then_new { (attempts : Attempts) (sid : ℕ) →
@@ -242,10 +242,13 @@ pub fn a_field_of_129_bytes_is_wide()
 /// A responder's hello meets an attempt in the hello stage, of the end whose certificate it has;
 /// the stage comes first.
 pub fn a_hello_meets_the_hello_stage()
-    ensures right { (n : ℕ) → hello_cause Hello (AtPeer (7 ∷ []) n) (7 ∷ []) ≡ None }
-    ensures peer { (n : ℕ) → hello_cause Hello (AtPeer (7 ∷ []) n) (8 ∷ []) ≡ Some WrongPeer }
-    ensures stage { (at : AddressParts) (cookie print : List ℕ) (aim : Aim) →
-        hello_cause (Keying at cookie) aim print ≡ Some WrongState }
+    ensures right { (s : StartupState) (peer cert : List ℕ) (n : ℕ) →
+        bytes_eq (sha256 cert) peer ≡ true → hello_cause s Hello (AtPeer peer n) cert ≡ None }
+    ensures peer { (s : StartupState) (peer cert : List ℕ) (n : ℕ) →
+        bytes_eq (sha256 cert) peer ≡ false →
+        hello_cause s Hello (AtPeer peer n) cert ≡ Some WrongPeer }
+    ensures stage { (s : StartupState) (at : AddressParts) (cookie cert : List ℕ) (aim : Aim) →
+        hello_cause s (Keying at cookie) aim cert ≡ Some WrongState }
 {}
 
 /// What is no certificate in a responder's hello is told at its offset.
@@ -297,19 +300,19 @@ pub fn a_keying_is_of_this_responder_and_of_another_end()
 /// nonce.
 pub fn an_answer_needs_the_stage_the_peer_and_the_nonce()
     ensures none { (keying : ResponderKeying) → attempt_cause keying None ≡ Some NoAttempt }
-    ensures stage { (keying : ResponderKeying) (a : AttemptState) →
-        attempt_cause keying (Some (in_hello a)) ≡ Some WrongState }
+    ensures stage { (keying : ResponderKeying) (a : AttemptState) (peer : List ℕ) (n : ℕ) →
+        attempt_cause keying (Some (towards peer n (in_hello a))) ≡ Some WrongState }
     ensures peer { (keying : ResponderKeying) (a : AttemptState) (at : AddressParts)
-        (cookie : List ℕ) → is_towards keying.part.responder a.aim ≡ false →
-        attempt_cause keying (Some (in_keying at cookie a)) ≡ Some WrongPeer }
+        (cookie peer : List ℕ) (n : ℕ) → bytes_eq keying.part.responder peer ≡ false →
+        attempt_cause keying (Some (towards peer n (in_keying at cookie a))) ≡ Some WrongPeer }
     ensures nonce { (keying : ResponderKeying) (a : AttemptState) (at : AddressParts)
-        (cookie : List ℕ) → is_towards keying.part.responder a.aim ≡ true →
-        bytes_eq keying.part.ni a.ni ≡ false → attempt_cause keying (Some (in_keying at cookie a))
-        ≡ Some NoAttempt }
+        (cookie peer : List ℕ) (n : ℕ) → bytes_eq keying.part.responder peer ≡ true →
+        bytes_eq keying.part.ni a.ni ≡ false →
+        attempt_cause keying (Some (towards peer n (in_keying at cookie a))) ≡ Some NoAttempt }
     ensures right { (keying : ResponderKeying) (a : AttemptState) (at : AddressParts)
-        (cookie : List ℕ) → is_towards keying.part.responder a.aim ≡ true →
-        bytes_eq keying.part.ni a.ni ≡ true → attempt_cause keying (Some (in_keying at cookie a))
-        ≡ None }
+        (cookie peer : List ℕ) (n : ℕ) → bytes_eq keying.part.responder peer ≡ true →
+        bytes_eq keying.part.ni a.ni ≡ true →
+        attempt_cause keying (Some (towards peer n (in_keying at cookie a))) ≡ None }
     ensures signature { (s : StartupState) (near : ℕ) (payload : List ℕ)
         (keying : ResponderKeying) → is_signed s.secret payload keying.sign ≡ false →
         responder_cause s near payload keying ≡ Some BadSignature }

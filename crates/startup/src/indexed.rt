@@ -7,9 +7,9 @@ ghost use Rattle.std.specs.FinMap.{empty, get, insert, len, remove};
 ghost use Rattle.startup.specs.State.{AttemptState};
 ghost use Rattle.startup.specs.Attempts.{lowest};
 ghost use Rattle.startup.specs.Due.{is_due};
-ghost use Rattle.startup.specs.Sought.{fits, IsChosen, change_of, Allows};
+ghost use Rattle.startup.specs.Sought.{fits, IsChosen, change_of, number_got, Allows};
 ghost use Rattle.startup.specs.Table.{in_attempt};
-ghost use Rattle.startup.specs.Indexed.{cookie_length, IsFoundBy, IsSized};
+ghost use Rattle.startup.specs.Indexed.{cookie_length, IsFoundBy, IsPut, IsSized, IsTaken};
 ghost use Rattle.startup.specs.declared.marks.Mark.{Mark};
 ghost use Rattle.startup.specs.Marks.{mark_of, passes_in, AreFrom, AreOf, AreOfOthers, IsAscending, IsMarked, IsMarkedBut, KeepsMarks};
 
@@ -156,12 +156,47 @@ fn unmark(table: &AttemptTable, marks: &mut Marks, near: u32)
     marks.take(mark);
 }
 
-/// Whether an attempt has the mark that it had after such a change.
+/// A near id is put under a word, where there is one.
+fn put(index: &mut Index, word: Option<u64>, near: u32)
+    ensures { IsPut word near index.old index.new }
+{
+    match word {
+        Some(word) => index.put(word, near),
+        None => {}
+    }
+}
+
+/// What is under a word is taken out, where there is one.
+fn take(index: &mut Index, word: Option<u64>)
+    ensures { IsTaken word index.old index.new }
+{
+    match word {
+        Some(word) => index.take(word),
+        None => {}
+    }
+}
+
+/// The number that an attempt gets by a change, where it does.
+fn number_got(change: &Change<'_>) -> Option<u64>
+    ensures { result ≡ number_got change.now }
+{
+    match change {
+        Change::Answered(..) => None,
+        Change::Met { n, .. } => Some(*n),
+        Change::Recookied(_) => None,
+        Change::Extended(_) => None,
+        Change::Repeated => None,
+    }
+}
+
+/// Whether an attempt has the mark that it had after such a change, and no other number.
 fn keeps_mark(change: &Change<'_>) -> bool
-    ensures { result ≡ true → KeepsMarks change.now }
+    ensures marks { result ≡ true → KeepsMarks change.now }
+    ensures number { result ≡ true → number_got change.now ≡ None }
 {
     match change {
         Change::Answered(..) => false,
+        Change::Met { .. } => false,
         Change::Recookied(_) => false,
         Change::Extended(_) => true,
         Change::Repeated => true,
@@ -261,6 +296,13 @@ impl IndexedAttempts {
         self.table.reserve()
     }
 
+    /// Finds memory for the number of one more attempt, as a search has none.
+    pub(crate) fn reserve_number(&mut self) -> Result<(), Memory>
+        ensures { self.new ≡ self.old }
+    {
+        self.numbers.reserve()
+    }
+
     /// Keeps an attempt under a near id that no other one has, for which there is room. It takes no
     /// memory.
     pub(crate) fn keep(&mut self, near: u32, attempt: Attempt)
@@ -269,8 +311,8 @@ impl IndexedAttempts {
         ensures { self.new.attempts ≡ insert self.old.attempts near attempt }
     {
         is_sized(&attempt);
-        self.numbers.put(attempt.aim.word(), near);
-        self.tags.put(word_of(&attempt.tag), near);
+        put(&mut self.numbers, attempt.aim.word(), near);
+        put(&mut self.tags, Some(word_of(&attempt.tag)), near);
         self.table.keep(near, attempt);
         mark(&self.table, &mut self.cookies, near);
     }
@@ -286,6 +328,7 @@ impl IndexedAttempts {
             return;
         }
         unmark(&self.table, &mut self.cookies, near);
+        put(&mut self.numbers, number_got(change), near);
         self.table.change(near, change, moment);
         mark(&self.table, &mut self.cookies, near);
     }
@@ -299,8 +342,8 @@ impl IndexedAttempts {
             self.table.forget(near);
             return;
         };
-        self.numbers.take(attempt.aim.word());
-        self.tags.take(word_of(&attempt.tag));
+        take(&mut self.numbers, attempt.aim.word());
+        take(&mut self.tags, Some(word_of(&attempt.tag)));
         self.table.forget(near);
     }
 

@@ -9,7 +9,8 @@ ghost use Rattle.cookies.specs.declared.CookieTest.TheVariants.{Current};
 ghost use Rattle.glare_core.specs.Account.{Gave};
 ghost use Rattle.startup_packets.specs.Readings.{initiator_keying_in, responder_keying_in};
 ghost use Rattle.startup.specs.Keyings.{keying_of};
-ghost use Rattle.startup.specs.Keyings.{is_own, heard_cause, named_cause, keyed, after_keying};
+ghost use Rattle.startup.specs.Attempts.{is_own};
+ghost use Rattle.startup.specs.Keyings.{heard_cause, named_cause, keyed, after_keying};
 ghost use Rattle.startup.specs.Keyings.{needs_row, keyed_facts, iikeying_cause};
 ghost use Rattle.startup.specs.Keyings.{is_in_hello, attempt_cause, responder_cause, opening_cause};
 ghost use Rattle.startup.specs.Keyings.{rikeying_cause, opened, after_opening};
@@ -25,7 +26,6 @@ use crate::choosing::wide;
 use crate::startup::Startup;
 use cookies::CookieTest;
 use glare_core::{Fact, HearRefusal, Joined, Judged, Keying, Way};
-use identity::Certificate;
 use rtmfp_base::Cause;
 use rtmfp_forms::Address;
 use startup_packets::{
@@ -93,6 +93,9 @@ pub(crate) fn is_in_hello(stage: &Stage) -> bool
 fn unopened_cause(attempt: &Attempt, fields: &ResponderFields<'_>) -> Option<Cause>
     ensures { result ≡ attempt_cause (responder_of fields.now) (Some attempt.now) }
 {
+    if attempt.aim.is_search() {
+        return Some(Cause::NoAttempt);
+    }
     if is_in_hello(&attempt.stage) {
         return Some(Cause::WrongState);
     }
@@ -117,17 +120,18 @@ fn opened_peer(attempt: &Attempt, fields: &ResponderFields<'_>) -> Result<[u8; 3
         Some(cause) => Err(cause),
         None => match &attempt.aim {
             Aim::AtPeer { peer, .. } => Ok(*peer),
+            Aim::ByName { .. } => unreachable!(),
         },
     }
 }
 
 impl Startup {
     /// Whether a certificate counts as the own one.
-    fn is_own(&self, cert: &Certificate, print: &[u8; 32]) -> bool
+    pub(crate) fn is_own(&self, cert: &[u8], print: &[u8; 32]) -> bool
         requires { print.now ≡ sha256 cert.now }
         ensures { result ≡ is_own self.now cert.now }
     {
-        cert.bytes() == self.cert.bytes() || *print == self.print
+        *cert == *self.cert.bytes() || *print == self.print
     }
 
     /// Whether the signature that a payload ends with is one of the group.
@@ -146,7 +150,7 @@ impl Startup {
             return Err(Cause::WrongResponder);
         }
         let keying = keying_of(fields);
-        if self.is_own(&fields.cert, &keying.peer) {
+        if self.is_own(fields.cert.bytes(), &keying.peer) {
             return Err(Cause::OwnCertificate);
         }
         match self.peers.judge(&keying, full.is_none()) {

@@ -10,7 +10,7 @@ use crate::rows::{Sought, is_over};
 use crate::startup::Startup;
 
 impl Startup {
-    /// How many attempts there are.
+    /// How many attempts there are, searches among them.
     pub fn attempts(&self) -> usize
         ensures value { result ≡ len self.now.attempts }
         ensures small { result < 2 ^ 63 }
@@ -18,7 +18,7 @@ impl Startup {
         self.attempts.count()
     }
 
-    /// Whether an attempt has this near id.
+    /// Whether an attempt or a search has this near id.
     pub fn has_attempt(&self, near: u32) -> bool
         ensures { result ≡ contains_key self.now.attempts near }
     {

@@ -2,7 +2,7 @@
 
 ghost use Rattle.std.specs.Prelude.{◌≡◌, ◌+◌, Some, IsSome};
 ghost use Rattle.std.specs.FinMap.{get, remove};
-ghost use Rattle.glare_core.specs.Ledger.{noted};
+ghost use Rattle.glare_core.specs.Ledger.{noted_if};
 ghost use Rattle.startup.specs.Aims.{IsHeldAs, end_of_aim};
 ghost use Rattle.startup.specs.State.{AttemptState};
 ghost use Rattle.startup.specs.Attempts.{has_cookie};
@@ -93,28 +93,32 @@ pub(crate) fn fits(attempt: &Attempt, sought: &Sought<'_>) -> bool
     }
 }
 
-/// The attempt with this near id ends; its end is given.
-fn end_of(peers: &mut Peers, attempt: &Attempt, near: u32, why: Why) -> Fact
+/// The attempt with this near id ends; its end is given, which a search hasn't.
+fn end_of(peers: &mut Peers, attempt: &Attempt, near: u32, why: Why) -> Option<Fact>
     requires held { IsHeldAs peers.old near attempt.now.ni attempt.now.aim }
-    ensures fact { end_of_aim near why attempt.now.aim ≡ Some result }
-    ensures ledger { peers.new ≡ noted peers.old result }
+    ensures fact { result ≡ end_of_aim near why attempt.now.aim }
+    ensures ledger { peers.new ≡ noted_if peers.old result }
 {
     match &attempt.aim {
-        Aim::AtPeer { peer, .. } => match peers.end(peer, why) {
-            Some(fact) => fact,
-            None => unreachable!(),
-        },
+        Aim::AtPeer { peer, .. } => peers.end(peer, why),
+        Aim::ByName { .. } => None,
     }
 }
 
-/// The attempt under this near id ends, and is forgotten; its end is given.
-pub(crate) fn end_at(peers: &mut Peers, attempts: &mut IndexedAttempts, near: u32, why: Why) -> Fact
+/// The attempt or search under this near id ends, and is forgotten; its end is given, which a
+/// search hasn't.
+pub(crate) fn end_at(
+    peers: &mut Peers,
+    attempts: &mut IndexedAttempts,
+    near: u32,
+    why: Why,
+) -> Option<Fact>
     requires there { IsSome (get attempts.old.attempts near) }
     requires held { (a : AttemptState) → get attempts.old.attempts near ≡ Some a →
         IsHeldAs peers.old near a.ni a.aim }
     ensures fact { (a : AttemptState) → get attempts.old.attempts near ≡ Some a →
-        end_of_aim near why a.aim ≡ Some result }
-    ensures ledger { peers.new ≡ noted peers.old result }
+        result ≡ end_of_aim near why a.aim }
+    ensures ledger { peers.new ≡ noted_if peers.old result }
     ensures gone { attempts.new.attempts ≡ remove attempts.old.attempts near }
 {
     let Some(attempt) = attempts.get(near) else {

@@ -1,6 +1,8 @@
 //! What an attempt sends.
 
-ghost use Rattle.std.specs.Prelude.{◌≡◌, ◌≤◌, length, take};
+ghost use Rattle.std.specs.Prelude.{◌≡◌, ◌≤◌, false, length, take};
+ghost use Rattle.startup.specs.Aims.{is_search};
+ghost use Rattle.startup.specs.State.{FitsStage};
 ghost use Rattle.startup.specs.Attempts.{keying_signed, again_signed, hello_spread};
 ghost use Rattle.startup.specs.Due.{repeat_signed};
 
@@ -18,10 +20,11 @@ pub(crate) fn hello_to(attempt: &Attempt, to: &[Address; CANDIDATES], count: usi
     requires { count ≤ 16 }
     ensures { result ≡ hello_spread attempt.now (take count to.now) }
 {
+    let epd = attempt.aim.discriminator();
     Spread {
         to: *to,
         count,
-        plain: ihello_packet(&attempt.aim.discriminator(), &attempt.tag),
+        plain: ihello_packet(epd.bytes(), &attempt.tag),
     }
 }
 
@@ -32,7 +35,7 @@ pub(crate) fn hello_spread(attempt: &Attempt) -> Spread
     hello_to(attempt, &attempt.candidates, attempt.count)
 }
 
-/// The keying of an attempt under the signature key, to an address with a cookie.
+/// The keying of an attempt under the signature key, to an address with a cookie. It is no search.
 pub(crate) fn keying_answer(
     near: u32,
     attempt: &Attempt,
@@ -41,13 +44,15 @@ pub(crate) fn keying_answer(
     to: &Address,
     cookie: &[u8],
 ) -> Answer
-    requires { length cookie.now ≤ 128 }
+    requires aims { is_search attempt.now.aim ≡ false }
+    requires cookie { length cookie.now ≤ 128 }
     ensures { result ≡ keying_signed key.now cert.now near attempt.now to.now cookie.now }
 {
     let plain = match &attempt.aim {
         Aim::AtPeer { peer, n } => {
             iikeying_packet(key, near, cookie, cert.bytes(), &attempt.ni, *n, peer)
         }
+        Aim::ByName { .. } => unreachable!(),
     };
     Answer {
         to: *to,
@@ -65,7 +70,8 @@ pub(crate) fn keying_again(
     cert: &Certificate,
     cookie: &[u8],
 ) -> Option<Answer>
-    requires { length cookie.now ≤ 128 }
+    requires fits { FitsStage attempt.now.aim attempt.now.stage }
+    requires cookie { length cookie.now ≤ 128 }
     ensures { result ≡ again_signed key.now cert.now near attempt.now attempt.now.stage cookie.now }
 {
     match &attempt.stage {
@@ -76,6 +82,7 @@ pub(crate) fn keying_again(
 
 /// What an attempt sends again.
 pub(crate) fn repeat_of(near: u32, attempt: &Attempt, key: &HmacKey, cert: &Certificate) -> Due
+    requires { FitsStage attempt.now.aim attempt.now.stage }
     ensures { result ≡ repeat_signed key.now cert.now near attempt.now attempt.now.stage }
 {
     match &attempt.stage {

@@ -76,7 +76,7 @@ pub(crate) fn keyed_to(end: &mut Startup, answer: &Outgoing) -> Result<Answer, F
     match read_chunk(0x70, payload_of(answer)) {
         Ok(ChunkView::RHello { tag, cookie, cert }) => {
             match end.responder_hello(tag, cookie, cert, &address(2), 10) {
-                Ok(answer) => Ok(answer),
+                Ok((_, answer)) => Ok(answer),
                 Err(_) => Err(Fail::from("no keying")),
             }
         }

@@ -1,5 +1,5 @@
 use Rattle.std.proofs.Common.{rules}
 use Rattle.startup.proofs.indexed.keeps_mark.Goals as goal
 
-pub returns-in-Recookied : goal.returns-in-Recookied
-returns-in-Recookied c = search rules
+pub returns-in-Recookied-clause-marks : goal.returns-in-Recookied-clause-marks
+returns-in-Recookied-clause-marks c = search rules

@@ -1,8 +1,8 @@
-use Rattle.std.proofs.Common.{◌∙◌, sym, subst, ap}
-use Rattle.std.specs.FinMap.{get, insert}
+use Rattle.std.proofs.Common.{ℕ, Option, Some, ◌∙◌, sym, subst, ap}
+use Rattle.std.specs.FinMap.{get}
 use Rattle.startup.specs.State.{Attempts}
 use Rattle.startup.specs.Table.{Table}
-use Rattle.startup.specs.Indexed.{IsIndexed, AreSized, number_word, tag_word}
+use Rattle.startup.specs.Indexed.{IsIndexed, IsPut, AreSized, number_word, tag_word}
 use Rattle.startup.proofs.Indices.{put_is_indexed}
 use Rattle.startup.specs.Marks.{IsMarked, IsMarkedBut, AreOf, AreOfOthers}
 use Rattle.startup.proofs.Marking.{but_kept}
@@ -15,12 +15,12 @@ invariant_of-self c =
     let i = c.self.inside in
     let a = c.args.attempt in
     let number = c.word.ensures ∙ ap number_word c.attempt.view_is in
-    let tag = c.word_of.ensures ∙ ap tag_word c.attempt.view_is in
-    subst (λ (x : Attempts). IsIndexed number_word c.put.new.self x × IsIndexed tag_word c.put-2.new.self x × IsMarked c.mark.new.marks x × AreSized x × AreOf c.mark.new.marks.marks x) (sym c.keep.ensures) (
-      put_is_indexed number_word i.numbers c.put.new.self i.table.attempts c.self.invariant.0 c.args.near a c.put.ensures.old
-          (λ w. ap (get i.numbers.nears) (sym number) ∙ c.put.ensures.free w) (λ w. c.put.ensures.nears w ∙ ap (λ k. insert i.numbers.nears k c.args.near) number),
-      put_is_indexed tag_word i.tags c.put-2.new.self i.table.attempts c.self.invariant.1 c.args.near a c.put-2.ensures.old
-          (λ w. ap (get i.tags.nears) (sym tag) ∙ c.put-2.ensures.free w) (λ w. c.put-2.ensures.nears w ∙ ap (λ k. insert i.tags.nears k c.args.near) tag),
+    let tag = ap (λ (w : ℕ). Some w) c.word_of.ensures ∙ ap tag_word c.attempt.view_is in
+    subst (λ (x : Attempts). IsIndexed number_word c.put.new.index x × IsIndexed tag_word c.put-2.new.index x × IsMarked c.mark.new.marks x × AreSized x × AreOf c.mark.new.marks.marks x) (sym c.keep.ensures) (
+      put_is_indexed number_word i.numbers c.put.new.index i.table.attempts c.self.invariant.0 c.args.near a
+          (subst (λ (o : Option ℕ). IsPut o c.args.near i.numbers c.put.new.index) number c.put.ensures),
+      put_is_indexed tag_word i.tags c.put-2.new.index i.table.attempts c.self.invariant.1 c.args.near a
+          (subst (λ (o : Option ℕ). IsPut o c.args.near i.tags c.put-2.new.index) tag c.put-2.ensures),
       subst (IsMarked c.mark.new.marks) c.keep.ensures c.mark.ensures.marked,
       kept_are_sized i.table.attempts c.args.near c.self.invariant.3 a c.is_sized.ensures,
       subst (AreOf c.mark.new.marks.marks) c.keep.ensures c.mark.ensures.own,

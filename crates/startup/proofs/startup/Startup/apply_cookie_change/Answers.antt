@@ -3,7 +3,7 @@ use Rattle.std.specs.FinMap.{get}
 use Rattle.startup.specs.State.{StartupState}
 use Rattle.startup.specs.Attempts.{recookied, again_signed, change_keying, after_change, with_attempt}
 use Rattle.startup.proofs.Choices.{got_is, never_none}
-use Rattle.startup.proofs.Keeping.{changed_has_cookie, keying_goes_again}
+use Rattle.startup.proofs.Keeping.{changed_has_cookie, keying_goes_again, recookied_fits}
 use Rattle.startup.proofs.Startups.{changed_is_kept, changed_state}
 use Rattle.startup.proofs.startup.Startup.apply_cookie_change.Goals as goal
 
@@ -23,12 +23,17 @@ unreachable-requires-in-None-again c =
     (changed_has_cookie c.args.self.now.attempts c.requires.found.0 c.requires.found.1.0 (c.args.found.near, found.attempt) found.chosen_is)
     ((λ j. again_signed i.sign i.cert c.args.found.near (sym e j) (sym e j).stage c.args.new.now) ∙ sym c.keying_again-again.ensures ∙ c.in-None-again.is)
 
+pub keying_again-again-requires-clause-fits : goal.keying_again-again-requires-clause-fits
+keying_again-again-requires-clause-fits c =
+    c.self.invariant.sound.stages c.args.found.near c.in-Some.attempt.now (sym c.in-Some.ensures)
+
 pub invariant_of-self : goal.invariant_of-self
 invariant_of-self c =
     let i = c.self.inside in
     let found = c.requires.found.1.1 in
     changed_is_kept i.cert i.print i.secret i.sign i.cookies i.peers i.attempts.attempts c.self.invariant c.args.found.near found.attempt (ap (λ (t : StartupState). get t.attempts c.args.found.near) c.self.view_is ∙ found.there)
     (λ a. recookied a c.args.new.now c.args.moment) c.change.new.self.attempts c.change.ensures (record { aim = λ a. refl; ni = λ a. refl })
+    (recookied_fits found.attempt.aim found.attempt.stage c.args.new.now (c.self.invariant.sound.stages c.args.found.near found.attempt (ap (λ (t : StartupState). get t.attempts c.args.found.near) c.self.view_is ∙ found.there)))
 
 pub returns-clause-answer : goal.returns-clause-answer
 returns-clause-answer c chosen found =

@@ -10,5 +10,5 @@ pub returns : goal.returns
 returns c =
     let i = c.self.inside in
     let chosen = lowest (has_number c.args.n) i.attempts.attempts in
-    c.is_some.ensures ∙ chosen_or_none chosen i.attempts.attempts c.find.result c.find.ensures ∙ ends_what_is chosen Cancelled
+    c.is_some.ensures ∙ chosen_or_none chosen i.attempts.attempts c.find.result c.find.ensures ∙ ends_what_is c.args.n i.attempts.attempts Cancelled
     ∙ ap (λ (s : StartupState). is_some (cancel_fact s c.args.n)) c.self.view_is
