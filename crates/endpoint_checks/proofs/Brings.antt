@@ -1,4 +1,4 @@
--- A datagram brings one keying.
+-- A datagram brings one keying, or one hello.
 use Rattle.std.proofs.Common.{ℕ, List, [], ◌∷◌, ◌++◌, length, ◌≡◌, inl, inr, refl, sym, ap, subst, ◌∙◌, Ok, Err, Result, arith, take, drop, length-append}
 use Rattle.std.proofs.lemmas.List.{take_at}
 use Rattle.crypto_profile.specs.declared.keys.Context.{Context}
@@ -11,10 +11,10 @@ use Rattle.rtmfp_packet.specs.declared.head.PacketFault.{PacketFault}
 use Rattle.rtmfp_packet.specs.Reading.{PacketReading}
 use Rattle.rtmfp_packet.proofs.Readings.{packet_reading_same}
 use Rattle.rtmfp_chunks.specs.declared.reading.ChunkFault.{ChunkFault}
-use Rattle.rtmfp_chunks.specs.Chunk.{Chunk, IIKeying, RIKeying, Spells}
+use Rattle.rtmfp_chunks.specs.Chunk.{Chunk, RHello, IIKeying, RIKeying, Spells}
 use Rattle.rtmfp_chunks.proofs.ReadingLaws.{reading_same}
 use Rattle.endpoint_laws.specs.Contexts.{ReadsUnder}
-use Rattle.endpoint_model.specs.Keying.{IsFirst, IsSigned}
+use Rattle.endpoint_model.specs.Keying.{IsAmong, IsFirst, IsSigned}
 
 -- what opens in a context reads as one packet
 whole_or : Whole → Result Whole PacketFault → Whole
@@ -46,10 +46,12 @@ near_in read = 0
 
 cookie_in : Result Chunk ChunkFault → List ℕ
 cookie_in (Ok (IIKeying near cookie cert part sign)) = cookie
+cookie_in (Ok (RHello tag cookie cert)) = cookie
 cookie_in read = []
 
 cert_in : Result Chunk ChunkFault → List ℕ
 cert_in (Ok (IIKeying near cookie cert part sign)) = cert
+cert_in (Ok (RHello tag cookie cert)) = cert
 cert_in read = []
 
 part_in : Result Chunk ChunkFault → List ℕ
@@ -61,6 +63,10 @@ sign_in : Result Chunk ChunkFault → List ℕ
 sign_in (Ok (IIKeying near cookie cert part sign)) = sign
 sign_in (Ok (RIKeying near part sign)) = sign
 sign_in read = []
+
+tag_in : Result Chunk ChunkFault → List ℕ
+tag_in (Ok (RHello tag cookie cert)) = tag
+tag_in read = []
 
 -- two keyings that one payload spells
 pub record OneKeying (near near' : ℕ) (cookie cookie' cert cert' part part' sign sign' : List ℕ) : Type 0 where
@@ -88,6 +94,24 @@ unfolding near_in part_in sign_in
 one_answer kind payload near near' part part' sign sign' a b =
     let e = reading_same kind payload (Ok (RIKeying near part sign)) (Ok (RIKeying near' part' sign')) a b in
     record { near_is = ap near_in e; part_is = ap part_in e; sign_is = ap sign_in e }
+
+pub record OneHello (tag tag' cert cert' : List ℕ) : Type 0 where
+  pub tag_is : tag ≡ tag'
+  pub cert_is : cert ≡ cert'
+
+pub one_hello : (kind : ℕ) (payload : List ℕ) (tag tag' cookie cookie' cert cert' : List ℕ) → Spells (RHello tag cookie cert) kind payload → Spells (RHello tag' cookie' cert') kind payload → OneHello tag tag' cert cert'
+unfolding tag_in cert_in
+one_hello kind payload tag tag' cookie cookie' cert cert' a b =
+    let e = reading_same kind payload (Ok (RHello tag cookie cert)) (Ok (RHello tag' cookie' cert')) a b in
+    record { tag_is = ap tag_in e; cert_is = ap cert_in e }
+
+-- the only chunk of a packet
+pub only_one : (c d : Placed) (cs : List Placed) → cs ≡ d ∷ [] → IsAmong c cs → c ≡ d
+only_one c d cs e among = alone c d (subst (IsAmong c) e among)
+  where
+    alone : (c d : Placed) → IsAmong c (d ∷ []) → c ≡ d
+    alone c d (inl e) = e
+    alone c d (inr none) = absurd none
 
 -- ---- a signature
 

@@ -12,3 +12,4 @@ mod Closing
 mod Stories
 mod Quarrels
 mod Stopping
+mod Searched

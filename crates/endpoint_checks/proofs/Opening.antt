@@ -1,5 +1,5 @@
 -- What the table refuses of an Opened and of a Confirmed.
-use Rattle.std.proofs.Common.{ℕ, ◌≤◌, ◌<◌, List, [], ◌∷◌, length, drop, length-drop, ◌≡◌, inl, inr, refl, sym, ap, subst, ◌∙◌, cond, Option, Some, None, true, false, arith}
+use Rattle.std.proofs.Common.{ℕ, ◌≤◌, ◌<◌, List, [], length, drop, length-drop, ◌≡◌, refl, sym, ap, subst, ◌∙◌, cond, Option, Some, None, true, false, arith}
 use Rattle.std.specs.Prelude.{Bool}
 use Rattle.std.specs.Str.{bytes_eq}
 use Rattle.crypto_profile.specs.declared.keys.Context.TheVariants.{Startup}
@@ -21,7 +21,7 @@ use Rattle.endpoint_laws.specs.Lawful.{AnswersAttempt}
 use Rattle.endpoint_checks.specs.Brings.{Answer, BringsAnswer}
 use Rattle.endpoint_checks.specs.Opens.{TheTableRefusesOpenings, TheTableRefusesAnswers, TheTableRefusesConfirms}
 use Rattle.endpoint_checks.proofs.Logs.{same, other}
-use Rattle.endpoint_checks.proofs.Brings.{one_packet, one_answer, OneAnswer, signed_here}
+use Rattle.endpoint_checks.proofs.Brings.{one_packet, one_answer, OneAnswer, only_one, signed_here}
 
 number_in : Option Held → ℕ
 number_in (Some (Opening n near ni)) = n
@@ -48,7 +48,7 @@ not_held : (b : Bool) (x y : Held) → b ≡ false → cond b (Some x) None ≡ 
 not_held true x y e is = cc
 not_held false x y e is = cc
 
-too_short : (sent : List ℕ) → 32 ≤ length (drop 4 sent) → length sent < 36 → ⊥
+pub too_short : (sent : List ℕ) → 32 ≤ length (drop 4 sent) → length sent < 36 → ⊥
 too_short sent long short = omega (arith, length-drop 4 sent, long, short)
 
 pub openings_refused : TheTableRefusesOpenings
@@ -72,13 +72,6 @@ openings_refused setup moment c from sent draws j = record {
 -- ---- what the keying of the datagram says
 
 module _ (secret sent : List ℕ) (j : Joined) (a : Answer) (b : BringsAnswer secret j.near sent a) (line : AnswersAttempt secret j sent) where
-  only_one : (c d : Placed) (cs : List Placed) → cs ≡ d ∷ [] → IsAmong c cs → c ≡ d
-  only_one c d cs e among = alone c d (subst (IsAmong c) e among)
-    where
-      alone : (c d : Placed) → IsAmong c (d ∷ []) → c ≡ d
-      alone c d (inl e) = e
-      alone c d (inr none) = absurd none
-
   same_chunk : line.chunk ≡ b.chunk
   same_chunk =
       only_one line.chunk b.chunk (chunks_of b.packet) b.only

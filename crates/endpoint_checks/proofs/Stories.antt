@@ -30,7 +30,7 @@ sent_so : (setup : Setup) (past : Past) (earlier : History) (number plain : List
     WasSent (datagram 0 (sealed_in setup.secret (Startup 0) 0 number plain)) (Startup 0) earlier
 sent_so setup past earlier number plain size honest =
     let opens = opens_again setup.secret 0 number plain (omega arith) size in
-    honest (Startup 0 ∷ []) (Startup 0) plain (inl (opens.id, refl)) (inl (refl, record { id = refl; opens = subst (λ (sid : ℕ). Opens setup.secret (Startup 0) sid (drop 4 (datagram 0 (sealed_in setup.secret (Startup 0) 0 number plain))) plain) (sym opens.id) opens.opens }))
+    honest (Startup 0 ∷ []) (Startup 0) plain (inl (inl opens.id, refl)) (inl (refl, record { id = refl; opens = subst (λ (sid : ℕ). Opens setup.secret (Startup 0) sid (drop 4 (datagram 0 (sealed_in setup.secret (Startup 0) 0 number plain))) plain) (sym opens.id) opens.opens }))
 
 -- the one entry of the one event before
 one_out : (P : Type 0) → (P ⊎ ⊥) ⊎ ⊥ → P

@@ -1,9 +1,9 @@
--- Datagrams with keyings, as the checks speak of them.
+-- Datagrams with keyings and hellos, as the checks speak of them.
 use Rattle.std.specs.Prelude.{ℕ, ◌≡◌, List, [], ◌∷◌, ◌++◌}
 use Rattle.crypto_profile.specs.declared.keys.Context.TheVariants.{Startup}
 use Rattle.rtmfp_packet.specs.Whole.{Whole}
 use Rattle.rtmfp_packet.specs.Walk.{Placed}
-use Rattle.rtmfp_chunks.specs.Chunk.{IIKeying, RIKeying, Spells}
+use Rattle.rtmfp_chunks.specs.Chunk.{RHello, IIKeying, RIKeying, Spells}
 use Rattle.endpoint_laws.specs.Contexts.{ReadsUnder}
 use Rattle.endpoint_model.specs.Keying.{IsFirst, chunks_of}
 
@@ -42,3 +42,18 @@ pub record BringsAnswer (secret : List ℕ) (sid : ℕ) (sent : List ℕ) (a : A
   pub only : chunks_of packet ≡ chunk ∷ []
   pub spells : Spells (RIKeying a.near a.part a.sign) chunk.kind chunk.payload
   pub payload : chunk.payload ≡ a.before ++ a.sign
+
+-- what a responder's hello says
+pub record Hello : Type 0 where
+  pub tag : List ℕ
+  pub cookie : List ℕ
+  pub cert : List ℕ
+
+-- The datagram opens in the startup context under session ID 0, and a responder's hello that says
+-- this is its only chunk.
+pub record BringsHello (secret sent : List ℕ) (hello : Hello) : Type 0 where
+  pub packet : Whole
+  pub reads : ReadsUnder secret (Startup 0) 0 sent packet
+  pub chunk : Placed
+  pub only : chunks_of packet ≡ chunk ∷ []
+  pub spells : Spells (RHello hello.tag hello.cookie hello.cert) chunk.kind chunk.payload

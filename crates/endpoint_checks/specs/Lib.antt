@@ -10,3 +10,4 @@ pub mod SessionEnds
 pub mod Closings
 pub mod Histories
 pub mod Stops
+pub mod Searches

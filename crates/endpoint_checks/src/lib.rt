@@ -11,6 +11,7 @@ ghost use Rattle.endpoint_checks.specs.Ends.{TheTableRefusesCancels, TheTableRef
 ghost use Rattle.endpoint_checks.specs.Histories.{HistoriesRefuseDisagreed, HistoriesRefuseForged, HistoriesRefuseForgedInSessions, HistoriesRefuseStale};
 ghost use Rattle.endpoint_checks.specs.Opens.{TheTableRefusesAnswers, TheTableRefusesConfirms, TheTableRefusesOpenings};
 ghost use Rattle.endpoint_checks.specs.Sends.{TheTableRefusesAnswersSent, TheTableRefusesKeyingsSent, TheTableRefusesNumbers, TheTableRefusesSends, TheTableRefusesSendsInSessions};
+ghost use Rattle.endpoint_checks.specs.Searches.{TheTableRefusesHellos, TheTableRefusesSearches, TheTableRefusesSeeks, TheTableRefusesUnseeks};
 ghost use Rattle.endpoint_checks.specs.SessionEnds.{TheTableRefusesFars, TheTableRefusesIdles, TheTableRefusesNears, TheTableRefusesUnconfirmed};
 ghost use Rattle.endpoint_checks.specs.Starts.{TheTableRefusesStarts};
 ghost use Rattle.endpoint_checks.specs.Stops.{NoIdleTickStops, NoneStopsBefore, StopsAreInOrder, StopsTellTheirChunks};
@@ -19,6 +20,29 @@ ghost use Rattle.endpoint_checks.specs.Stops.{NoIdleTickStops, NoneStopsBefore, 
 /// session ID that is 0 or in use.
 pub fn starts()
     ensures { TheTableRefusesStarts }
+{}
+
+/// Searches that begin without a seek of their name, or under a session ID that is 0 or in use.
+pub fn seeks()
+    ensures { TheTableRefusesSeeks }
+{}
+
+/// Searches that are over without that unseek, outside of a tick or in one that comes too early, and
+/// others than those that stand.
+pub fn unseeks()
+    ensures { TheTableRefusesUnseeks }
+{}
+
+/// Attempts that start by a datagram without a search, after it was over or answered, with another
+/// session ID, nonce or number, and by one that doesn't open in the startup context.
+pub fn searches()
+    ensures { TheTableRefusesSearches }
+{}
+
+/// Attempts that start by a responder's hello with another tag, another name, another end's
+/// certificate or none.
+pub fn hellos()
+    ensures { TheTableRefusesHellos }
 {}
 
 /// Attempts that end as cancelled without that cancel.

@@ -32,9 +32,9 @@ use Rattle.endpoint_model.specs.State.{with_sessions}
 use Rattle.endpoint_model.specs.Admission.{sid_at}
 use Rattle.endpoint_model.specs.FlowChunks.{is_of_flows, taking_cause, flow_cause, flow_taken_by}
 use Rattle.endpoint_model.specs.FlowChunks.{flow_taken}
-use Rattle.endpoint_model.specs.Causes.{takes}
+use Rattle.endpoint_model.specs.Causes.{takes, read_cause}
 use Rattle.endpoint_model.specs.Effects.{without_ended, with_born}
-use Rattle.endpoint_model.specs.Effects.{chunk_did, walked, chunks_did}
+use Rattle.endpoint_model.specs.Effects.{chunk_did, read_done, walked, chunks_did}
 use Rattle.flow_history.specs.Deeds.{Context, back, Piece, History}
 use Rattle.flow_history.specs.Lawful.{CameIn}
 use Rattle.endpoint_handing.specs.Told.{sending_context, facts_onto}
@@ -46,9 +46,11 @@ use Rattle.endpoint_handing.proofs.Kept.{hands_after, does_after, does_nothing}
 use Rattle.endpoint_handing.proofs.Silent.{AreSilent, AllHad, had_it, had_left, does_silent}
 use Rattle.endpoint_handing.proofs.Begun.{does_begin}
 use Rattle.endpoint_laws.proofs.Small.{birth, Begins}
-use Rattle.endpoint_laws.proofs.Made.{told_made, read_made, initiator_made, responder_made}
+use Rattle.endpoint_laws.proofs.Made.{by_hello, told_made, quiet_read_made, hello_made}
+use Rattle.endpoint_laws.proofs.Made.{initiator_made, responder_made}
+use Rattle.endpoint_laws.proofs.Spelled.{hello_kind}
 use Rattle.endpoint_laws.proofs.ByKind.{is_kind, chunk_by_kind}
-use Rattle.endpoint_handing.proofs.Items.{ended_silent, DoesAlways, quiet_does, does_started, reply_bare}
+use Rattle.endpoint_handing.proofs.Items.{ended_silent, DoesAlways, quiet_does, does_started, does_sought, reply_bare}
 use Rattle.endpoint_handing.proofs.Owed.{FlowsHand}
 
 -- ---- a session is born
@@ -84,6 +86,7 @@ begins_does e may = record {
   quiet = λ s d does. does;
   steps = (quiet_does e).sends.steps;
   starts = does_started e;
+  seeks = does_sought e;
   bears = λ s peer o j from facts. does_birth e may facts s peer o j from;
   opens = λ s startup j from kin facts. does_begin e facts s _ Initiator j from s.moment s.sessions may kin.own kin.secret (had_it s.sessions) refl;
 }
@@ -155,7 +158,10 @@ module _ (e : End) (owed : FlowsHand e) (facts : List Fact) (s : State) (h : His
       responder = λ kind taken none formed. responder_made (quiet_does e) (begins_does e (may_begin e place 0x78 (λ q. refl) at taken)) s (sid_at place) from c.payload facts h stands;
       told = λ told taken has. told_made (quiet_does e) s (sid_at place) from c facts h stands;
       flows = λ is taken none new. taken_at place c.kind (data_reading walk.cursor c.kind c.payload) (λ chunk read. (what_is_read_fits walk.cursor c.kind c.payload chunk small read).0) taken is none came;
-      reads = λ none. read_made (quiet_does e) s place from (chunk_reading c.kind c.payload) (reply_bare s place from (chunk_reading c.kind c.payload) none) facts h stands;
+      reads = λ taken formed none.
+          by_hello (λ read. chunk_reading c.kind c.payload ≡ read → read_cause s place from read ≡ None → AreNew e facts (read_done s place from read).entries → Hands e facts (read_done s place from read) h)
+          (λ tag cookie cert is none. hello_made (quiet_does e) (begins_does e (may_begin e place 0x70 (λ q. refl) at (subst (λ (k : ℕ). takes place k ≡ true) (hello_kind c.kind c.payload tag cookie cert is) taken))) s place from tag cookie cert facts h stands)
+          (λ read other is none. quiet_read_made (quiet_does e) s place from read other (reply_bare s place from read none) facts h stands) (chunk_reading c.kind c.payload) refl none;
     })
 
 -- ---- one chunk after another

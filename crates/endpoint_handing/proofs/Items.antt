@@ -25,7 +25,7 @@ use Rattle.startup.specs.Keyings.{initiator_hello_answer}
 use Rattle.endpoint_model.specs.declared.place.Place.{Place}
 use Rattle.endpoint_model.specs.declared.row.Row.{Row}
 use Rattle.endpoint_model.specs.declared.entry.Entry.{Entry}
-use Rattle.endpoint_model.specs.declared.entry.Entry.TheVariants.{Fact as FactEntry, Closed, Moved}
+use Rattle.endpoint_model.specs.declared.entry.Entry.TheVariants.{Fact as FactEntry, Closed, Moved, Sought, Unsought}
 use Rattle.endpoint_model.specs.declared.entry.Entry.TheVariants.{Discard}
 use Rattle.endpoint_model.specs.State.{State, Did, nothing, with_startup, with_row}
 use Rattle.endpoint_model.specs.State.{with_sealed}
@@ -42,7 +42,7 @@ use Rattle.endpoint_handing.proofs.Silent.{had_row, had_left}
 use Rattle.endpoint_handing.proofs.Silent.{IsAlike, does_silent}
 use Rattle.endpoint_handing.specs.Told.{facts_onto}
 use Rattle.endpoint_laws.proofs.Hearing.{Lasting}
-use Rattle.endpoint_laws.proofs.Small.{GoesOn, stated, Quiet}
+use Rattle.endpoint_laws.proofs.Small.{GoesOn, stated, began, Quiet}
 use Rattle.endpoint_laws.proofs.Made.{Carries}
 use Rattle.endpoint_handing.proofs.Bodies.{body_pieces}
 use Rattle.endpoint_handing.proofs.Plain.{close_none, close_ack_none, ping_none, reply_none}
@@ -64,6 +64,12 @@ confirmed_silent peer near = record { told = λ own facts. refl; context = λ ow
 
 closed_silent : (near : ℕ) → IsSilent (Closed near)
 closed_silent near = record { told = λ own facts. refl; context = λ own id facts. refl; out = λ secret h. tt; no_message = refl }
+
+sought_silent : (near : ℕ) (name : List ℕ) → IsSilent (Sought near name)
+sought_silent near name = record { told = λ own facts. refl; context = λ own id facts. refl; out = λ secret h. tt; no_message = refl }
+
+unsought_silent : (near : ℕ) (why : Why) → IsSilent (Unsought near why)
+unsought_silent near why = record { told = λ own facts. refl; context = λ own id facts. refl; out = λ secret h. tt; no_message = refl }
 
 moved_silent : (near : ℕ) (to : AddressParts) → IsSilent (Moved near to)
 moved_silent near to = record { told = λ own facts. refl; context = λ own id facts. refl; out = λ secret h. tt; no_message = refl }
@@ -114,6 +120,7 @@ module _ (e : End) where
     empty_ping = ping_none [] (omega arith);
     discards = λ s at cause. does_one s s _ (discard_silent at cause) (record { own = refl; secret = refl; rows = had_it s.sessions });
     ends = λ s startup peer near why kin. does_one s _ _ (ended_silent peer near why) (alike_startup s startup kin);
+    unseeks = λ s startup near why kin. does_one s _ _ (unsought_silent near why) (alike_startup s startup kin);
     confirms = λ s startup peer near kin. does_one s _ _ (confirmed_silent peer near) (alike_startup s startup kin);
     closes = λ s near. does_one s _ _ (closed_silent near) (record { own = refl; secret = refl; rows = had_left s.sessions near });
     forgets = λ s near. does_change s _ (record { own = refl; secret = refl; rows = had_left s.sessions near });
@@ -124,7 +131,10 @@ module _ (e : End) where
   pub does_started : (s : State) (startup : StartupState) (peer : List ℕ) (n near : ℕ) (ni : List ℕ) → IsKin s.startup startup → DoesAlways e s (stated s startup (Started peer n near ni))
   does_started s startup peer n near ni kin = does_one s _ _ (started_silent peer n near ni) (alike_startup s startup kin)
 
--- ---- chunks that state nothing
+  pub does_sought : (s : State) (startup : StartupState) (near : ℕ) (name : List ℕ) → IsKin s.startup startup → DoesAlways e s (began s startup near name)
+  does_sought s startup near name kin = does_one s _ _ (sought_silent near name) (alike_startup s startup kin)
+
+-- ---- hellos, redirects, changes of cookies, and pings
 
 first_none : (a b : Option Cause) → first_that_stands (a ∷ b ∷ []) ≡ None → a ≡ None
 first_none None b is = refl

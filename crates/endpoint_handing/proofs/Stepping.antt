@@ -3,9 +3,9 @@ use Rattle.std.proofs.Common.{◌≡◌, ◌<◌, ◌^◌, List, [], length}
 use Rattle.std.proofs.Common.{None, refl, sym, subst}
 use Rattle.glare_core.specs.declared.facts.Fact.{Fact}
 use Rattle.endpoint_model.specs.declared.entry.Entry.{Entry}
-use Rattle.endpoint_model.specs.Event.{Call, Open, Cancel, Close, AddRow, Introduce, OnFlows}
+use Rattle.endpoint_model.specs.Event.{Call, Open, Seek, Unseek, Cancel, Close, AddRow, Introduce, OnFlows}
 use Rattle.endpoint_model.specs.Event.{Receive, Tick}
-use Rattle.endpoint_model.specs.Event.{Answer, Began, Done, NotOpened, Refused, NotAdded, Stopped}
+use Rattle.endpoint_model.specs.Event.{Answer, Began, Searching, Done, NotOpened, NotSought, Refused, NotAdded, Stopped}
 use Rattle.endpoint_model.specs.Event.{OutOfMemory}
 use Rattle.endpoint_model.specs.State.{State, Did, Does as DoesSo, nothing}
 use Rattle.endpoint_model.specs.Admission.{admission}
@@ -13,12 +13,12 @@ use Rattle.endpoint_model.specs.Introducing.{with_redirect, introducing}
 use Rattle.endpoint_model.specs.InSessions.{closing}
 use Rattle.endpoint_model.specs.OnFlows.{call_refusal, flow_called}
 use Rattle.endpoint_model.specs.FlowTimes.{all_late}
-use Rattle.endpoint_model.specs.Effects.{opening, cancelling, ticks, received}
+use Rattle.endpoint_model.specs.Effects.{opening, seeking, unseeking, cancelling, ticks, received}
 use Rattle.endpoint_model.specs.Log.{Answers, stopped}
 use Rattle.flow_history.specs.Deeds.{History}
 use Rattle.endpoint_handing.proofs.Kept.{End, Stands, AreNew, Hands, does_nothing}
 use Rattle.endpoint_handing.proofs.Silent.{had_it, IsAlike, does_from}
-use Rattle.endpoint_laws.proofs.Made.{cancelling_made, closing_made, opening_made, tick_all_made}
+use Rattle.endpoint_laws.proofs.Made.{cancelling_made, closing_made, opening_made, seeking_made, unseeking_made, tick_all_made}
 use Rattle.endpoint_handing.proofs.Items.{quiet_does}
 use Rattle.endpoint_handing.proofs.Chunks.{begins_does}
 use Rattle.endpoint_handing.proofs.Owed.{FlowsHand, OpensAsAsked}
@@ -55,6 +55,10 @@ module _ (e : End) (owed : (A : Type 0) → FlowsHand (with_begins e A)) (facts 
     pub answers_hand : (call : Call) (answer : Answer) → GivenWith call → Answers s call answer entries t → Result
     answers_hand (Open peer candidates draws) (Began n) given is = by_did (opening s peer candidates draws) is.2 new (opening_made (quiet_does it) (begins_does it tt) s peer candidates draws facts h stands)
     answers_hand (Open peer candidates draws) (NotOpened refusal) given is = none is.1
+    answers_hand (Seek name candidates draws) (Searching near) given is = by_did (seeking s name candidates draws) is.2 new (seeking_made (quiet_does it) (begins_does it tt) s name candidates draws facts h stands)
+    answers_hand (Seek name candidates draws) (NotSought refusal) given is = none is.1
+    answers_hand (Unseek near) Done given is = by_did (unseeking s near) is.1 new (unseeking_made (quiet_does it) s near facts h stands)
+    answers_hand (Unseek near) (Refused refusal) given is = none is.1
     answers_hand (Cancel n) Done given is = by_did (cancelling s n) is.1 new (cancelling_made (quiet_does it) s n facts h stands)
     answers_hand (Cancel n) (Refused refusal) given is = none is.2
     answers_hand (Close near) Done given is = by_did (closing s near) is.1 new (closing_made (quiet_does it) s near facts h stands)

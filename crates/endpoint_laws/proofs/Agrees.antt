@@ -1,5 +1,5 @@
 -- The state agrees with what was done, the account of the ledger aside; and what is kept of that when one thing changes.
-use Rattle.std.proofs.Common.{◌≡◌, ℕ, ◌≤◌, List, Bool, true, false, if◌then◌else◌, Option, Some, None, is_some, ◌||◌, inl, inr, refl, sym, ap, subst, ◌∙◌}
+use Rattle.std.proofs.Common.{◌≡◌, ℕ, ◌≤◌, ◌<◌, ◌^◌, List, Bool, true, false, if◌then◌else◌, Option, Some, None, is_some, ◌||◌, inl, inr, refl, sym, ap, subst, ◌∙◌}
 use Rattle.std.specs.FinMap.{get}
 use Rattle.sha2.specs.Sha256.{sha256}
 use Rattle.glare_core.specs.declared.facts.Joined.{Joined}
@@ -7,12 +7,13 @@ use Rattle.glare_core.specs.declared.facts.Held.{Held}
 use Rattle.glare_core.specs.declared.facts.Held.TheVariants.{Opening as OpeningHeld, HalfOpen, KeptAsResponder, KeptAsInitiator}
 use Rattle.glare_core.specs.Things.{IsSession, near_of}
 use Rattle.glare_core.specs.Ledger.{held_with, row_count}
+use Rattle.glare_core.specs.Standing.{count}
 use Rattle.glare_core.specs.Account.{StandsFor}
 use Rattle.rtmfp_base.proofs.Maps.{none_is_some, same_or_not}
 use Rattle.startup.specs.declared.aim.Aim.{Aim}
-use Rattle.startup.specs.declared.aim.Aim.TheVariants.{AtPeer}
+use Rattle.startup.specs.declared.aim.Aim.TheVariants.{AtPeer, ByName}
 use Rattle.startup.specs.Aims.{IsHeldAs, peer_of_aim}
-use Rattle.startup.specs.State.{AttemptState, peer_of_attempt}
+use Rattle.startup.specs.State.{AttemptState, FitsStage, peer_of_attempt}
 use Rattle.session_core.specs.declared.stage.Role.{Role}
 use Rattle.session_core.specs.declared.stage.Role.TheVariants.{Initiator, Responder}
 use Rattle.session_core.specs.declared.stage.Stage.{Stage}
@@ -21,15 +22,15 @@ use Rattle.session_core.specs.Session.{SessionState, IsKeyed}
 use Rattle.session_core.specs.Closing.{is_held}
 use Rattle.endpoint_model.specs.declared.row.Row.{Row}
 use Rattle.endpoint_model.specs.Event.{Setup, own_of}
-use Rattle.endpoint_laws.specs.Past.{Stamped, facts_of, ids_in_use, IsClosing, WasDone, Past}
+use Rattle.endpoint_laws.specs.Past.{Stamped, Search, facts_of, ids_in_use, IsClosing, IsSearch, WasDone, Past}
 use Rattle.endpoint_model.specs.State.{State, is_used}
 use Rattle.endpoint_laws.proofs.Matching.{Found, of_peer, of_some, Matches, Ids}
-use Rattle.endpoint_laws.specs.OfTheLog.{WasStartedAs}
-use Rattle.endpoint_laws.proofs.Tied.{Tied, AreBy, StageFits, IsClosed, IsClosedThing, thing_of, held_of, found_in}
+use Rattle.endpoint_laws.proofs.Tied.{Tied, search_of, WasStartedAs, IsKeptIn, AreBy, StageFits, IsClosed, IsClosedThing, thing_of, held_of, found_in}
 
--- what an attempt is, with its peer
+-- what an attempt is, with its peer; a search is nothing that is held
 abbrev pub found_as : ℕ → List ℕ → Aim → Found
 found_as near ni (AtPeer peer n) = Some (peer, OpeningHeld n near ni)
+found_as near ni (ByName name) = None
 
 -- what stands under a session ID, with its peer
 abbrev pub combined : ℕ → Option AttemptState → Option Row → Found
@@ -58,16 +59,21 @@ pub record IsGiven (setup : Setup) (s : State) : Type 0 where
   pub max_peers : s.startup.ledger.max_peers ≡ setup.config.max_peers
 
 abbrev pub WasStarted : Past → ℕ → AttemptState → Type 0
-WasStarted past near a = WasStartedAs past a.start near a.ni a.aim
+WasStarted past near a = WasStartedAs past near a a.aim
 
--- what was started stays so where all that was done stays so
-pub started_still : (past now : Past) (start near : ℕ) (ni : List ℕ) (aim : Aim) → ((x : Stamped) → WasDone x past → WasDone x now) →
-    WasStartedAs past start near ni aim → WasStartedAs now start near ni aim
-started_still past now start near ni (AtPeer peer n) done was = done _ was
+-- what was started stays so where all that was done stays so, and a search goes on
+pub started_still : (past now : Past) (near : ℕ) (a : AttemptState) (aim : Aim) → ((x : Stamped) → WasDone x past → WasDone x now) →
+    ((which : Search) (at : ℕ) → IsSearch near which at past → IsSearch near which at now) → WasStartedAs past near a aim → WasStartedAs now near a aim
+started_still past now near a (AtPeer peer n) done on was = done _ was
+started_still past now near a (ByName name) done on was = (on (search_of name a) a.start was.0, was.1, was.2)
 
 -- What closes by what was done is closing under its session ID.
 abbrev pub ClosesAt : Past → ℕ → Option Row → Type 0
 ClosesAt past near o = (thing : Held) (at : ℕ) → IsClosing near thing at past → IsClosedThing o thing
+
+-- A search is kept under its session ID.
+abbrev pub SearchesAt : Past → ℕ → Option AttemptState → Type 0
+SearchesAt past near o = (which : Search) (at : ℕ) → IsSearch near which at past → IsKeptIn o which at
 
 pub record Agrees (setup : Setup) (past : Past) (s : State) : Type 0 where
   pub given : IsGiven setup s
@@ -76,6 +82,8 @@ pub record Agrees (setup : Setup) (past : Past) (s : State) : Type 0 where
   pub closing : (near : ℕ) → ClosesAt past near (get s.sessions near)
   pub apart : (near : ℕ) (a : AttemptState) → get s.startup.attempts near ≡ Some a → get s.sessions near ≡ None
   pub started : (near : ℕ) (a : AttemptState) → get s.startup.attempts near ≡ Some a → WasStarted past near a
+  pub searching : (near : ℕ) → SearchesAt past near (get s.startup.attempts near)
+  pub stages : (near : ℕ) (a : AttemptState) → get s.startup.attempts near ≡ Some a → FitsStage a.aim a.stage
   pub ids : Ids setup.config.max_sessions (ids_in_use past) s
   pub by_now : AreBy s.moment past
   pub rows : row_count s.startup.ledger ≤ setup.config.max_peers
@@ -166,6 +174,7 @@ peer_of_found near (Some a) os peer h e = by a.aim e
         let p : q ≡ peer = ap (λ (x : List ℕ × Held). x.0) same in
         let t : OpeningHeld number near a.ni ≡ h = ap (λ (x : List ℕ × Held). x.1) same in
         ((λ n m ni is. ap (λ (x : List ℕ). Some x) p), (λ is. absurd (not_opening h number near a.ni is (sym t))))
+    by (ByName name) e = absurd (cc)
 peer_of_found near None os peer h e = (
   (λ n m ni is.
       let found = found_row os peer h e in
@@ -177,9 +186,10 @@ peer_of_found near None os peer h e = (
 -- an attempt that is found is held as what it aims at
 held_of_found : (s : State) → Matches (thing_at s) (held_with s.startup.ledger) → (near : ℕ) (ni : List ℕ) (aim : Aim) → thing_at s near ≡ found_as near ni aim → IsHeldAs s.startup.ledger near ni aim
 held_of_found s matches near ni (AtPeer peer n) found = (matches.found near peer (OpeningHeld n near ni) found).0
+held_of_found s matches near ni (ByName name) found = tt
 
-pub tied_of : (setup : Setup) (past : Past) (s : State) → Agrees setup past s → StandsFor 0 s.startup.ledger (facts_of past) → Tied setup past s
-tied_of setup past s a account = record {
+pub tied_of : (setup : Setup) (past : Past) (s : State) → Agrees setup past s → StandsFor 0 s.startup.ledger (facts_of past) → count (facts_of past) < 2 ^ 64 → Tied setup past s
+tied_of setup past s a account few = record {
   config = a.given.config;
   cert = a.given.cert;
   secret = a.given.secret;
@@ -190,6 +200,7 @@ tied_of setup past s a account = record {
   sound = record {
     own = a.given.own ∙ ap sha256 (sym a.given.cert);
     held = λ near b e. held_of_found s a.matches near b.ni b.aim (found_of_attempt s near b e);
+    stages = a.stages;
     there = λ peer n near ni e.
         (peer_of_found near (get s.startup.attempts near) (get s.sessions near) peer (OpeningHeld n near ni) (a.matches.there peer (OpeningHeld n near ni) e)).0 n near ni refl;
   };
@@ -210,6 +221,7 @@ tied_of setup past s a account = record {
   closing = a.closing;
   apart = a.apart;
   started = a.started;
+  searching = a.searching;
   used = a.ids.used;
   count = a.ids.count;
   once = a.ids.once;
@@ -217,6 +229,7 @@ tied_of setup past s a account = record {
   by_now = a.by_now;
   within = a.ids.within;
   rows = a.rows;
+  few = few;
 }
 
 found_is : (setup : Setup) (past : Past) (s : State) → Tied setup past s → (near : ℕ) (oa : Option AttemptState) (os : Option Row) →
@@ -228,6 +241,7 @@ found_is setup past s t near (Some a) os ea es p h e = by a.aim (t.sound.held ne
     by (AtPeer q n) is e =
         let same : (q, OpeningHeld n near a.ni) ≡ (p, h) = cc in
         (subst (λ (x : List ℕ × Held). (held_with s.startup.ledger x.0 ≡ Some x.1) × (near_of x.1 ≡ near)) same (is, refl))
+    by (ByName name) is e = absurd (cc)
 found_is setup past s t near None os ea es p h e =
     let found = found_row os p h e in
     let row : Row = found.0 in
@@ -246,6 +260,7 @@ attempt_there setup past s t peer n near ni e = go (get s.startup.attempts near)
         let held_is : held_with s.startup.ledger q ≡ Some (OpeningHeld m near a.ni) = subst (λ (aim : Aim). IsHeldAs s.startup.ledger near a.ni aim) aims (t.sound.held near a is) in
         let both : Some (OpeningHeld m near a.ni) ≡ Some (OpeningHeld n near ni) = sym held_is ∙ ap (held_with s.startup.ledger) p ∙ e in
         found_of_peer s near a q m is aims ∙ ap (λ (x : List ℕ). Some (x, OpeningHeld m near a.ni)) p ∙ ap (of_peer peer) both
+    by_aim a (ByName name) aims is at = absurd (cc)
 
     go : (o : Option AttemptState) → get s.startup.attempts near ≡ o → peer_of_attempt o ≡ Some peer → thing_at s near ≡ Some (peer, OpeningHeld n near ni)
     go None is at = absurd (cc)
@@ -276,6 +291,8 @@ agrees_of setup past s t = record {
   closing = t.closing;
   apart = t.apart;
   started = t.started;
+  searching = t.searching;
+  stages = t.sound.stages;
   ids = record { used = t.used; count = t.count; once = t.once; not_zero = t.not_zero; within = t.within };
   by_now = t.by_now;
   rows = t.rows;
@@ -299,6 +316,15 @@ none_closes setup past s a near p h is thing at c = by (get s.startup.attempts n
     by (Some b) ea (Some row) es closed = none_is_some row (get s.sessions near) (a.apart near b ea) es
     by None ea os es closed = in_session os (sym (ap (λ (o : Option AttemptState). combined near o os) ea) ∙ ap (combined near (get s.startup.attempts near)) (sym es) ∙ is) closed
 
+-- nor is there a search
+
+none_kept : (near : ℕ) (oa : Option AttemptState) (os : Option Row) (p : List ℕ) (h : Held) → combined near oa os ≡ Some (p, h) → (which : Search) (at : ℕ) → IsKeptIn oa which at → ⊥
+none_kept near None os p h e which at kept = kept
+none_kept near (Some a) os p h e which at kept = let clash : ◌≡◌ {A = Found} None (Some (p, h)) = sym (ap (found_as near a.ni) kept.0) ∙ e in cc
+
+pub none_searches : (setup : Setup) (past : Past) (s : State) → Agrees setup past s → (near : ℕ) (p : List ℕ) (h : Held) → thing_at s near ≡ Some (p, h) → (which : Search) (at : ℕ) → IsSearch near which at past → ⊥
+none_searches setup past s a near p h is which at there = none_kept near (get s.startup.attempts near) (get s.sessions near) p h is which at (a.searching near which at there)
+
 -- ---- one thing changes
 
 -- what stands under one session ID after a change, all else as before
@@ -308,17 +334,19 @@ pub record IsAt (near : ℕ) (oa : Option AttemptState) (os : Option Row) (s t :
   pub attempts : (q : ℕ) → (q ≡ near → ⊥) → get t.startup.attempts q ≡ get s.startup.attempts q
   pub sessions : (q : ℕ) → (q ≡ near → ⊥) → get t.sessions q ≡ get s.sessions q
 
--- More was done, that begins and ends no closing but under one session ID.
+-- More was done, that begins and ends no closing and no search but under one session ID.
 pub record GoesOnBeside (near : ℕ) (past now : Past) : Type 0 where
   pub done : (x : Stamped) → WasDone x past → WasDone x now
   pub closing : (q : ℕ) → (q ≡ near → ⊥) → (thing : Held) (at : ℕ) → IsClosing q thing at past → IsClosing q thing at now
   pub back : (q : ℕ) → (q ≡ near → ⊥) → (thing : Held) (at : ℕ) → IsClosing q thing at now → IsClosing q thing at past
+  pub sought : (q : ℕ) → (q ≡ near → ⊥) → (which : Search) (at : ℕ) → IsSearch q which at past → IsSearch q which at now
+  pub before : (q : ℕ) → (q ≡ near → ⊥) → (which : Search) (at : ℕ) → IsSearch q which at now → IsSearch q which at past
 
 -- an attempt or a session of this end, and not both
 abbrev pub Fits : Setup → Past → ℕ → Option AttemptState → Option Row → Type 0
 Fits setup past near None None = Unit {0}
 Fits setup past near None (Some row) = IsOurs setup past near row.session
-Fits setup past near (Some a) None = WasStarted past near a
+Fits setup past near (Some a) None = WasStarted past near a × FitsStage a.aim a.stage
 Fits setup past near (Some a) (Some row) = ⊥
 
 pub thing_elsewhere : (near : ℕ) (oa : Option AttemptState) (os : Option Row) (s t : State) → IsAt near oa os s t → (q : ℕ) → (q ≡ near → ⊥) → thing_at t q ≡ thing_at s q
@@ -341,9 +369,9 @@ fits_session setup past near oa None row f e = absurd (cc)
 fits_session setup past near None (Some x) row f e = let same : x ≡ row = cc in subst (λ (r : Row). IsOurs setup past near r.session) same f
 fits_session setup past near (Some a) (Some x) row f e = absurd f
 
-fits_attempt : (setup : Setup) (past : Past) (near : ℕ) (oa : Option AttemptState) (os : Option Row) (a : AttemptState) → Fits setup past near oa os → oa ≡ Some a → (os ≡ None) × WasStarted past near a
+fits_attempt : (setup : Setup) (past : Past) (near : ℕ) (oa : Option AttemptState) (os : Option Row) (a : AttemptState) → Fits setup past near oa os → oa ≡ Some a → (os ≡ None) × WasStarted past near a × FitsStage a.aim a.stage
 fits_attempt setup past near None os a f e = absurd (cc)
-fits_attempt setup past near (Some x) None a f e = let same : x ≡ a = cc in (refl, subst (WasStarted past near) same f)
+fits_attempt setup past near (Some x) None a f e = let same : x ≡ a = cc in (refl, subst (WasStarted past near) same f.0, subst (λ (b : AttemptState). FitsStage b.aim b.stage) same f.1)
 fits_attempt setup past near (Some x) (Some row) a f e = absurd f
 
 -- what closes elsewhere goes on
@@ -351,9 +379,9 @@ closed_on : (past now : Past) (near q : ℕ) (session : SessionState) → GoesOn
 closed_on past now near q session more other c = record { thing = c.thing; at = c.at; was = c.was; closing = more.closing q other c.thing c.at c.closing; since = c.since }
 
 pub agrees_changed : (setup : Setup) (past now : Past) (s t : State) (near : ℕ) (oa : Option AttemptState) (os : Option Row) → Agrees setup past s → IsGiven setup t → IsAt near oa os s t →
-    Matches (thing_at t) (held_with t.startup.ledger) → Fits setup now near oa os → GoesOnBeside near past now → ClosesAt now near os →
+    Matches (thing_at t) (held_with t.startup.ledger) → Fits setup now near oa os → GoesOnBeside near past now → ClosesAt now near os → SearchesAt now near oa →
     Ids setup.config.max_sessions (ids_in_use now) t → AreBy t.moment now → row_count t.startup.ledger ≤ setup.config.max_peers → Agrees setup now t
-agrees_changed setup past now s t near oa os a given at matches fits more closes ids by_now rows = record {
+agrees_changed setup past now s t near oa os a given at matches fits more closes sought ids by_now rows = record {
   given = given;
   matches = matches;
   ours = λ q row e. elim (same_or_not q near) [
@@ -374,7 +402,16 @@ agrees_changed setup past now s t near oa os a given at matches fits more closes
   started = λ q b e. elim (same_or_not q near) [
     | inl is ↦
         subst (λ (k : ℕ). WasStarted now k b) (sym is.0) (fits_attempt setup now near oa os b fits (sym at.attempt ∙ ap (get t.startup.attempts) (sym is.0) ∙ e)).1
-    | inr is ↦ started_still past now b.start q b.ni b.aim more.done (a.started q b (sym (at.attempts q is.0) ∙ e))
+    | inr is ↦ started_still past now q b b.aim more.done (λ which m. more.sought q is.0 which m) (a.started q b (sym (at.attempts q is.0) ∙ e))
+  ];
+  searching = λ q which m there. elim (same_or_not q near) [
+    | inl is ↦
+        subst (λ (o : Option AttemptState). IsKeptIn o which m) (sym (ap (get t.startup.attempts) is.0 ∙ at.attempt)) (sought which m (subst (λ (k : ℕ). IsSearch k which m now) is.0 there))
+    | inr is ↦ subst (λ (o : Option AttemptState). IsKeptIn o which m) (sym (at.attempts q is.0)) (a.searching q which m (more.before q is.0 which m there))
+  ];
+  stages = λ q b e. elim (same_or_not q near) [
+    | inl is ↦ (fits_attempt setup now near oa os b fits (sym at.attempt ∙ ap (get t.startup.attempts) (sym is.0) ∙ e)).2
+    | inr is ↦ a.stages q b (sym (at.attempts q is.0) ∙ e)
   ];
   ids = ids;
   by_now = by_now;

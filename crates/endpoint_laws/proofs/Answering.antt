@@ -40,8 +40,8 @@ use Rattle.endpoint_model.specs.Effects.{opening_done, responder_keyed}
 use Rattle.endpoint_laws.proofs.Matching.{of_peer, ids_same}
 use Rattle.endpoint_model.proofs.Members.{tested}
 use Rattle.endpoint_laws.proofs.Tied.{Tied}
-use Rattle.endpoint_laws.proofs.Agrees.{IsAt, found_of_peer, used_here, used_elsewhere, agrees_changed, agrees_of, tied_of}
-use Rattle.endpoint_laws.proofs.Moving.{beside_fact, still_none, noted_matches, rows_after_known, knows_held}
+use Rattle.endpoint_laws.proofs.Agrees.{IsAt, found_of_peer, used_here, used_elsewhere, agrees_changed, agrees_of, tied_of, none_searches}
+use Rattle.endpoint_laws.proofs.Moving.{beside_fact, still_none, noted_matches, rows_after_known, knows_held, still_unsought}
 use Rattle.endpoint_laws.proofs.Facts.{stands_of}
 use Rattle.endpoint_laws.proofs.Made.{in_session_made}
 use Rattle.endpoint_laws.proofs.Going.{Goes, goes_then, goes_sends}
@@ -117,12 +117,13 @@ module _ (setup : Setup) (from : AddressParts) (datagram : List ℕ) (draws : Dr
       (λ h e. let same : Some (KeptAsInitiator j) ≡ Some h = sym (ap (opened_held j) held_is) ∙ e in let thing : KeptAsInitiator j ≡ h = cc in ap near_of (sym thing)))
       (record { id = refl; own = tied.own; keyed = keyed_begun tied.secret 0 j s.startup.ledger.own Initiator from s.moment; generation = refl; stage = tt; closed = λ e. absurd (cc) })
       (beside_fact near s.moment past (Opened j) tt) (still_none setup past s g near opens.peer (Opening opens.n near a.ni) was s.moment (Opened j) tt (Some new))
+      (still_unsought past near s.moment (Opened j) (none_searches setup past s g near opens.peer (Opening opens.n near a.ni) was) None)
       (ids_same setup.config.max_sessions (ids_in_use past) s t g.ids all_used
       (moved_one (len (remove s.startup.attempts near)) (len (insert s.sessions near new)) (len s.startup.attempts) (len s.sessions)
       (len_less s.startup.attempts near a opens.there) (some_entry s.startup.attempts near a opens.there) (len_new s.sessions near new no_session)))
       (omega arith, g.by_now)
       (rows_after_known s.startup.ledger (Opened j) setup.config.max_peers (knows_held s.startup.ledger opens.peer (Opening opens.n near a.ni) held_is) tied.rows))
-      ((subst gave held_is (gave_opened s.startup.ledger opens.peer j.nr j.far j.k)) 0 (facts_of past) tied.account)
+      ((subst gave held_is (gave_opened s.startup.ledger opens.peer j.nr j.far j.k)) 0 (facts_of past) tied.account) (omega (arith, tied.few))
 
   answers : IsRead setup.secret near datagram packet → IsAmong c (chunks_of packet) → c.kind ≡ 0x78 → AnswersAttempt setup.secret j datagram
   answers read among kind =

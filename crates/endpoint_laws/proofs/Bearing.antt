@@ -34,7 +34,8 @@ use Rattle.glare_core.proofs.Accounts.{reads_held, reads_floor, reads_knows, rea
 use Rattle.rtmfp_base.specs.declared.cause.Cause.TheVariants.{WrongResponder, OwnCertificate}
 use Rattle.startup_packets.specs.Packets.{is_signed}
 use Rattle.startup_packets.specs.Readings.{InitiatorKeying, initiator_keying_in}
-use Rattle.startup.specs.Keyings.{keying_of, is_own, heard_cause, named_cause, cookie_cause, repeated_session}
+use Rattle.startup.specs.Attempts.{is_own}
+use Rattle.startup.specs.Keyings.{keying_of, heard_cause, named_cause, cookie_cause, repeated_session}
 use Rattle.endpoint_model.specs.Event.{Setup, own_of}
 use Rattle.endpoint_laws.specs.Past.{Past, facts_of}
 use Rattle.endpoint_model.specs.Keying.{IsFirst, IsSigned, chunks_of, initiator_part, IsAmong}
@@ -55,7 +56,7 @@ to_bytes [] are k d lt = absurd (omega arith)
 to_bytes (b ∷ bytes) are zero d lt = are 0
 to_bytes (b ∷ bytes) are (suc k) d lt = to_bytes bytes (λ i. are (suc i)) k d (omega arith)
 
-good_certificate : (cert : List ℕ) → is_some (certificate_fault cert) ≡ false → IsCertificate cert
+pub good_certificate : (cert : List ℕ) → is_some (certificate_fault cert) ≡ false → IsCertificate cert
 good_certificate cert e = by (nat_lt (length cert) 17) (nat_lt 80 (length cert)) (has_ascii_name cert) refl refl refl e
   where
     by : (a b c : Bool) → nat_lt (length cert) 17 ≡ a → nat_lt 80 (length cert) ≡ b → has_ascii_name cert ≡ c →

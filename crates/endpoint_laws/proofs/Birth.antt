@@ -13,7 +13,7 @@ use Rattle.glare_core.specs.declared.facts.Held.TheVariants.{Opening, HalfOpen, 
 use Rattle.glare_core.specs.Things.{IsSession, near_of}
 use Rattle.glare_core.specs.Ledger.{held_with, row_count, noted}
 use Rattle.startup.specs.declared.aim.Aim.{Aim}
-use Rattle.startup.specs.declared.aim.Aim.TheVariants.{AtPeer}
+use Rattle.startup.specs.declared.aim.Aim.TheVariants.{AtPeer, ByName}
 use Rattle.startup.specs.State.{AttemptState, Attempts}
 use Rattle.endpoint_model.specs.declared.row.Row.{Row}
 use Rattle.endpoint_model.specs.declared.entry.Entry.TheVariants.{Fact as FactEntry}
@@ -22,8 +22,8 @@ use Rattle.endpoint_laws.specs.Past.{Past, stamped, is_close, ids_in_use}
 use Rattle.endpoint_model.specs.State.{State, uses, is_used}
 use Rattle.endpoint_laws.proofs.Matching.{of_peer, ids_more, ids_less}
 use Rattle.endpoint_laws.proofs.Tied.{by_later, found_in}
-use Rattle.endpoint_laws.proofs.Agrees.{found_as, Agrees, IsGiven, IsOurs, IsAt, combined, thing_at, is_session, found_row, no_attempt, used_here, used_elsewhere, agrees_changed}
-use Rattle.endpoint_laws.proofs.Moving.{beside_fact, still_none, none_there_still, noted_matches, rows_after_known, knows_held}
+use Rattle.endpoint_laws.proofs.Agrees.{found_as, Agrees, IsGiven, IsOurs, IsAt, combined, thing_at, is_session, found_row, no_attempt, used_here, used_elsewhere, agrees_changed, none_searches}
+use Rattle.endpoint_laws.proofs.Moving.{beside_fact, still_none, none_there_still, noted_matches, rows_after_known, knows_held, still_unsought, none_sought}
 use Rattle.endpoint_laws.proofs.Ending.{some_entry, ids_gone}
 use Rattle.endpoint_laws.proofs.Starting.{IsNew}
 
@@ -48,6 +48,7 @@ agrees_end setup past s t moment peer thing why a is given opens at ledger count
     agrees_changed setup past now s t near None None a given at
     (noted_matches s t fact near None None a.matches at ledger (was ∙ sym (ap (of_peer peer) is)) refl (λ h e. absurd (cc)))
     tt (beside_fact near moment past fact refl) (still_none setup past s a near peer thing was moment fact opens None)
+    (still_unsought past near moment fact (none_searches setup past s a near peer thing was) None)
     (ids_gone why (ids_in_use past) near t opens
     (ids_less setup.config.max_sessions (ids_in_use past) s t near a.ids (used_elsewhere near None None s t at) (used_here near None None s t at) (held_used setup past s peer thing a is) count))
     (in_time.1, by_later s.moment t.moment past in_time.0 a.by_now)
@@ -65,6 +66,7 @@ agrees_born setup past s t moment j new a unheld free given at ledger count in_t
     agrees_changed setup past now s t j.near None (Some new) a given at
     (noted_matches s t (Born j) j.near None (Some new) a.matches at ledger was is (λ h e. let same : HalfOpen j ≡ h = cc in ap near_of (sym same)))
     ours (beside_fact j.near moment past (Born j) tt) (none_there_still past j.near (get s.sessions j.near) (a.closing j.near) free.session moment (Born j) tt (Some new))
+    (still_unsought past j.near moment (Born j) (none_sought past j.near (get s.startup.attempts j.near) (a.searching j.near) free.attempt) None)
     (ids_more setup.config.max_sessions (ids_in_use past) s t j.near a.ids (used_elsewhere j.near None (Some new) s t at) (used_here j.near None (Some new) s t at) count free.unused free.some room)
     (in_time.1, by_later s.moment t.moment past in_time.0 a.by_now)
     (subst (λ l. row_count l ≤ setup.config.max_peers) (sym ledger) rows)
@@ -127,6 +129,7 @@ session_found setup past s peer thing g is sess = go (get s.startup.attempts (ne
         let same : (q, Opening n (near_of thing) ni) ≡ (peer, thing) = cc in
         let is : Opening n (near_of thing) ni ≡ thing = ap (λ (x : List ℕ × Held). x.1) same in
         subst IsSession (sym is) sess
+    by_aim ni (ByName _) e = absurd (cc)
 
     go : (oa : Option AttemptState) (os : Option Row) → combined (near_of thing) oa os ≡ Some (peer, thing) → (row : Row) × (os ≡ Some row)
     go (Some a) os e = absurd (by_aim a.ni a.aim e)

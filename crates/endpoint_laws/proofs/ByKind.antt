@@ -69,7 +69,7 @@ pub record ByKind (R : Did → Type 0) (place : Place) (from : AddressParts) (dr
   pub responder : c.kind ≡ 0x78 → takes place 0x78 ≡ true → responder_keying_cause s (sid_at place) c.payload ≡ None → fault_in (responder_keying_in c.payload) ≡ None → R (responder_keyed s (sid_at place) from c.payload)
   pub told : is_told_in_session c.kind ≡ true → takes place c.kind ≡ true → has_state_for s place c.kind ≡ true → R (told_in_session s (sid_at place) from c)
   pub flows : is_of_flows c.kind ≡ true → takes place c.kind ≡ true → flow_cause (get s.sessions (sid_at place)) (data_reading walk.cursor c.kind c.payload) ≡ None → R (flow_taken s (sid_at place) (data_reading walk.cursor c.kind c.payload))
-  pub reads : read_cause s place from (chunk_reading c.kind c.payload) ≡ None → R (read_done s place from (chunk_reading c.kind c.payload))
+  pub reads : takes place c.kind ≡ true → read_fault (length c.payload) (chunk_reading c.kind c.payload) ≡ None → read_cause s place from (chunk_reading c.kind c.payload) ≡ None → R (read_done s place from (chunk_reading c.kind c.payload))
 
 module _ (R : Did → Type 0) (place : Place) (from : AddressParts) (draws : Draws) (walk : Walk) (s : State) (c : Placed) (k : ByKind R place from draws walk s c) where
   abbrev read_causes : List (Option Cause)
@@ -88,7 +88,7 @@ module _ (R : Did → Type 0) (place : Place) (from : AddressParts) (draws : Dra
   effect_by_kind false false true false is_i is_r is_t is_f taken form last =
       k.told is_t taken (not_false (has_state_for s place c.kind) (test_fails (not (has_state_for s place c.kind)) WrongState (all_none read_causes last).0))
   effect_by_kind false false false true is_i is_r is_t is_f taken form last = k.flows is_f taken last
-  effect_by_kind false false false false is_i is_r is_t is_f taken form last = k.reads (all_none read_causes last).1.0
+  effect_by_kind false false false false is_i is_r is_t is_f taken form last = k.reads taken form (all_none read_causes last).1.0
 
   by_cause : (o : Option Cause) → chunk_cause s place walk from c ≡ o → R (discarded_or s c.at o (effect s place walk from draws c))
   by_cause (Some cause) e = k.discarded cause

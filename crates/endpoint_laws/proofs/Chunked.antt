@@ -1,18 +1,21 @@
 -- A chunk of a datagram: what is stated is lawful, and the state agrees with it.
-use Rattle.std.proofs.Common.{◌≡◌, ℕ, ◌≤◌, ◌<◌, ◌^◌, List, [], ◌∷◌, length, nat_lt, Bool, true, false, not, if◌then◌else◌, Option, Some, None, Result, Ok, Err, inl, inr, ◌⊎◌, refl, sym, ap, ◌∙◌}
+use Rattle.std.proofs.Common.{◌≡◌, ℕ, ◌≤◌, ◌<◌, ◌^◌, List, [], ◌∷◌, length, nat_lt, Bool, true, false, not, if◌then◌else◌, Option, Some, None, is_some, Result, Ok, Err, inl, inr, ◌⊎◌, refl, sym, ap, ◌∙◌}
 use Rattle.std.specs.Str.{bytes_eq}
 use Rattle.std.specs.FinMap.{get, contains_key}
 use Rattle.std.proofs.lemmas.Slice.Eq.{bytes_eq-Decides}
 use Rattle.rtmfp_forms.specs.Address.{AddressParts}
 use Rattle.rtmfp_packet.specs.Walk.{Placed}
 use Rattle.rtmfp_packet.specs.Whole.{Whole}
+use Rattle.rtmfp_chunks.specs.declared.reading.ChunkFault.{ChunkFault}
+use Rattle.rtmfp_chunks.specs.Chunk.{Chunk, RHello}
 use Rattle.rtmfp_chunks.specs.FieldReading.{chunk_reading}
 use Rattle.rtmfp_data_chunks.specs.Reader.{data_reading}
 use Rattle.rtmfp_base.specs.declared.cause.Cause.{Cause}
 use Rattle.rtmfp_base.specs.declared.cause.Cause.TheVariants.{NoAttempt, SecondKeying, WrongState, WrongPeer, BadSignature, Wide}
 use Rattle.startup.specs.declared.aim.Aim.{Aim}
-use Rattle.startup.specs.declared.aim.Aim.TheVariants.{AtPeer}
-use Rattle.startup.specs.Aims.{is_towards}
+use Rattle.startup.specs.declared.aim.Aim.TheVariants.{AtPeer, ByName}
+use Rattle.startup.specs.Aims.{is_search, is_towards}
+use Rattle.startup.specs.Attempts.{lowest, has_tag, wide, hello_cause_at}
 use Rattle.startup.specs.State.{AttemptState}
 use Rattle.startup_packets.specs.Packets.{is_signed}
 use Rattle.startup_packets.specs.Readings.{InitiatorKeying, ResponderKeying, initiator_keying_in, responder_keying_in}
@@ -28,14 +31,19 @@ use Rattle.endpoint_laws.specs.Past.{Past}
 use Rattle.endpoint_model.specs.Keying.{IsAmong, IsFirst, chunks_of}
 use Rattle.endpoint_model.specs.State.{State, full}
 use Rattle.endpoint_model.specs.Admission.{sid_at}
-use Rattle.endpoint_model.specs.Effects.{initiator_keyed, responder_keyed, is_told_in_session, chunk_did}
+use Rattle.endpoint_model.specs.Effects.{initiator_keyed, responder_keyed, is_told_in_session, read_done, chunk_did}
 use Rattle.endpoint_model.specs.InSessions.{told_in_session}
-use Rattle.endpoint_model.specs.Causes.{takes, initiator_keying_cause, responder_keying_cause, has_state_for}
+use Rattle.endpoint_model.specs.Causes.{takes, read_fault, read_cause, initiator_keying_cause, responder_keying_cause, has_state_for}
+use Rattle.identity.specs.Certificates.{certificate_fault}
+use Rattle.rtmfp_base.specs.declared.cause.Cause.TheVariants.{Malformed}
 use Rattle.endpoint_laws.proofs.Tied.{Tied}
 use Rattle.endpoint_laws.proofs.Facts.{all_none, test_fails}
 use Rattle.endpoint_laws.proofs.ByKind.{told_kinds, not_false, chunk_by_kind}
 use Rattle.endpoint_laws.proofs.Going.{Goes, goes_discarded}
-use Rattle.endpoint_laws.proofs.Replies.{goes_read}
+use Rattle.endpoint_laws.proofs.Made.{by_hello, not_in_session, not_in_attempt}
+use Rattle.endpoint_laws.proofs.Spelled.{hello_kind}
+use Rattle.endpoint_laws.proofs.Searching.{hello_goes}
+use Rattle.endpoint_laws.proofs.Replies.{goes_read, goes_other}
 use Rattle.endpoint_laws.proofs.FlowChunks.{goes_flow_taken}
 use Rattle.endpoint_laws.proofs.Passing.{PassedAt}
 use Rattle.endpoint_laws.proofs.SessionChunks.{goes_told}
@@ -83,13 +91,15 @@ opens_of s near payload keying reads None is signed e = absurd (cc)
 opens_of s near payload keying reads (Some a) is signed e = by a.aim refl e
   where
     by : (aim : Aim) → a.aim ≡ aim → first_that_stands (
-        where_true (is_in_hello a.stage) WrongState
+        where_true (is_search aim) NoAttempt
+        ∷ where_true (is_in_hello a.stage) WrongState
         ∷ where_true (not (is_towards keying.part.responder aim)) WrongPeer
         ∷ where_true (not (bytes_eq keying.part.ni a.ni)) NoAttempt
         ∷ []) ≡ None → OpensAttempt s near payload
     by (AtPeer peer n) aims none =
         let all = all_none (
-        where_true (is_in_hello a.stage) WrongState
+        where_true false NoAttempt
+        ∷ where_true (is_in_hello a.stage) WrongState
         ∷ where_true (not (bytes_eq keying.part.responder peer)) WrongPeer
         ∷ where_true (not (bytes_eq keying.part.ni a.ni)) NoAttempt
         ∷ []) none in
@@ -102,9 +112,10 @@ opens_of s near payload keying reads (Some a) is signed e = by a.aim refl e
           keying = keying;
           reads = reads;
           signed = signed;
-          responder = same_bytes keying.part.responder peer (test_fails (not (bytes_eq keying.part.responder peer)) WrongPeer all.1.0);
-          ni = same_bytes keying.part.ni a.ni (test_fails (not (bytes_eq keying.part.ni a.ni)) NoAttempt all.1.1.0);
+          responder = same_bytes keying.part.responder peer (test_fails (not (bytes_eq keying.part.responder peer)) WrongPeer all.1.1.0);
+          ni = same_bytes keying.part.ni a.ni (test_fails (not (bytes_eq keying.part.ni a.ni)) NoAttempt all.1.1.1.0);
         }
+    by (ByName name) aims none = absurd (cc)
 
 pub opening_of : (s : State) (near : ℕ) (payload : List ℕ) (keying : ResponderKeying) → responder_keying_in payload ≡ Ok keying → responder_keying_cause s near payload ≡ None → OpensAttempt s near payload
 opening_of s near payload keying reads e = by (contains_key s.startup.attempts near) e
@@ -163,6 +174,26 @@ module _ (setup : Setup) (from : AddressParts) (datagram : List ℕ) (draws : Dr
   told_goes s past (Attempt near generation) c tied passed among told taken has = absurd (not_at_attempt near c.kind (told_kinds c.kind told) taken)
   told_goes s past (Session near) c tied passed among told taken has = goes_told setup from datagram draws packet past s tied near passed c among has
 
+  good_cert : (cert : List ℕ) (at : ℕ) → where_true (is_some (certificate_fault cert)) (Malformed at) ≡ None → is_some (certificate_fault cert) ≡ false
+  good_cert cert at none = test_fails (is_some (certificate_fault cert)) (Malformed at) none
+
+  hello_at : (s : State) (past : Past) (place : Place) (c : Placed) → Tied setup past s → Came setup datagram place packet → IsAmong c (chunks_of packet) → (tag cookie cert : List ℕ) → chunk_reading c.kind c.payload ≡ Ok (RHello tag cookie cert) →
+      takes place c.kind ≡ true → read_fault (length c.payload) (Ok (RHello tag cookie cert)) ≡ None → read_cause s place from (Ok (RHello tag cookie cert)) ≡ None → Goes setup call past s (read_done s place from (Ok (RHello tag cookie cert)))
+  hello_at s past (Startup generation) c tied came among tag cookie cert is taken formed none =
+      let o = lowest (has_tag tag) s.startup.attempts in
+      let all = all_none (wide tag ∷ wide cookie ∷ hello_cause_at s.startup o cert ∷ []) none in
+      goes_read setup call s (Startup generation) from (Ok (RHello tag cookie cert))
+      (λ p t. hello_goes setup from datagram draws packet c came.0 among p s t tag cookie cert is (good_cert cert _ formed) o refl all.1.1.0) past tied
+  hello_at s past (Attempt near generation) c tied came among tag cookie cert is taken formed none = absurd (not_in_attempt near generation c.kind (hello_kind c.kind c.payload tag cookie cert is) taken)
+  hello_at s past (Session near) c tied came among tag cookie cert is taken formed none = absurd (not_in_session near c.kind (hello_kind c.kind c.payload tag cookie cert is) taken)
+
+  read_goes : (s : State) (past : Past) (place : Place) (c : Placed) → Tied setup past s → Came setup datagram place packet → IsAmong c (chunks_of packet) → (read : Result Chunk ChunkFault) → chunk_reading c.kind c.payload ≡ read →
+      takes place c.kind ≡ true → read_fault (length c.payload) read ≡ None → read_cause s place from read ≡ None → Goes setup call past s (read_done s place from read)
+  read_goes s past place c tied came among =
+      by_hello (λ read. chunk_reading c.kind c.payload ≡ read → takes place c.kind ≡ true → read_fault (length c.payload) read ≡ None → read_cause s place from read ≡ None → Goes setup call past s (read_done s place from read))
+      (λ tag cookie cert is taken formed none. hello_at s past place c tied came among tag cookie cert is taken formed none)
+      (λ read other is taken formed none. goes_read setup call s place from read (goes_other setup call s place from read other) past tied)
+
   pub chunk_goes : (s : State) (past : Past) (place : Place) (walk : Walk) (c : Placed) → Tied setup past s → Came setup datagram place packet → PassedAt past place datagram packet s → IsAmong c (chunks_of packet) → (walk.keyed ≡ false → c.kind ≡ 0x38 → IsFirst c (chunks_of packet)) →
       Goes setup call past s (chunk_did place from draws walk s c)
   chunk_goes s past place walk c tied came passed among first = chunk_by_kind (λ d. Goes setup call past s d) place from draws walk s c (record {
@@ -171,5 +202,5 @@ module _ (setup : Setup) (from : AddressParts) (datagram : List ℕ) (draws : Dr
     responder = λ kind taken none formed. responder_goes s past place c tied came among kind taken none formed;
     told = λ told taken has. told_goes s past place c tied passed among told taken has;
     flows = λ is taken none. goes_flow_taken setup call s (sid_at place) (data_reading walk.cursor c.kind c.payload) past tied;
-    reads = λ none. goes_read setup call s place from (chunk_reading c.kind c.payload) past tied;
+    reads = λ taken formed none. read_goes s past place c tied came among (chunk_reading c.kind c.payload) refl taken formed none;
   })

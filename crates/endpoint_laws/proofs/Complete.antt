@@ -46,8 +46,6 @@ use Rattle.session_core.specs.Session.{new_session, head_at}
 use Rattle.session_core.specs.Sealed.{number_bytes}
 use Rattle.glare_core.specs.Tells.{as_initiator}
 use Rattle.rtmfp_chunks.specs.Writing.{chunk_bytes}
-use Rattle.endpoint_laws.proofs.Unseen.{AreUnseen, taken_unseen}
-use Rattle.endpoint_laws.proofs.NoFacts.{NoFactAnd, NoFacts, facts_stay, StatesNone, none_sends, ids_stay}
 use Rattle.endpoint_laws.specs.Contexts.{session_context}
 use Rattle.session_core.specs.declared.stage.Role.TheVariants.{Initiator}
 use Rattle.endpoint_model.specs.declared.row.Row.{Row}
@@ -57,9 +55,10 @@ use Rattle.endpoint_model.specs.declared.place.Place.{Place}
 use Rattle.endpoint_model.specs.declared.place.Place.TheVariants.{Startup, Attempt}
 use Rattle.endpoint_model.specs.declared.entry.Entry.{Entry}
 use Rattle.endpoint_model.specs.declared.entry.Entry.TheVariants.{Fact as FactEntry, Out}
-use Rattle.endpoint_model.specs.Event.{Setup, own_of, Receive, Answer as CallAnswer, Began, Done, NotOpened, Refused, NotAdded, Stopped, OutOfMemory}
+use Rattle.endpoint_model.specs.Event.{Setup, own_of, Receive, Answer as CallAnswer, Began, Searching, Done, NotOpened, NotSought, Refused, NotAdded, Stopped, OutOfMemory}
 use Rattle.endpoint_laws.specs.Past.{Past, onto, facts_of, ids_in_use, past_of, last_moment}
-use Rattle.endpoint_model.specs.Keying.{IsFirst, chunks_of}
+use Rattle.std.specs.List.{AllByRecursion}
+use Rattle.endpoint_model.specs.Keying.{chunks_of}
 use Rattle.endpoint_laws.specs.Admissible.{Admissible, Offer}
 use Rattle.endpoint_laws.specs.Lawful.{AnswersAttempt}
 use Rattle.endpoint_model.specs.State.{State, full, new_row, Did, nothing, then_do, fact_entries, with_startup, free_from, fresh, at_moment}
@@ -72,7 +71,7 @@ use Rattle.endpoint_laws.proofs.Hearing.{HeardWell, known_more}
 use Rattle.endpoint_model.specs.Effects.{read_reply, with_born, keying_done, initiator_keyed, responder_keyed, with_opened, opening_done, discarded_or, chunk_did, walked, chunks_did, received, part_received, outset, most_acks, walked_and_acked}
 use Rattle.endpoint_model.specs.Log.{Answers}
 use Rattle.endpoint_laws.specs.Laws.{IsSetup, IsCall}
-use Rattle.endpoint_laws.specs.Complete.{WentThrough, IsPing, outs_in, at_initiator, IsOfOffer, IsBornAndTold, AdmissibleKeyingsBear, OpensItsSession, KeyingsWithoutCauseOpen}
+use Rattle.endpoint_laws.specs.Complete.{WentThrough, IsBehind, IsPing, outs_in, at_initiator, IsOfOffer, IsBornAndTold, AdmissibleKeyingsBear, OpensItsSession, KeyingsWithoutCauseOpen}
 use Rattle.endpoint_laws.proofs.Bytes.{of_bytes, plain_is}
 use Rattle.endpoint_model.proofs.Reading.{packet_reads}
 use Rattle.endpoint_laws.proofs.Facts.{all_none}
@@ -83,15 +82,15 @@ use Rattle.endpoint_laws.proofs.Going.{Goes}
 use Rattle.endpoint_model.proofs.Steps.{walk_through, then_nothing}
 use Rattle.endpoint_laws.proofs.Admitting.{Came, AdmissionIs, admission_is}
 use Rattle.endpoint_laws.proofs.Answering.{OpensAttempt}
-use Rattle.endpoint_laws.proofs.ByKind.{causes, told_kinds, chunk_by_kind}
-use Rattle.endpoint_laws.proofs.Chunked.{read_ok, opening_of, not_at_startup}
+use Rattle.endpoint_laws.proofs.ByKind.{causes}
+use Rattle.endpoint_laws.proofs.Chunked.{read_ok, opening_of}
 use Rattle.endpoint_laws.proofs.OutSends.{Sent}
 use Rattle.endpoint_laws.proofs.Orderly.{Orderly, chunks_orderly}
 use Rattle.endpoint_laws.proofs.Logged.{LogIs, log_is}
 use Rattle.endpoint_laws.proofs.OutBirths.{small_free}
 use Rattle.endpoint_laws.proofs.Few.{outs_append, few_law, few_begins}
 use Rattle.endpoint_laws.proofs.Small.{Any}
-use Rattle.endpoint_laws.proofs.Made.{carries_any, read_by, chunks_made}
+use Rattle.endpoint_laws.proofs.Made.{chunks_made}
 use Rattle.endpoint_laws.proofs.OutPackets.{one_whole, session_reads}
 use Rattle.endpoint_laws.proofs.ReadsBack.{none_all, less_is_other, IsBearing, read_as, is_bearing}
 use Rattle.endpoint_laws.proofs.AnswerCarried.{keying_answers}
@@ -109,12 +108,9 @@ record Split (c : Placed) (cs : List Placed) : Type 0 where
   whole : cs ≡ front ++ c ∷ back
   others : AreOthers front
 
-split : (c : Placed) (cs : List Placed) → c.kind ≡ 0x38 → IsFirst c cs → Split c cs
-split c [] kind first = absurd first
-split c (x ∷ cs) kind (inl is) = record { front = []; back = cs; whole = ap (λ (y : Placed). y ∷ cs) (sym is); others = tt }
-split c (x ∷ cs) kind (inr later) =
-    let rest = split c cs kind later.1 in
-    record { front = x ∷ rest.front; back = rest.back; whole = ap (λ (ys : List Placed). x ∷ ys) rest.whole; others = ((λ e. later.0 (e ∙ sym kind)), rest.others) }
+others_of : (c : Placed) (front : List Placed) → c.kind ≡ 0x38 → AllByRecursion (λ (x : Placed). x.kind ≢ c.kind) front → AreOthers front
+others_of c [] kind none = tt
+others_of c (x ∷ front) kind none = ((λ e. none.0 (e ∙ sym kind)), others_of c front kind none.1)
 
 -- a walk over these meets no keying
 keyed_false : (front : List Placed) → AreOthers front → (walk : Walk) → walk.keyed ≡ false → (walk_through walk front).keyed ≡ false
@@ -130,30 +126,6 @@ false_is false x y e = refl
 true_is : {A : Type 0} (b : Bool) (x y : A) → b ≡ true → (if b then x else y) ≡ x
 true_is true x y e = refl
 true_is false x y e = absurd (cc)
-
-none_unseen : (entries : List Entry) → AreUnseen entries → StatesNone entries
-none_unseen [] are = (tt, tt)
-none_unseen (x ∷ xs) are =
-    let rest = none_unseen xs are.1 in
-    (subst (λ (o : Option Fact). NoFactAnd o (NoFacts xs)) (sym are.0.no_fact) rest.0, (are.0.no_closed, rest.1))
-
-module _ (from : AddressParts) (draws : Draws) where
-  -- another chunk at the place of startup states nothing, and ends no closing
-  none_other : (s : State) (walk : Walk) (c : Placed) → c.kind ≢ 0x38 → StatesNone (chunk_did (Startup 0) from draws walk s c).entries
-  none_other s walk c other = chunk_by_kind (λ d. StatesNone d.entries) (Startup 0) from draws walk s c (record {
-    discarded = λ cause. (tt, (refl, tt));
-    initiator = λ kind taken none formed. absurd (other kind);
-    responder = λ kind taken none formed. absurd (cc);
-    told = λ told taken has. absurd (not_at_startup c.kind (told_kinds c.kind told) taken);
-    flows = λ is taken none. (let read = data_reading walk.cursor c.kind c.payload in none_unseen (flow_taken s 0 read).entries (taken_unseen s 0 read));
-    reads = λ none. (let read = chunk_reading c.kind c.payload in read_by none_sends s (Startup 0) from read (tt, tt) (carries_any Any (λ body. tt) (read_reply s (Startup 0) from read)));
-  })
-
-  none_front : (front : List Placed) → AreOthers front → (walk : Walk) (s : State) → StatesNone (chunks_did (Startup 0) from draws walk s front).entries
-  none_front [] others walk s = (tt, tt)
-  none_front (c ∷ front) others walk s =
-      let d : Did = chunk_did (Startup 0) from draws walk s c in
-      none_sends.steps.and_then s d (chunks_did (Startup 0) from draws (walked walk c) d.state front) (none_other s walk c others.0) (none_front front others.1 (walked walk c) d.state)
 
 -- chunks one after another add what each of them adds
 gone_in_two : (place : Place) (from : AddressParts) (draws : Draws) (walk : Walk) (front : List Placed) (c : Placed) (back : List Placed) (s : State) →
@@ -246,9 +218,9 @@ module _ (setup : Setup) (past : Past) (u : State) (tied : Tied setup past u) (f
 
 -- ---- a datagram with an admissible keying
 
-module _ (setup : Setup) (past : Past) (s : State) (tied : Tied setup past s) (sent_so : Sent setup past s) (well : HeardWell past s) (from : AddressParts) (datagram : List ℕ) (draws : Draws) (offer : Offer) (now : ℕ)
-    (a : Admissible setup past now from datagram offer) (at : s.moment ≡ now) (is : IsSetup setup) (fits : IsCall (Receive from datagram draws))
-    (other : offer.peer ≢ own_of setup) (gone rest : List Placed) (goes : chunks_of a.packet ≡ gone ++ rest) (firstly : IsFirst a.chunk gone) where
+module _ (setup : Setup) (past : Past) (s : State) (tied : Tied setup past s) (sent_so : Sent setup past s) (well : HeardWell past s) (from : AddressParts) (datagram : List ℕ) (draws : Draws) (offer : Offer) (now : ℕ) (front : List Placed)
+    (a : Admissible setup (onto s.moment (chunks_did (Startup 0) from draws outset s front).entries past) now from datagram offer) (at : s.moment ≡ now) (is : IsSetup setup) (fits : IsCall (Receive from datagram draws))
+    (other : offer.peer ≢ own_of setup) (gone rest : List Placed) (goes : chunks_of a.packet ≡ gone ++ rest) (behind : IsBehind front a.chunk gone) where
   abbrev part : List ℕ
   part = drop 4 datagram
 
@@ -290,7 +262,7 @@ module _ (setup : Setup) (past : Past) (s : State) (tied : Tied setup past s) (s
   kind = a.spells.0
 
   cut : Split a.chunk gone
-  cut = split a.chunk gone kind firstly
+  cut = record { front = front; back = behind.back; whole = behind.whole; others = others_of a.chunk front kind behind.others }
 
   in_all : chunks_of a.packet ≡ cut.front ++ (a.chunk ∷ (cut.back ++ rest))
   in_all = goes ∙ ap (λ (cs : List Placed). cs ++ rest) cut.whole ∙ append_assoc cut.front (a.chunk ∷ cut.back) rest
@@ -310,17 +282,12 @@ module _ (setup : Setup) (past : Past) (s : State) (tied : Tied setup past s) (s
   abbrev told : Past
   told = onto s.moment first.entries past
 
-  facts_same : facts_of told ≡ facts_of past
-  facts_same = facts_stay s.moment first.entries past (none_front from draws cut.front cut.others outset s).0
-
-  ids_same : ids_in_use told ≡ ids_in_use past
-  ids_same = let quiet = none_front from draws cut.front cut.others outset s in ids_stay s.moment first.entries past quiet.0 quiet.1
-
   abbrev keying : InitiatorKeying
   keying = read_as offer.far a.cookie a.cert offer.ni offer.n (own_of setup) a.sign
 
   bearing : IsBearing u from a.chunk.payload keying
-  bearing = is_bearing setup told u after_front.tied from datagram offer past now a facts_same ids_same (after_front.moment ∙ at) other
+  unfolding cut
+  bearing = is_bearing setup told u after_front.tied from datagram offer told now a refl refl (after_front.moment ∙ at) other
 
   abbrev this : Placed
   this = record { kind = 0x38; at = a.chunk.at; payload = a.chunk.payload }
@@ -353,15 +320,15 @@ module _ (setup : Setup) (past : Past) (s : State) (tied : Tied setup past s) (s
   few_so =
       omega (arith, chunks_made few_law few_begins (Startup 0) from draws outset s cut.front tt, ap outs_in in_two, outs_append first.entries ((chunk_did (Startup 0) from draws walk u a.chunk).entries ++ later))
 
-  bears : (u.sealed == last_count) ≡ false → count (facts_of past) < 2 ^ 64 → (x : Joined) × IsOfOffer offer draws.nonce (facts_of past) x × IsBornAndTold setup from x (chunks_did (Startup 0) from draws outset s gone).entries
-  bears some counted =
+  bears : (u.sealed == last_count) ≡ false → (x : Joined) × IsOfOffer offer draws.nonce (facts_of told) x × IsBornAndTold setup from x (chunks_did (Startup 0) from draws outset s gone).entries
+  bears some =
       let x : Joined = j setup told u after_front.tied from draws a.chunk.payload keying bearing some in
       let made : Option Fact = way setup told u after_front.tied from draws a.chunk.payload keying bearing some in
       let went : List ℕ = sent setup told u after_front.tied from draws a.chunk.payload keying bearing some in
       let facts : List Entry = fact_entries made in
       let both : List Entry = FactEntry (Born x) ∷ Out from went (StartupContext 0) ∷ [] in
-      let started : u.startup.ledger.started ≡ count (facts_of past) =
-      omega (arith, reads_started 0 u.startup.ledger (facts_of told) after_front.tied.account, ap count facts_same) in (
+      let counted : count (facts_of told) < 2 ^ 64 = after_front.tied.few in
+      let started : u.startup.ledger.started ≡ count (facts_of told) = omega (arith, reads_started 0 u.startup.ledger (facts_of told) after_front.tied.account) in (
         x,
         record { peer = sym a.peer; n = refl; ni = refl; far = refl; nr = refl; k = started },
         record {
@@ -402,6 +369,8 @@ went_entries noted t u place from datagram draws Done entries packet gone step a
     ∙ gone_entries u place from draws (chunks_of packet) most_acks (λ v. tested_at v place from draws) alone alone.untested
     ∙ ap (λ (cs : List Placed). (chunks_did place from draws outset u cs).entries) (sym went)
 went_entries noted t u place from datagram draws (NotOpened refusal) entries packet gone step at alone went = absurd went
+went_entries noted t u place from datagram draws (Searching _) entries packet gone step at alone went = absurd went
+went_entries noted t u place from datagram draws (NotSought refusal) entries packet gone step at alone went = absurd went
 went_entries noted t u place from datagram draws (Refused refusal) entries packet gone step at alone went = absurd went
 went_entries noted t u place from datagram draws (NotAdded refusal) entries packet gone step at alone went = absurd went
 went_entries noted t u place from datagram draws (Stopped stop) entries packet gone step at alone went =
@@ -424,13 +393,16 @@ went_first : (answer : CallAnswer) (chunks gone : List Placed) → WentThrough a
 went_first (Began n) chunks gone went = absurd went
 went_first Done chunks gone went = ([], sym went ∙ sym (append-nil gone))
 went_first (NotOpened refusal) chunks gone went = absurd went
+went_first (Searching _) chunks gone went = absurd went
+went_first (NotSought refusal) chunks gone went = absurd went
 went_first (Refused refusal) chunks gone went = absurd went
 went_first (Stopped stop) chunks gone went = (drop stop.chunks chunks, sym (take-append-drop stop.chunks chunks) ∙ ap (λ (cs : List Placed). cs ++ drop stop.chunks chunks) (sym went.1))
 went_first (NotAdded refusal) chunks gone went = absurd went
 went_first OutOfMemory chunks gone went = absurd went
 
 pub admissible_keyings_bear : AdmissibleKeyingsBear
-admissible_keyings_bear setup log s t moment from datagram draws answer entries offer gone is calls stands fits step a went firstly other few =
+unfolding cut
+admissible_keyings_bear setup log s t moment from datagram draws answer entries offer front gone is calls stands fits step a went behind other few =
     let past : Past = past_of 0 [] log in
     let said : LogIs setup [] (fresh setup) log s = log_is setup log s is calls stands in
     let noted : State = at_moment s moment in
@@ -441,13 +413,13 @@ admissible_keyings_bear setup log s t moment from datagram draws answer entries 
     let now : ℕ = max (last_moment 0 log) moment in
     let at : noted.moment ≡ now = ap (λ (m : ℕ). max m moment) last in
     let cut = went_first answer (chunks_of a.packet) gone went in
-    let so = admission_so setup past noted tied sent_so well from datagram draws offer now a at is fits other gone cut.0 cut.1 firstly in
+    let so = admission_so setup past noted tied sent_so well from datagram draws offer now front a at is fits other gone cut.0 cut.1 behind in
     let entries_are : entries ≡ (chunks_did (Startup 0) from draws outset noted gone).entries = went_entries noted t noted (Startup 0) from datagram draws answer entries a.packet gone step so (its_chunks_at_startup noted from draws) went in
-    let left : State = u setup past noted tied sent_so well from datagram draws offer now a at is fits other gone cut.0 cut.1 firstly in
+    let left : State = u setup past noted tied sent_so well from datagram draws offer now front a at is fits other gone cut.0 cut.1 behind in
     let sealed_few : left.sealed ≤ noted.sealed + outs_in (chunks_did (Startup 0) from draws outset noted gone).entries =
-    few_so setup past noted tied sent_so well from datagram draws offer now a at is fits other gone cut.0 cut.1 firstly in
+    few_so setup past noted tied sent_so well from datagram draws offer now front a at is fits other gone cut.0 cut.1 behind in
     let room : left.sealed < last_count = omega (arith, sealed_few, said.few, ap outs_in entries_are, few) in
-    let born = bears setup past noted tied sent_so well from datagram draws offer now a at is fits other gone cut.0 cut.1 firstly (less_is_other left.sealed last_count room) said.holds.counted in
+    let born = bears setup past noted tied sent_so well from datagram draws offer now front a at is fits other gone cut.0 cut.1 behind (less_is_other left.sealed last_count room) in
     (born.0, born.1, subst (IsBornAndTold setup from born.0) (sym entries_are) born.2)
 
 -- ---- responders' keyings

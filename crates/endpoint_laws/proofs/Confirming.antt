@@ -38,8 +38,8 @@ use Rattle.endpoint_model.specs.Admission.{confirming_by, confirming}
 use Rattle.endpoint_laws.proofs.Matching.{of_peer, ids_same}
 use Rattle.endpoint_model.proofs.Members.{tested}
 use Rattle.endpoint_laws.proofs.Tied.{Tied, StageFits, thing_of}
-use Rattle.endpoint_laws.proofs.Agrees.{IsAt, held_row_is, found_of_session, no_attempt, used_here, used_elsewhere, agrees_changed, agrees_of, tied_of}
-use Rattle.endpoint_laws.proofs.Moving.{beside_fact, still_none, noted_matches, rows_after_known, knows_held}
+use Rattle.endpoint_laws.proofs.Agrees.{IsAt, held_row_is, found_of_session, no_attempt, used_here, used_elsewhere, agrees_changed, agrees_of, tied_of, none_searches}
+use Rattle.endpoint_laws.proofs.Moving.{beside_fact, still_none, noted_matches, rows_after_known, knows_held, still_unsought}
 use Rattle.endpoint_laws.proofs.Facts.{stands_of}
 use Rattle.endpoint_laws.proofs.Going.{Keeps, Goes, goes_nothing}
 
@@ -122,10 +122,11 @@ module _ (setup : Setup) (from : AddressParts) (datagram : List ℕ) (draws : Dr
         closed = λ e. let both : true ≡ false = sym now_held ∙ e in absurd (cc);
       })
       (beside_fact near s.moment past fact tt) (still_none setup past s a near j.peer (HalfOpen j) was s.moment fact tt (Some new))
+      (still_unsought past near s.moment fact (none_searches setup past s a near j.peer (HalfOpen j) was) None)
       (ids_same setup.config.max_sessions (ids_in_use past) s t a.ids all_used (omega (arith, len_known s.sessions near new row there)))
       (omega arith, a.by_now)
       (rows_after_known s.startup.ledger fact setup.config.max_peers (knows_held s.startup.ledger j.peer (HalfOpen j) is) tied.rows))
-      ((subst P is (gave_confirmed s.startup.ledger j.peer)) 0 (facts_of past) tied.account)
+      ((subst P is (gave_confirmed s.startup.ledger j.peer)) 0 (facts_of past) tied.account) (omega (arith, tied.few))
 
   confirmed_goes : (past : Past) → Tied setup past s → HeardIn datagram near (Some row) → is_opening row.session.stage ≡ true →
       Goes setup (Receive from datagram draws) past s (did (held_with s.startup.ledger j.peer))

@@ -1,5 +1,5 @@
 -- The number of each attempt is one of 64 bits: the last one that is given is the greatest of them.
-use Rattle.std.proofs.Common.{◌≡◌, ℕ, ◌+◌, ◌-◌, ◌^◌, ◌<◌, ◌==◌, List, [], ◌∷◌, false, None, sym, subst, arith, Option, Some, refl}
+use Rattle.std.proofs.Common.{◌≡◌, ℕ, ◌+◌, ◌-◌, ◌^◌, ◌<◌, ◌==◌, List, [], ◌∷◌, false, None, sym, subst, arith, inl, inr, Option, Some, refl}
 use Rattle.std.proofs.lemmas.Bool.Decides.{nat_tests}
 use Rattle.std.specs.Str.{bytes_eq}
 use Rattle.rtmfp_forms.specs.Address.{AddressParts}
@@ -19,9 +19,9 @@ use Rattle.endpoint_laws.proofs.Made.{spread_made}
 use Rattle.endpoint_model.specs.declared.config.Draws.{Draws}
 use Rattle.endpoint_model.specs.declared.entry.Entry.{Entry}
 use Rattle.endpoint_model.specs.declared.entry.Entry.TheVariants.{Fact as FactEntry}
-use Rattle.endpoint_model.specs.Event.{Setup, own_of, Call, Open, Answer, Began, NotOpened, OpenCall, open_in}
+use Rattle.endpoint_model.specs.Event.{Setup, own_of, Call, Open, Answer, Began, NotOpened, OpenCall, ReceiveCall, open_in, receive_in}
 use Rattle.endpoint_laws.specs.Past.{Past, stamped, onto, facts_of, fact_and}
-use Rattle.endpoint_laws.specs.Lawful.{Opens, FactLine, IsCounted, OpensIn}
+use Rattle.endpoint_laws.specs.Lawful.{Opens, FactLine, IsCounted, OpensIn, TakesHelloIn}
 use Rattle.endpoint_model.specs.State.{State, with_startup, free_from}
 use Rattle.endpoint_model.specs.Sending.{sent_each}
 use Rattle.endpoint_model.specs.Effects.{open_refusal, opening}
@@ -48,11 +48,17 @@ no_facts_counted setup now call past (entry ∷ rest) none =
 abbrev IsNotOpen : Call → Type 0
 IsNotOpen call = open_in call ≡ None
 
+-- an attempt that answers a search has a number of 64 bits
+hello_counted : (setup : Setup) (past : Past) (peer : List ℕ) (n near : ℕ) (ni : List ℕ) (o : Option ReceiveCall) → TakesHelloIn setup past o peer n near ni → n < 2 ^ 64
+hello_counted setup past peer n near ni None hello = absurd hello
+hello_counted setup past peer n near ni (Some r) hello = hello.number
+
 opens_none : (call : Call) (peer ni : List ℕ) → IsNotOpen call → Opens call peer ni → ⊥
 opens_none call peer ni other by = subst (λ (o : Option OpenCall). OpensIn o peer ni) other by
 
 fact_counted : (setup : Setup) (now : ℕ) (call : Call) (past : Past) (rest : List Entry) (fact : Fact) → IsNotOpen call → FactLine setup now call past rest fact → IsCounted fact
-fact_counted setup now call past rest (Started peer n near ni) other line = absurd (opens_none call peer ni other line.by)
+fact_counted setup now call past rest (Started peer n near ni) other (inl by_open) = absurd (opens_none call peer ni other by_open.0)
+fact_counted setup now call past rest (Started peer n near ni) other (inr hello) = hello_counted setup past peer n near ni (receive_in call) hello
 fact_counted setup now call past rest (Born j) other line = tt
 fact_counted setup now call past rest (Opened j) other line = tt
 fact_counted setup now call past rest (Confirmed peer near) other line = tt
@@ -101,7 +107,7 @@ opening_counted setup now past s peer candidates draws entries tied few none is 
     let spread = begin_spread s.startup peer candidates draws.nonce draws.tag s.moment in
     subst (λ (es : List Entry). EntriesMeet CountPart setup now (Open peer candidates draws) past es) (sym is) (
       next_fits s.startup.ledger.started (omega (arith, started, few)) (not_last s peer candidates none),
-      no_facts_counted setup now (Open peer candidates draws) (stamped now (FactEntry fact) ∷ past) (sent_each t spread.plain spread.to).entries (spread_made none_sends t spread).0,
+      no_facts_counted setup now (Open peer candidates draws) (stamped now (FactEntry fact) ∷ past) (sent_each t spread.plain spread.to).entries (spread_made none_sends t spread),
     )
 
 -- ---- a call
@@ -113,7 +119,7 @@ opening_answers setup now past s t peer candidates draws (NotOpened refusal) ent
     subst (λ (es : List Entry). EntriesMeet CountPart setup now (Open peer candidates draws) past es) (sym h.1.entries) tt
 opening_answers setup now past s t peer candidates draws _ entries tied few h = absurd h
 
--- Only an open adds a number.
+-- Only an open adds a number, or the answer to a search, whose line says that it is one of 64 bits.
 pub answers_counted : (setup : Setup) (now : ℕ) (past : Past) (s t : State) (call : Call) (answer : Answer) (entries : List Entry) → Tied setup past s → count (facts_of past) < 2 ^ 64 →
     EntriesMeet FactPart setup now call past entries → Answers s call answer entries t → EntriesMeet CountPart setup now call past entries
 answers_counted setup now past s t call answer entries tied few meets h = by (open_in call) refl

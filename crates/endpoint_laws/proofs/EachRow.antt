@@ -125,6 +125,7 @@ module _ (P : ℕ → FlowsState → Type 0) where
       empty_ping = tt;
       discards = λ s at cause each. each;
       ends = λ s startup peer near why kin each. each;
+      unseeks = λ s startup near why kin each. each;
       confirms = λ s startup peer near kin each. each;
       closes = λ s near. left s.sessions near;
       forgets = λ s near. left s.sessions near;
@@ -149,6 +150,7 @@ module _ (P : ℕ → FlowsState → Type 0) where
       quiet = λ s d keeps. keeps;
       steps = each_quiet.sends.steps;
       starts = λ s startup peer n near ni kin each. each;
+      seeks = λ s startup near name kin each. each;
       bears = λ s peer o j from each. put (without_ended s.sessions (way_made peer o)) j.near _
           (kept.none j.near) (ended_left s.sessions (way_made peer o) each);
       opens = λ s startup j from kin each. put s.sessions j.near _ (kept.none j.near) each;

@@ -19,12 +19,12 @@ use Rattle.glare_core.specs.Account.{Gave}
 use Rattle.glare_core.proofs.Accounts.{reads_held}
 use Rattle.glare_core.proofs.Giving.{gave_ended}
 use Rattle.startup.specs.declared.aim.Aim.{Aim}
-use Rattle.startup.specs.declared.aim.Aim.TheVariants.{AtPeer}
+use Rattle.startup.specs.declared.aim.Aim.TheVariants.{AtPeer, ByName}
 use Rattle.startup.specs.Aims.{IsHeldAs, is_numbered, end_of_aim}
 use Rattle.startup.specs.State.{AttemptState}
-use Rattle.startup.specs.Attempts.{lowest, has_number, with_attempt, without_attempt, without_attempt_by, end_of, after_end_of}
+use Rattle.startup.specs.Attempts.{lowest, has_number, with_attempt, without_attempt, without_attempt_by, end_of, after_end_of, is_search_in, has_search, after_unseek}
 use Rattle.startup.specs.declared.answer.Due.{Due}
-use Rattle.startup.specs.declared.answer.Due.TheVariants.{Ended as EndDue, Hello as HelloDue, Keying as KeyingDue}
+use Rattle.startup.specs.declared.answer.Due.TheVariants.{Ended as EndDue, Hello as HelloDue, Keying as KeyingDue, Unsought as UnsoughtDue}
 use Rattle.startup.specs.declared.attempt.Stage.{Stage}
 use Rattle.startup.specs.declared.attempt.Stage.TheVariants.{Hello, Keying}
 use Rattle.crypto_profile.specs.Keys.{sign_key_of}
@@ -39,10 +39,9 @@ use Rattle.endpoint_model.specs.Effects.{cancelling, due_done}
 use Rattle.endpoint_model.proofs.Members.{has, without}
 use Rattle.endpoint_model.proofs.Ids.{has_keys, count_keys}
 use Rattle.endpoint_laws.proofs.Matching.{of_peer, Ids, ids_less}
-use Rattle.endpoint_laws.proofs.Tied.{Tied}
-use Rattle.endpoint_laws.specs.OfTheLog.{WasStartedAs}
-use Rattle.endpoint_laws.proofs.Agrees.{IsAt, found_of_peer, used_here, used_elsewhere, agrees_changed, agrees_of, tied_of}
-use Rattle.endpoint_laws.proofs.Moving.{beside_fact, still_none, noted_matches, rows_after_known, knows_held, tied_attempt}
+use Rattle.endpoint_laws.proofs.Tied.{Tied, WasStartedAs}
+use Rattle.endpoint_laws.proofs.Agrees.{IsAt, found_of_peer, used_here, used_elsewhere, agrees_changed, agrees_of, tied_of, none_searches}
+use Rattle.endpoint_laws.proofs.Moving.{beside_fact, still_none, noted_matches, rows_after_known, knows_held, tied_attempt, still_unsought}
 use Rattle.endpoint_laws.proofs.Facts.{stands_of}
 use Rattle.endpoint_laws.proofs.Made.{answer_made, spread_made}
 use Rattle.endpoint_laws.proofs.Going.{Keeps, goes_nothing, goes_then, goes_sends}
@@ -53,7 +52,7 @@ gave_end l peer thing why is may =
     let P : Option Held → Type 0 = λ o. Gave l (option_to_list (ended_fact o peer why)) (noted_if l (ended_fact o peer why)) in
     subst P is (gave_ended l peer why (subst (λ (o : Option Held). IfSome o (MayEnd why)) (sym is) may))
 
-used_before : (oa : Option AttemptState) (os : Option Row) {a : AttemptState} → oa ≡ Some a → (is_some oa || is_some os) ≡ true
+pub used_before : (oa : Option AttemptState) (os : Option Row) {a : AttemptState} → oa ≡ Some a → (is_some oa || is_some os) ≡ true
 used_before None os e = absurd (cc)
 used_before (Some b) os e = refl
 
@@ -61,7 +60,7 @@ pub some_length : (n : ℕ) (ids : List ℕ) (q : ℕ) → has q ids ≡ true �
 some_length n [] q e is = absurd (cc)
 some_length n (x ∷ ids) q e is = omega arith
 
-less_one : (n m k : ℕ) → m ≡ n - 1 → 0 < n → m + k + 1 ≡ n + k
+pub less_one : (n m k : ℕ) → m ≡ n - 1 → 0 < n → m + k + 1 ≡ n + k
 less_one n m k e some = omega arith
 
 -- a table in which something is found isn't empty
@@ -111,13 +110,14 @@ module _ (setup : Setup) (past : Past) (s : State) (tied : Tied setup past s) (n
       (record { config = g.given.config; cert = g.given.cert; secret = g.given.secret; cookie_secret = g.given.cookie_secret; own = g.given.own; max_peers = g.given.max_peers }) at
       (noted_matches s left the_end near None None g.matches at refl (was ∙ sym (ap (of_peer peer) is)) refl (λ h e. absurd (cc)))
       tt (beside_fact near s.moment past the_end refl) (still_none setup past s g near _ _ was s.moment the_end (attempt_opens why n near a.ni may) None)
+      (still_unsought past near s.moment the_end (none_searches setup past s g near _ _ was) None)
       (ids_gone why (ids_in_use past) near left (attempt_opens why n near a.ni may)
       (ids_less setup.config.max_sessions (ids_in_use past) s left near g.ids (used_elsewhere near None None s left at) (used_here near None None s left at)
       (used_before (get s.startup.attempts near) (get s.sessions near) there)
       (less_one (len s.startup.attempts) (len (remove s.startup.attempts near)) (len s.sessions) (len_less s.startup.attempts near a there) (some_entry s.startup.attempts near a there))))
       (omega arith, g.by_now)
       (rows_after_known s.startup.ledger the_end setup.config.max_peers (knows_held s.startup.ledger peer (Opening n near a.ni) is) tied.rows))
-      (gave_end s.startup.ledger peer (Opening n near a.ni) why is may 0 (facts_of past) tied.account)
+      (gave_end s.startup.ledger peer (Opening n near a.ni) why is may 0 (facts_of past) tied.account) (omega (arith, tied.few))
 
 -- ---- giving one up
 
@@ -149,6 +149,7 @@ cancel_as setup s number near a (AtPeer peer n) aims there same = λ past tied.
       tied = after;
       moment = refl;
     }
+cancel_as setup s number near a (ByName name) aims there same = absurd (cc)
 
 cancel_by : (setup : Setup) (s : State) (n : ℕ) (e : Option (ℕ × AttemptState)) → lowest (has_number n) s.startup.attempts ≡ e →
     Keeps setup (Cancel n) s (record { state = with_startup s (after_end_of s.startup e Cancelled); entries = fact_entries (end_of e Cancelled) })
@@ -162,7 +163,7 @@ goes_cancelling setup s n = cancel_by setup s n (lowest (has_number n) s.startup
 
 -- ---- time
 
-over_is : (start moment : ℕ) → nat_le (start + 95000) moment ≡ true → start + 95000 ≤ moment
+pub over_is : (start moment : ℕ) → nat_le (start + 95000) moment ≡ true → start + 95000 ≤ moment
 over_is start moment e = grind (arith, nat_tests)
 
 -- hellos or a keying
@@ -170,6 +171,7 @@ abbrev IsSending : Due → Type 0
 IsSending (EndDue fact) = ⊥
 IsSending (HelloDue spread) = Unit {0}
 IsSending (KeyingDue answer) = Unit {0}
+IsSending (UnsoughtDue near) = ⊥
 
 module _ (setup : Setup) (call : Call) (is_tick : IsTick call) (s : State) where
   pub tick_end : (near : ℕ) (a : AttemptState) (peer : List ℕ) (n : ℕ) → a.aim ≡ AtPeer peer n → get s.startup.attempts near ≡ Some a → is_over s.moment a ≡ true →
@@ -188,7 +190,7 @@ module _ (setup : Setup) (call : Call) (is_tick : IsTick call) (s : State) where
                   ni = a.ni;
                   is_held = sym (reads_held 0 s.startup.ledger (facts_of past) tied.account peer) ∙ held_is setup past s tied near a peer n aims there Expired;
                   start = a.start;
-                  started = subst (λ (aim : Aim). WasStartedAs past a.start near a.ni aim) aims (tied.started near a there);
+                  started = subst (λ (aim : Aim). WasStartedAs past near a aim) aims (tied.started near a there);
                   over = over_is a.start s.moment over;
                 },
               ),
@@ -210,6 +212,7 @@ module _ (setup : Setup) (call : Call) (is_tick : IsTick call) (s : State) where
   repeat_keeps (EndDue fact) t sends = absurd sends
   repeat_keeps (HelloDue spread) t sends = spread_made (goes_sends setup call) t spread
   repeat_keeps (KeyingDue answer) t sends = answer_made (goes_sends setup call) t answer
+  repeat_keeps (UnsoughtDue near) t sends = absurd sends
 
   repeat_sends : (key : List ℕ) (near : ℕ) (a : AttemptState) (stage : Stage) → IsSending (repeat_signed key s.startup.cert near a stage)
   repeat_sends key near a Hello = tt
@@ -220,4 +223,4 @@ module _ (setup : Setup) (call : Call) (is_tick : IsTick call) (s : State) where
   tick_repeat e there =
       let due : Due = repeat_of s.startup e.0 e.1 in
       let t : State = with_startup s (with_attempt s.startup e.0 (repeated e.1 s.moment)) in
-      from (λ u. due_done u due) t refl (λ past tied. tied_attempt setup past s e.0 e.1 (repeated e.1 s.moment) tied there refl (λ w. w)) (repeat_keeps due t (repeat_sends (sign_key_of s.startup.secret) e.0 e.1 e.1.stage))
+      from (λ u. due_done u due) t refl (λ past tied. tied_attempt setup past s e.0 e.1 (repeated e.1 s.moment) tied there refl (λ w. w) (tied.sound.stages e.0 e.1 there) (λ which at kept. kept)) (repeat_keeps due t (repeat_sends (sign_key_of s.startup.secret) e.0 e.1 e.1.stage))

@@ -31,6 +31,7 @@ few_quiet = record {
   empty_ping = tt;
   discards = λ s at cause. omega arith;
   ends = λ s startup peer near why kin. omega arith;
+  unseeks = λ s startup near why kin. omega arith;
   confirms = λ s startup peer near kin. omega arith;
   closes = λ s near. omega arith;
   forgets = λ s near. omega arith;
@@ -46,6 +47,7 @@ few_begins = record {
   quiet = λ s d few. few;
   steps = few_quiet.sends.steps;
   starts = λ s startup peer n near ni kin. omega arith;
+  seeks = λ s startup near name kin. omega arith;
   bears = λ s peer o j from. omega arith;
   opens = λ s startup j from kin. omega arith;
 }

@@ -58,6 +58,7 @@ follows_quiet = record {
   empty_ping = tt;
   discards = λ s at cause. follows_still s s _ ((λ near. refl), tt) refl refl;
   ends = λ s startup peer near why kin. follows_still s _ _ ((λ q. refl), tt) refl refl;
+  unseeks = λ s startup near why kin. follows_still s _ _ ((λ q. refl), tt) refl refl;
   confirms = λ s startup peer near kin. follows_still s _ _ ((λ q. refl), tt) refl refl;
   closes = λ s near. record { none = ((λ q. refl), tt); had = λ q row e. had_left s.sessions near q row e; moment = refl };
   forgets = λ s near. record { none = tt; had = λ q row e. had_left s.sessions near q row e; moment = refl };

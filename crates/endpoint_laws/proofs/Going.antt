@@ -93,7 +93,7 @@ keeps_if setup call s false d e f g = g refl
 -- ---- discards and sendings
 
 pub goes_discarded : (setup : Setup) (call : Call) (s : State) (at : ℕ) (cause : Cause) → Keeps setup call s (discarded s at cause)
-goes_discarded setup call s at cause past t = record { meets = ((tt, tt), tt); tied = tied_more setup past s (stamped s.moment (Discard at cause)) (omega arith) refl refl t; moment = refl }
+goes_discarded setup call s at cause past t = record { meets = ((tt, tt), tt); tied = tied_more setup past s (stamped s.moment (Discard at cause)) (omega arith) refl refl refl refl t; moment = refl }
 
 seal_alike : (b : Bool) (moment : ℕ) (session : SessionState) → IsAlike moment session (if b then session else sealed_once session)
 seal_alike true moment session = alike_itself moment session
@@ -108,12 +108,12 @@ goes_sends setup call = record {
   };
   out = λ s to sid plain past t. record {
     meets = ((tt, tt), tt);
-    tied = tied_alike setup _ s s.moment (s.sealed + 1) (omega arith) (tied_more setup past s _ (omega arith) refl refl t);
+    tied = tied_alike setup _ s s.moment (s.sealed + 1) (omega arith) (tied_more setup past s _ (omega arith) refl refl refl refl t);
     moment = refl;
   };
   out_in = λ s near row to body is carries past t. record {
     meets = ((tt, tt), tt);
-    tied = tied_session setup _ s near row (record row { session = after_seal row.session }) (tied_more setup past s _ (omega arith) refl refl t) is (seal_alike (is_spent row.session) s.moment row.session);
+    tied = tied_session setup _ s near row (record row { session = after_seal row.session }) (tied_more setup past s _ (omega arith) refl refl refl refl t) is (seal_alike (is_spent row.session) s.moment row.session);
     moment = refl;
   };
 }

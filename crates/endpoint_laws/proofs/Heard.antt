@@ -22,7 +22,8 @@ use Rattle.glare_core.proofs.Views.{seen_item}
 use Rattle.glare_core.proofs.Sound.{IsCalledFor}
 use Rattle.endpoint_model.proofs.Apart.{opens_alone, receives_alone}
 use Rattle.endpoint_laws.specs.Agreed.{no_generation}
-use Rattle.endpoint_model.specs.Views.{Sending, fact_in, out_in, closed_in}
+use Rattle.sha2.proofs.Facts256.{length-sha256}
+use Rattle.endpoint_model.specs.Views.{Sending, NamedSearch, EndedSearch, fact_in, out_in, closed_in, sought_in, unsought_in}
 use Rattle.endpoint_model.specs.declared.config.Draws.{Draws}
 use Rattle.endpoint_model.specs.declared.entry.Entry.{Entry}
 use Rattle.endpoint_model.specs.declared.entry.Entry.TheVariants.{Fact as FactEntry}
@@ -32,7 +33,7 @@ use Rattle.endpoint_laws.specs.Contexts.{session_context, inward, OpensUnder}
 use Rattle.endpoint_laws.proofs.OneContext.{ContextOf}
 use Rattle.endpoint_model.specs.Keying.{IsFirst, IsAmong, chunks_of}
 use Rattle.endpoint_laws.specs.Admissible.{Admissible, Offer}
-use Rattle.endpoint_laws.specs.Lawful.{Opens, Bears, FactLine, BornLine, EndedLine, AnswersAttempt, BornFollows, IsCounted, EntriesLawful, IsBornIn, LineOf, OpensIn, BearsIn, TakesAnswerIn, TakesUnderIn}
+use Rattle.endpoint_laws.specs.Lawful.{Opens, Bears, FactLine, BornLine, EndedLine, AnswersAttempt, BornFollows, IsCounted, EntriesLawful, IsBornIn, LineOf, OpensIn, BearsIn, TakesAnswerIn, TakesHelloIn, TakesUnderIn}
 use Rattle.endpoint_laws.specs.Laws.{IsCall}
 use Rattle.endpoint_laws.proofs.HeldTold.{Holds, BornSizes, FactSizes}
 use Rattle.endpoint_laws.proofs.Telling.{Telling}
@@ -72,19 +73,24 @@ keying_told setup begin past now base from datagram draws offer carried a =
     let plain : List ℕ = a.reads.plain in
     let id : sid_of datagram ≡ 0 = a.reads.opens.id in
     let opens : OpensUnder setup.secret (Startup 0) (sid_of datagram) datagram plain = subst (λ (s : ℕ). OpensUnder setup.secret (Startup 0) s datagram plain) (sym id) a.reads.opens in
-    let there = carried (Startup 0) plain (inl (id, refl)) opens in
+    let there = carried (Startup 0) plain (inl (inl id, refl)) opens in
     subst (λ (p : List ℕ). WasSent (Keying p (own_of setup) offer.n offer.ni offer.far no_generation) base) (sym a.peer)
     (keying_carried setup.secret datagram base there (sid_of datagram) plain opens a.packet a.reads.reads a.chunk offer.far a.cookie a.cert offer.ni offer.n (own_of setup) a.sign
     (first_among a.chunk (chunks_of a.packet) a.first) a.spells a.nonce_size a.number)
 
+-- under the session ID of an attempt that was held when the event began, or under 0, where a search became it since
+attempt_context : (setup : Setup) (begin : Past) (datagram : List ℕ) (j : Joined) → (held j.peer (facts_of begin) ≡ Some (Opening j.n j.near j.ni)) ⊎ (sid_of datagram ≡ 0) → sid_of datagram ≡ j.near → ContextOf (own_of setup) begin (sid_of datagram) (Startup 0)
+attempt_context setup begin datagram j (inl is_held) id = inr (Opening j.n j.near j.ni, inl (record { peer = j.peer; is_held = is_held; id = sym id }), refl)
+attempt_context setup begin datagram j (inr zero) id = inl (inl zero, refl)
+
 pub answer_told : (setup : Setup) (begin : Past) (facts : List Fact) (base : List Step) (from : AddressParts) (datagram : List ℕ) (draws : Draws) (j : Joined) →
-    WasCarried setup begin base (Receive from datagram draws) → IsCall (Receive from datagram draws) → held j.peer (facts_of begin) ≡ Some (Opening j.n j.near j.ni) → length j.peer ≡ 32 → length j.ni ≡ 16 →
+    WasCarried setup begin base (Receive from datagram draws) → IsCall (Receive from datagram draws) → (held j.peer (facts_of begin) ≡ Some (Opening j.n j.near j.ni)) ⊎ (sid_of datagram ≡ 0) → length j.peer ≡ 32 → length j.ni ≡ 16 →
     AnswersAttempt setup.secret j datagram → WasSent (Answer j.near j.peer j.far j.nr j.k j.ni no_generation) base
 answer_told setup begin facts base from datagram draws j carried is_call is_held peer_size ni_size a =
     let plain : List ℕ = a.reads.plain in
     let id : sid_of datagram ≡ j.near = a.reads.opens.id in
     let opens : OpensUnder setup.secret (Startup 0) (sid_of datagram) datagram plain = subst (λ (s : ℕ). OpensUnder setup.secret (Startup 0) s datagram plain) (sym id) a.reads.opens in
-    let there = carried (Startup 0) plain (inr (Opening j.n j.near j.ni, inl (record { peer = j.peer; is_held = is_held; id = sym id }), refl)) opens in
+    let there = carried (Startup 0) plain (attempt_context setup begin datagram j is_held id) opens in
     answer_carried setup.secret datagram base there j.near plain a.reads.opens a.packet a.reads.reads a.chunk j.far j.nr j.k j.peer j.ni a.sign a.among a.spells is_call.0 peer_size ni_size a.number
 
 pub under_told : (setup : Setup) (begin : Past) (base : List Step) (from : AddressParts) (datagram : List ℕ) (draws : Draws) (peer : List ℕ) (near : ℕ) (j : Joined) →
@@ -180,16 +186,16 @@ module _ (setup : Setup) (now : ℕ) (begin past : Past) (base steps : List Step
       EntriesLawful setup now call (stamped now (FactEntry (Ended peer near why)) ∷ past) rest → Hears own steps (Ended peer near why)
   unfolding offer_of
   hears_way call peer near why [] carried follows lawful = absurd follows
-  hears_way call peer near why (entry ∷ rest) carried follows lawful = by (fact_in entry) (out_in entry) (closed_in entry) follows lawful.0
+  hears_way call peer near why (entry ∷ rest) carried follows lawful = by (fact_in entry) (out_in entry) (closed_in entry) (sought_in entry) (unsought_in entry) follows lawful.0
     where
-      by : (o : Option Fact) (sent : Option Sending) (over : Option ℕ) → IsBornIn peer o → LineOf setup now call (stamped now (FactEntry (Ended peer near why)) ∷ past) rest o sent over → Hears own steps (Ended peer near why)
-      by None sent over born line = absurd born
-      by (Some (Born j)) sent over born line =
+      by : (o : Option Fact) (sent : Option Sending) (over : Option ℕ) (sought : Option NamedSearch) (ended : Option EndedSearch) → IsBornIn peer o → LineOf setup now call (stamped now (FactEntry (Ended peer near why)) ∷ past) rest o sent over sought ended → Hears own steps (Ended peer near why)
+      by None sent over sought ended born line = absurd born
+      by (Some (Born j)) sent over sought ended born line =
           inr (Keying j.peer own j.n j.ni j.far no_generation, bears call line.1.before (offer_of j) j.nr carried line.1.by, (tt, called_by peer near why j born line.0.above))
-      by (Some (Started p n m ni)) sent over born line = absurd born
-      by (Some (Opened j)) sent over born line = absurd born
-      by (Some (Confirmed p m)) sent over born line = absurd born
-      by (Some (Ended p m w)) sent over born line = absurd born
+      by (Some (Started p n m ni)) sent over sought ended born line = absurd born
+      by (Some (Opened j)) sent over sought ended born line = absurd born
+      by (Some (Confirmed p m)) sent over sought ended born line = absurd born
+      by (Some (Ended p m w)) sent over sought ended born line = absurd born
 
   hears_ended : (call : Call) (peer : List ℕ) (near : ℕ) (why : Why) (rest : List Entry) → WasCarried setup begin base call → EndedLine setup now call past rest peer near why →
       EntriesLawful setup now call (stamped now (FactEntry (Ended peer near why)) ∷ past) rest → Hears own steps (Ended peer near why)
@@ -231,9 +237,15 @@ started_sizes call peer n ni is_call fits by = in_open (open_in call) refl by
         let sizes : IsCall (Open o.peer o.candidates o.draws) = subst IsCall (opens_alone call o e) is_call in
         (sym (ap length opens.0) ∙ sizes.0, ap length opens.1 ∙ sizes.1, fits)
 
+-- an attempt that was a search has the sizes that its line says
+hello_sizes : (setup : Setup) (past : Past) (peer : List ℕ) (n near : ℕ) (ni : List ℕ) (o : Option ReceiveCall) → TakesHelloIn setup past o peer n near ni → (length peer ≡ 32) × (length ni ≡ 16) × (n < 2 ^ 64)
+hello_sizes setup past peer n near ni None hello = absurd hello
+hello_sizes setup past peer n near ni (Some r) hello = (ap length hello.peer_is ∙ length-sha256 hello.cert, hello.nonce_size, hello.number)
+
 pub sizes_of : (setup : Setup) (now : ℕ) (call : Call) (past : Past) (rest : List Entry) (fact : Fact) → IsCall call → count (facts_of past) < 2 ^ 64 →
     Stands (own_of setup) (count (facts_of past)) (facts_of past) fact → FactLine setup now call past rest fact → IsCounted fact → FactSizes fact
-sizes_of setup now call past rest (Started peer n near ni) is_call few stands line fits = started_sizes call peer n ni is_call fits line.by
+sizes_of setup now call past rest (Started peer n near ni) is_call few stands (inl by_open) fits = started_sizes call peer n ni is_call fits by_open.0
+sizes_of setup now call past rest (Started peer n near ni) is_call few stands (inr hello) fits = hello_sizes setup past peer n near ni (receive_in call) hello
 sizes_of setup now call past rest (Born j) is_call few stands line fits = born_sizes setup now call line.before j is_call (subst (λ (k : ℕ). k < 2 ^ 64) (sym stands.counted) few) line.by
 sizes_of setup now call past rest (Opened j) is_call few stands line fits = tt
 sizes_of setup now call past rest (Confirmed peer near) is_call few stands line fits = tt

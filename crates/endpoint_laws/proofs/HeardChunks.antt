@@ -107,6 +107,7 @@ heard_begins = record {
     and_then = λ s d e first later past h. let one = first past h in heard_then past s d (λ t. e) one (later (onto s.moment d.entries past) one.well);
   };
   starts = λ s startup peer n near ni kin. heard_follows s _ (record { none = ((λ q. refl), tt); had = λ q row e. had_it s.sessions q row e; moment = refl });
+  seeks = λ s startup near name kin. heard_follows s _ (record { none = ((λ q. refl), tt); had = λ q row e. had_it s.sessions q row e; moment = refl });
   bears = heard_birth;
   opens = λ s startup j from kin past h. record { well = are_begun past s.moment s.sessions Initiator j startup.ledger.own startup.secret from h; moment = refl };
 }

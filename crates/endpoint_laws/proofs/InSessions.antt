@@ -33,8 +33,8 @@ use Rattle.endpoint_laws.specs.OfTheLog.{WasThing}
 use Rattle.endpoint_laws.specs.Lawful.{EndedLine, ClosedLine}
 use Rattle.endpoint_laws.proofs.Matching.{of_peer, Ids, ids_same, ids_less}
 use Rattle.endpoint_laws.proofs.Tied.{Tied, StageFits, thing_of}
-use Rattle.endpoint_laws.proofs.Agrees.{IsAt, IsGiven, thing_at, near_of_session, is_session, found_at, found_of_session, closing_row_is, no_attempt, none_closes, thing_here, thing_elsewhere, used_here, used_elsewhere, agrees_changed, agrees_of, tied_of}
-use Rattle.endpoint_laws.proofs.Moving.{IsAlike, beside_fact, beside_closed, same_matches, noted_matches, rows_after_known, knows_held, tied_session, tied_more}
+use Rattle.endpoint_laws.proofs.Agrees.{IsAt, IsGiven, thing_at, near_of_session, is_session, found_at, found_of_session, closing_row_is, no_attempt, none_closes, thing_here, thing_elsewhere, used_here, used_elsewhere, agrees_changed, agrees_of, tied_of, none_searches}
+use Rattle.endpoint_laws.proofs.Moving.{IsAlike, beside_fact, beside_closed, same_matches, noted_matches, rows_after_known, knows_held, tied_session, tied_more, still_unsought, none_sought}
 use Rattle.endpoint_laws.proofs.Facts.{stands_of}
 use Rattle.endpoint_laws.proofs.Ending.{gave_end, some_entry}
 use Rattle.endpoint_laws.proofs.Birth.{agrees_end}
@@ -165,11 +165,12 @@ module _ (setup : Setup) (call : Call) (past : Past) (s : State) (tied : Tied se
         | inl b ↦ (l.closing, subst (λ h. WasThing left.role left.joined h) (some_is thing other (sym held_facts ∙ b.0.2)) was_it)
         | inr q ↦ absurd (none_closes setup past s a near j.peer thing was other m q.1)
       ])
+      (still_unsought past near s.moment fact (none_searches setup past s a near j.peer thing was) None)
       (subst (λ (b : Bool). Ids setup.config.max_sessions (if b then ids_in_use past else without (near_of thing) (ids_in_use past)) t) (sym closes)
       (ids_same setup.config.max_sessions (ids_in_use past) s t a.ids all_used (omega (arith, len_known s.sessions near new row there))))
       (omega arith, a.by_now)
       (rows_after_known s.startup.ledger fact setup.config.max_peers (knows_held s.startup.ledger j.peer thing held_is) tied.rows))
-      (gave_end s.startup.ledger j.peer thing why held_is may 0 (facts_of past) tied.account)
+      (gave_end s.startup.ledger j.peer thing why held_is may 0 (facts_of past) tied.account) (omega (arith, tied.few))
 
   pub goes_ended : (left : SessionState) → is_close why ≡ true → MayEnd why thing → IsLeft s.moment row.session left → EndedLine setup s.moment call past [] j.peer (near_of thing) why →
       Goes setup call past s (ended_as s near row why left)
@@ -195,7 +196,7 @@ module _ (setup : Setup) (call : Call) (past : Past) (s : State) (tied : Tied se
       tied_of setup now t
       (agrees_end setup past s t s.moment j.peer thing why a held_is (same_given setup s t a.given refl refl refl refl refl refl) opens (subst (λ k. IsAt k None None s t) (sym id) at) refl
       (omega (arith, len_less s.sessions near row there, some_entry s.sessions near row there)) (omega arith, omega arith))
-      (gave_end s.startup.ledger j.peer thing why held_is may 0 (facts_of past) tied.account)
+      (gave_end s.startup.ledger j.peer thing why held_is may 0 (facts_of past) tied.account) (omega (arith, tied.few))
 
   pub goes_dropped : is_close why ≡ false → MayEnd why thing → EndedLine setup s.moment call past [] j.peer (near_of thing) why → Goes setup call past s (dropped s near row why)
   goes_dropped opens may line =
@@ -231,12 +232,13 @@ module _ (setup : Setup) (call : Call) (past : Past) (s : State) (tied : Tied se
       (agrees_changed setup past later s t near None None a (same_given setup s t a.given refl refl refl refl refl refl) at
       (same_matches (thing_at s) (thing_at t) (held_with s.startup.ledger) all a.matches)
       tt (beside_closed near s.moment past) (λ thing m c. elim c [ inl b ↦ absurd b.0 | inr q ↦ absurd (q.0 refl) ])
+      (λ which m c. elim c [ inl b ↦ absurd b.0 | inr q ↦ absurd (none_sought past near (get s.startup.attempts near) (a.searching near) none which m q.2) ])
       (ids_less setup.config.max_sessions (ids_in_use past) s t near a.ids (used_elsewhere near None None s t at) (used_here near None None s t at)
       (used_or (is_some (get s.startup.attempts near)) (is_some (get s.sessions near)) (ap (λ (o : Option Row). is_some o) there))
       (omega (arith, len_less s.sessions near row there, some_entry s.sessions near row there)))
       (omega arith, a.by_now)
       tied.rows)
-      tied.account
+      tied.account tied.few
 
   pub goes_closed : ClosedLine setup s.moment call past near → Goes setup call past s (closed s near)
   goes_closed line = record { meets = ((tt, line), tt); tied = closed_tied; moment = refl }
@@ -253,7 +255,7 @@ module _ (setup : Setup) (call : Call) where
       Keeps setup call s (record { state = with_row s near new; entries = Moved near to ∷ [] })
   goes_moved s near old new to is alike past tied = record {
     meets = ((tt, tt), tt);
-    tied = tied_session setup _ s near old new (tied_more setup past s (stamped s.moment (Moved near to)) (omega arith) refl refl tied) is alike;
+    tied = tied_session setup _ s near old new (tied_more setup past s (stamped s.moment (Moved near to)) (omega arith) refl refl refl refl tied) is alike;
     moment = refl;
   }
 

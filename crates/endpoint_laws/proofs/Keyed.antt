@@ -158,7 +158,7 @@ module _ (setup : Setup) (from : AddressParts) (datagram : List ℕ) (draws : Dr
           ),
           tt,
         );
-        tied = tied_of setup (stamped s.moment (FactEntry (Born j)) ∷ past) t after account;
+        tied = tied_of setup (stamped s.moment (FactEntry (Born j)) ∷ past) t after account (omega (arith, tied.few));
         moment = refl;
       }
 
@@ -229,7 +229,7 @@ module _ (setup : Setup) (from : AddressParts) (datagram : List ℕ) (draws : Dr
               tt,
             ),
           );
-          tied = tied_of setup (stamped s.moment (FactEntry (Born j)) ∷ middle) t after account;
+          tied = tied_of setup (stamped s.moment (FactEntry (Born j)) ∷ middle) t after account (omega (arith, tied.few));
           moment = refl;
         }
       where

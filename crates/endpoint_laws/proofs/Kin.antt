@@ -1,5 +1,6 @@
 -- What happens to the attempts of an end keeps its fingerprint and its secret.
-use Rattle.std.proofs.Common.{◌≡◌, ℕ, List, [], ◌∷◌}
+use Rattle.std.proofs.Common.{◌≡◌, ℕ, List, [], ◌∷◌, Bool, true, false, if◌then◌else◌}
+use Rattle.std.specs.FinMap.{get, remove}
 use Rattle.std.proofs.Common.{Option, Some, None, Result, Ok, Err, refl}
 use Rattle.rtmfp_forms.specs.Address.{AddressParts}
 use Rattle.cookies.specs.declared.CookieTest.{CookieTest}
@@ -16,7 +17,10 @@ use Rattle.glare_core.specs.Calls.{heard, heard_noted}
 use Rattle.rtmfp_base.specs.declared.cause.Cause.{Cause}
 use Rattle.startup.specs.State.{StartupState, AttemptState}
 use Rattle.startup.specs.Attempts.{lowest, has_tag, changed, confirm_fact}
-use Rattle.startup.specs.Attempts.{after_confirm, end_fact, after_end, after_answer, after_rhello}
+use Rattle.startup.specs.declared.aim.Aim.{Aim}
+use Rattle.startup.specs.declared.aim.Aim.TheVariants.{AtPeer, ByName}
+use Rattle.startup.specs.Attempts.{after_confirm, end_fact, after_end, after_answer_as, after_answer, after_rhello}
+use Rattle.startup.specs.Attempts.{is_search_in, after_unseek}
 use Rattle.startup.specs.Attempts.{after_change}
 use Rattle.startup.specs.Attempts.{after_cookie_change}
 use Rattle.startup_packets.specs.Readings.{InitiatorKeying, initiator_keying_in}
@@ -45,12 +49,23 @@ kin_confirm s peer = record { own = noted_own s.ledger (confirm_fact s peer); se
 pub kin_end : (s : StartupState) (peer : List ℕ) (why : Why) → IsKin s (after_end s peer why)
 kin_end s peer why = record { own = noted_own s.ledger (end_fact s peer why); secret = refl }
 
-answered_kin : (s : StartupState) (o : Option (ℕ × AttemptState)) (from : AddressParts) (cookie : List ℕ) (moment : ℕ) → IsKin s (after_answer s o from cookie moment)
-answered_kin s None from cookie moment = kin_itself s
-answered_kin s (Some e) from cookie moment = record { own = refl; secret = refl }
+answered_kin_as : (s : StartupState) (print : List ℕ) (e : ℕ × AttemptState) (from : AddressParts) (cookie : List ℕ) (moment : ℕ) (aim : Aim) → IsKin s (after_answer_as s print e from cookie moment aim)
+answered_kin_as s print e from cookie moment (AtPeer peer n) = record { own = refl; secret = refl }
+answered_kin_as s print e from cookie moment (ByName name) = record { own = refl; secret = refl }
 
-pub kin_rhello : (s : StartupState) (tag cookie : List ℕ) (from : AddressParts) (moment : ℕ) → IsKin s (after_rhello s tag cookie from moment)
-kin_rhello s tag cookie from moment = answered_kin s (lowest (has_tag tag) s.attempts) from cookie moment
+answered_kin : (s : StartupState) (print : List ℕ) (o : Option (ℕ × AttemptState)) (from : AddressParts) (cookie : List ℕ) (moment : ℕ) → IsKin s (after_answer s print o from cookie moment)
+answered_kin s print None from cookie moment = kin_itself s
+answered_kin s print (Some e) from cookie moment = answered_kin_as s print e from cookie moment e.1.aim
+
+pub kin_rhello : (s : StartupState) (tag cookie cert : List ℕ) (from : AddressParts) (moment : ℕ) → IsKin s (after_rhello s tag cookie cert from moment)
+kin_rhello s tag cookie cert from moment = answered_kin s (sha256 cert) (lowest (has_tag tag) s.attempts) from cookie moment
+
+pub kin_unseek : (s : StartupState) (near : ℕ) → IsKin s (after_unseek s near)
+kin_unseek s near = by (is_search_in (get s.attempts near))
+  where
+    by : (b : Bool) → IsKin s (if b then record s { attempts = remove s.attempts near } else s)
+    by true = record { own = refl; secret = refl }
+    by false = kin_itself s
 
 changed_kin : (s : StartupState) (o : Option (ℕ × AttemptState)) (cookie : List ℕ) (moment : ℕ) → IsKin s (after_change s o cookie moment)
 changed_kin s None cookie moment = kin_itself s

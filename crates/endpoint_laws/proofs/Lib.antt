@@ -11,11 +11,12 @@ mod Lines
 mod Going
 mod Facts
 mod Starting
+mod Searching
 mod Ending
 mod Birth
 mod Confirming
 mod Bytes
-mod Spelled
+pub mod Spelled
 mod Says
 pub mod OutFacts
 mod OutNumbers
@@ -58,6 +59,7 @@ pub mod Logged
 pub mod OneContext
 pub mod Opened
 pub mod Drawn
+pub mod DrawnOnce
 mod OfTheLog
 pub mod AgreedLaw
 mod AgreedLogs

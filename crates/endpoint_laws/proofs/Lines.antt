@@ -1,13 +1,13 @@
 -- The table of lawful logs in three parts: the lines of facts, their numbers, and the line of datagrams that go out.
-use Rattle.std.proofs.Common.{ℕ, List, [], ◌∷◌, Option, Some, None}
+use Rattle.std.proofs.Common.{ℕ, ◌≡◌, List, [], ◌∷◌, Option, Some, None, sym, subst}
 use Rattle.glare_core.specs.declared.facts.Fact.{Fact}
 use Rattle.glare_core.specs.Standing.{count}
 use Rattle.glare_core.specs.Stands.{Stands}
 use Rattle.endpoint_model.specs.declared.entry.Entry.{Entry}
-use Rattle.endpoint_model.specs.Views.{Sending, fact_in, out_in, closed_in}
+use Rattle.endpoint_model.specs.Views.{Sending, NamedSearch, EndedSearch, fact_in, out_in, closed_in, sought_in, unsought_in}
 use Rattle.endpoint_model.specs.Event.{Setup, own_of, Call, Event, moment_at}
 use Rattle.endpoint_laws.specs.Past.{Past, begun, stamped, with_event, facts_of}
-use Rattle.endpoint_laws.specs.Lawful.{FactLine, IsCounted, OutLine, ClosedLine, LineOf, EntriesLawful, LawfulFrom}
+use Rattle.endpoint_laws.specs.Lawful.{FactLine, IsCounted, OutLine, ClosedLine, SearchLine, LineOf, EntriesLawful, LawfulFrom}
 
 -- what is asked of an entry, by its event, the entries before it, and those after it in its event
 abbrev pub Part : Type 1
@@ -22,17 +22,18 @@ abbrev pub OutMeets : Setup → Past → Option Sending → Type 0
 OutMeets setup past None = Unit {0}
 OutMeets setup past (Some sent) = OutLine setup past sent.datagram sent.context
 
-abbrev pub ClosedMeets : Setup → ℕ → Call → Past → Option ℕ → Type 0
-ClosedMeets setup now call past None = Unit {0}
-ClosedMeets setup now call past (Some near) = ClosedLine setup now call past near
+-- of the end of a closing, or what is said of a search
+abbrev pub ClosedMeets : Setup → ℕ → Call → Past → Option ℕ → Option NamedSearch → Option EndedSearch → Type 0
+ClosedMeets setup now call past None sought ended = SearchLine now call past sought ended
+ClosedMeets setup now call past (Some near) sought ended = ClosedLine setup now call past near
 
 abbrev pub CountMeets : Option Fact → Type 0
 CountMeets None = Unit {0}
 CountMeets (Some fact) = IsCounted fact
 
--- of a fact, or of the end of a closing
+-- of a fact, of the end of a closing, or of a search
 abbrev pub FactPart : Part
-FactPart setup now call past rest entry = FactMeets setup now call past rest (fact_in entry) × ClosedMeets setup now call past (closed_in entry)
+FactPart setup now call past rest entry = FactMeets setup now call past rest (fact_in entry) × ClosedMeets setup now call past (closed_in entry) (sought_in entry) (unsought_in entry)
 
 abbrev pub OutPart : Part
 OutPart setup now call past rest entry = OutMeets setup past (out_in entry)
@@ -51,18 +52,24 @@ EventsMeet P setup last past (e ∷ events) =
 
 -- these parts are the whole table
 
-line_of : (setup : Setup) (now : ℕ) (call : Call) (past : Past) (rest : List Entry) (fact : Option Fact) (sent : Option Sending) (over : Option ℕ) → FactMeets setup now call past rest fact →
-    CountMeets fact → OutMeets setup past sent → ClosedMeets setup now call past over → LineOf setup now call past rest fact sent over
-line_of setup now call past rest (Some fact) sent over f n o c = (f.0, f.1, n)
-line_of setup now call past rest None (Some sent) over f n o c = o
-line_of setup now call past rest None None (Some near) f n o c = c
-line_of setup now call past rest None None None f n o c = tt
+line_of : (setup : Setup) (now : ℕ) (call : Call) (past : Past) (rest : List Entry) (fact : Option Fact) (sent : Option Sending) (over : Option ℕ) (sought : Option NamedSearch) (ended : Option EndedSearch) → FactMeets setup now call past rest fact →
+    CountMeets fact → OutMeets setup past sent → ClosedMeets setup now call past over sought ended → LineOf setup now call past rest fact sent over sought ended
+line_of setup now call past rest (Some fact) sent over sought ended f n o c = (f.0, f.1, n)
+line_of setup now call past rest None (Some sent) over sought ended f n o c = o
+line_of setup now call past rest None None (Some near) sought ended f n o c = c
+line_of setup now call past rest None None None sought ended f n o c = c
+
+-- an entry that ends no closing and says nothing of searches
+pub nothing_over : (setup : Setup) (now : ℕ) (call : Call) (past : Past) (over : Option ℕ) (sought : Option NamedSearch) (ended : Option EndedSearch) → over ≡ None → sought ≡ None → ended ≡ None → ClosedMeets setup now call past over sought ended
+nothing_over setup now call past over sought ended p q r =
+    subst (λ (o : Option ℕ). ClosedMeets setup now call past o sought ended) (sym p)
+    (subst (λ (o : Option NamedSearch). SearchLine now call past o ended) (sym q) (subst (λ (o : Option EndedSearch). SearchLine now call past None o) (sym r) tt))
 
 entries_lawful : (setup : Setup) (now : ℕ) (call : Call) (past : Past) (entries : List Entry) → EntriesMeet FactPart setup now call past entries →
     EntriesMeet CountPart setup now call past entries → EntriesMeet OutPart setup now call past entries → EntriesLawful setup now call past entries
 entries_lawful setup now call past [] f n o = tt
 entries_lawful setup now call past (entry ∷ rest) f n o =
-    (line_of setup now call past rest (fact_in entry) (out_in entry) (closed_in entry) f.0.0 n.0 o.0 f.0.1, entries_lawful setup now call (stamped now entry ∷ past) rest f.1 n.1 o.1)
+    (line_of setup now call past rest (fact_in entry) (out_in entry) (closed_in entry) (sought_in entry) (unsought_in entry) f.0.0 n.0 o.0 f.0.1, entries_lawful setup now call (stamped now entry ∷ past) rest f.1 n.1 o.1)
 
 pub events_lawful : (setup : Setup) (last : ℕ) (past : Past) (events : List Event) → EventsMeet FactPart setup last past events →
     EventsMeet CountPart setup last past events → EventsMeet OutPart setup last past events → LawfulFrom setup last past events

@@ -10,18 +10,18 @@ use Rattle.endpoint_model.specs.declared.entry.Entry.{Entry}
 use Rattle.rtmfp_forms.specs.Address.{AddressParts}
 use Rattle.endpoint_model.specs.declared.config.Draws.{Draws}
 use Rattle.endpoint_model.specs.declared.answers.Stopped.{Stopped as Stop}
-use Rattle.endpoint_model.specs.Event.{Setup, own_of, Call, receive_in, Open, Cancel, Close, AddRow, Introduce, OnFlows, Receive, Tick, Answer, Began, Done, NotOpened, Refused, NotAdded, Stopped, OutOfMemory, Event}
+use Rattle.endpoint_model.specs.Event.{Setup, own_of, Call, receive_in, Open, Seek, Unseek, Cancel, Close, AddRow, Introduce, OnFlows, Receive, Tick, Answer, Began, Searching, Done, NotOpened, NotSought, Refused, NotAdded, Stopped, OutOfMemory, Event}
 use Rattle.endpoint_model.specs.State.{State, Did, Does, nothing, fresh, at_moment}
 use Rattle.endpoint_model.specs.Admission.{admission}
 use Rattle.endpoint_model.specs.Introducing.{with_redirect, introducing}
 use Rattle.endpoint_model.specs.InSessions.{closing}
 use Rattle.endpoint_model.specs.OnFlows.{flow_called}
 use Rattle.endpoint_model.specs.FlowTimes.{all_late}
-use Rattle.endpoint_model.specs.Effects.{opening, cancelling, ticks, received}
+use Rattle.endpoint_model.specs.Effects.{opening, seeking, unseeking, cancelling, ticks, received}
 use Rattle.endpoint_model.specs.Log.{Answers, Leads, StandsFor, stopped}
 use Rattle.introducer.specs.Directory.{AddressRows}
 use Rattle.introducer.proofs.FewRows.{few_addresses}
-use Rattle.endpoint_laws.specs.Past.{Past, OfEvent, onto, facts_of, past_of, last_moment, begun, was_gone_through, datagram_in, outs_of}
+use Rattle.endpoint_laws.specs.Past.{Past, OfEvent, last_call, onto, facts_of, past_of, last_moment, begun, was_gone_through, datagram_in, outs_of}
 use Rattle.endpoint_laws.specs.Complete.{outs_in}
 use Rattle.endpoint_laws.specs.Laws.{IsSetup, IsCall, AreCalls, EveryLogIsLawful, TheLedgerIsOfTheLog, UsesAreWithin, RowsAreWithin}
 use Rattle.endpoint_laws.proofs.Bytes.{of_bytes}
@@ -34,7 +34,8 @@ use Rattle.endpoint_laws.proofs.SessionChunks.{goes_closing}
 use Rattle.endpoint_laws.proofs.OutSessions.{meets_closing}
 use Rattle.endpoint_laws.proofs.Hearing.{HeardWell, heard_follows}
 use Rattle.endpoint_laws.proofs.OnFlows.{goes_flow_called, meets_flow_called}
-use Rattle.endpoint_laws.proofs.Made.{opening_made, cancelling_made, closing_made, called_made}
+use Rattle.endpoint_laws.proofs.Made.{opening_made, seeking_made, unseeking_made, cancelling_made, closing_made, called_made}
+use Rattle.endpoint_laws.proofs.Searching.{goes_seeking, goes_unseeking}
 use Rattle.endpoint_laws.proofs.Following.{follows_quiet, follows_law}
 use Rattle.endpoint_laws.proofs.HeardChunks.{heard_begins}
 use Rattle.endpoint_laws.proofs.HeardEvents.{AreNamed, are_named, heard_fresh, heard_begun, no_datagram, not_gone_through, gone_through_is, AdmissionHeard}
@@ -45,7 +46,7 @@ use Rattle.endpoint_laws.proofs.Few.{few_answers, onto_outs}
 use Rattle.endpoint_laws.proofs.OutNumbers.{numbered_new, numbered_begun}
 use Rattle.endpoint_laws.proofs.OutSends.{AreFew, Sent}
 use Rattle.endpoint_laws.proofs.OutBirths.{small_free}
-use Rattle.endpoint_laws.proofs.OutItems.{meets_opening, meets_cancelling}
+use Rattle.endpoint_laws.proofs.OutItems.{meets_opening, meets_seeking, meets_unseeking, meets_cancelling}
 use Rattle.endpoint_laws.proofs.Orderly.{Orderly, StopHeard, orderly_nothing, orderly_from, tick_all_orderly, received_orderly, stopped_orderly}
 
 -- ---- rows of addresses
@@ -73,8 +74,8 @@ KnownFor past s (Receive from datagram draws) answer = Unit {0}
 KnownFor past s call answer = HeardWell past s
 
 module _ (setup : Setup) (is : IsSetup setup) (past : Past) (s t : State) (tied : Tied setup past s) (sent : Sent setup past s) where
-  pub answers_orderly : (call : Call) (answer : Answer) (entries : List Entry) → IsCall call → KnownFor past s call answer → Answers s call answer entries t → CallDid setup call past s t entries
-  answers_orderly (Open peer candidates draws) (Began n) entries fits well h = record {
+  pub answers_orderly : (call : Call) (answer : Answer) (entries : List Entry) → IsCall call → last_call past ≡ Some call → KnownFor past s call answer → Answers s call answer entries t → CallDid setup call past s t entries
+  answers_orderly (Open peer candidates draws) (Began n) entries fits last well h = record {
     did = opening s peer candidates draws;
     orderly = record {
       goes = goes_opening setup past s peer candidates draws is.sessions fits.2 h.0 tied;
@@ -83,34 +84,50 @@ module _ (setup : Setup) (is : IsSetup setup) (past : Past) (s t : State) (tied 
     };
     does = h.2;
   }
-  answers_orderly (Open peer candidates draws) (NotOpened refusal) entries fits well h = record { did = nothing s; orderly = orderly_nothing setup (Open peer candidates draws) past s tied sent well; does = h.1 }
-  answers_orderly (Cancel n) Done entries fits well h = record {
+  answers_orderly (Open peer candidates draws) (NotOpened refusal) entries fits last well h = record { did = nothing s; orderly = orderly_nothing setup (Open peer candidates draws) past s tied sent well; does = h.1 }
+  answers_orderly (Seek name candidates draws) (Searching near) entries fits last well h = record {
+    did = seeking s name candidates draws;
+    orderly = record {
+      goes = goes_seeking setup past s name candidates draws is.sessions fits.2 fits.1 (small_free s draws.word fits.2) last h.0 tied;
+      meets = meets_seeking setup s.moment (Seek name candidates draws) past s sent tied name candidates draws fits.0 fits.3;
+      heard = seeking_made follows_quiet heard_begins s name candidates draws past well;
+    };
+    does = h.2;
+  }
+  answers_orderly (Seek name candidates draws) (NotSought refusal) entries fits last well h = record { did = nothing s; orderly = orderly_nothing setup (Seek name candidates draws) past s tied sent well; does = h.1 }
+  answers_orderly (Unseek near) Done entries fits last well h = record {
+    did = unseeking s near;
+    orderly = record { goes = goes_unseeking setup past s near h.0 tied; meets = meets_unseeking setup s.moment (Unseek near) past s sent near; heard = heard_follows s (unseeking s near) (unseeking_made follows_quiet s near) past well };
+    does = h.1;
+  }
+  answers_orderly (Unseek near) (Refused refusal) entries fits last well h = record { did = nothing s; orderly = orderly_nothing setup (Unseek near) past s tied sent well; does = h.1 }
+  answers_orderly (Cancel n) Done entries fits last well h = record {
     did = cancelling s n;
     orderly = record { goes = goes_cancelling setup s n past tied; meets = meets_cancelling setup s.moment (Cancel n) past s n sent; heard = heard_follows s (cancelling s n) (cancelling_made follows_quiet s n) past well };
     does = h.1;
   }
-  answers_orderly (Cancel n) (Refused refusal) entries fits well h = record { did = nothing s; orderly = orderly_nothing setup (Cancel n) past s tied sent well; does = h.2 }
-  answers_orderly (Close near) Done entries fits well h = record {
+  answers_orderly (Cancel n) (Refused refusal) entries fits last well h = record { did = nothing s; orderly = orderly_nothing setup (Cancel n) past s tied sent well; does = h.2 }
+  answers_orderly (Close near) Done entries fits last well h = record {
     did = closing s near;
     orderly = record { goes = goes_closing setup s near past tied; meets = meets_closing setup past s sent tied near; heard = heard_follows s (closing s near) (closing_made follows_quiet s near) past well };
     does = h.1;
   }
-  answers_orderly (Close near) (Refused refusal) entries fits well h = record { did = nothing s; orderly = orderly_nothing setup (Close near) past s tied sent well; does = h.2 }
-  answers_orderly (AddRow print addresses) Done entries fits well h = record {
+  answers_orderly (Close near) (Refused refusal) entries fits last well h = record { did = nothing s; orderly = orderly_nothing setup (Close near) past s tied sent well; does = h.2 }
+  answers_orderly (AddRow print addresses) Done entries fits last well h = record {
     did = nothing (with_redirect s print addresses);
     orderly = orderly_from setup (AddRow print addresses) past s (with_redirect s print addresses) (nothing (with_redirect s print addresses)) refl
         (orderly_nothing setup (AddRow print addresses) past (with_redirect s print addresses) (tied_unseen setup past s s.introduces (insert s.redirects print addresses) tied)
         (record { numbered = sent.numbered; sized = sent.sized; short = sent.short; rows = few_inserted s.redirects print addresses (few_addresses s.redirects print (length addresses) (sym h.0)) sent.rows }) well);
     does = h.1;
   }
-  answers_orderly (AddRow print addresses) (NotAdded refusal) entries fits well h = record { did = nothing s; orderly = orderly_nothing setup (AddRow print addresses) past s tied sent well; does = h.1 }
-  answers_orderly Introduce Done entries fits well h = record {
+  answers_orderly (AddRow print addresses) (NotAdded refusal) entries fits last well h = record { did = nothing s; orderly = orderly_nothing setup (AddRow print addresses) past s tied sent well; does = h.1 }
+  answers_orderly Introduce Done entries fits last well h = record {
     did = nothing (introducing s);
     orderly = orderly_from setup Introduce past s (introducing s) (nothing (introducing s)) refl
         (orderly_nothing setup Introduce past (introducing s) (tied_unseen setup past s true s.redirects tied) (record { numbered = sent.numbered; sized = sent.sized; short = sent.short; rows = sent.rows }) well);
     does = h;
   }
-  answers_orderly (OnFlows near call) Done entries fits well h = record {
+  answers_orderly (OnFlows near call) Done entries fits last well h = record {
     did = flow_called s near call;
     orderly = record {
       goes = goes_flow_called s near call setup (OnFlows near call) past tied;
@@ -119,20 +136,20 @@ module _ (setup : Setup) (is : IsSetup setup) (past : Past) (s t : State) (tied 
     };
     does = h.1;
   }
-  answers_orderly (OnFlows near call) (Refused refusal) entries fits well h = record { did = nothing s; orderly = orderly_nothing setup (OnFlows near call) past s tied sent well; does = h.1 }
-  answers_orderly (Receive from datagram draws) Done entries fits well h = record {
+  answers_orderly (OnFlows near call) (Refused refusal) entries fits last well h = record { did = nothing s; orderly = orderly_nothing setup (OnFlows near call) past s tied sent well; does = h.1 }
+  answers_orderly (Receive from datagram draws) Done entries fits last well h = record {
     did = received from draws (admission s datagram);
     orderly = received_orderly setup is from datagram draws fits past s (admission s datagram) (admission_is setup past s datagram tied sent (of_bytes datagram fits.0)) well;
     does = h;
   }
-  answers_orderly (Receive from datagram draws) (Stopped stop) entries fits well h = record {
+  answers_orderly (Receive from datagram draws) (Stopped stop) entries fits last well h = record {
     did = stopped s from draws (admission s datagram) stop h.acks;
     orderly = stopped_orderly setup is from datagram draws fits past s stop h.acks (admission s datagram) tied sent (admission_is setup past s datagram tied sent (of_bytes datagram fits.0)) well;
     does = h.left;
   }
-  answers_orderly (Tick draws) Done entries fits well h = record { did = ticks h.0.0 (all_late s); orderly = tick_all_orderly setup (Tick draws) is tt h.0.0 s past tied sent well; does = h.0.1 }
-  answers_orderly (Tick draws) OutOfMemory entries fits well h = record { did = ticks h.0.0 (all_late s); orderly = tick_all_orderly setup (Tick draws) is tt h.0.0 s past tied sent well; does = h.0.1 }
-  answers_orderly _ _ entries fits well h = absurd h
+  answers_orderly (Tick draws) Done entries fits last well h = record { did = ticks h.0.0 (all_late s); orderly = tick_all_orderly setup (Tick draws) is tt h.0.0 s past tied sent well; does = h.0.1 }
+  answers_orderly (Tick draws) OutOfMemory entries fits last well h = record { did = ticks h.0.0 (all_late s); orderly = tick_all_orderly setup (Tick draws) is tt h.0.0 s past tied sent well; does = h.0.1 }
+  answers_orderly _ _ entries fits last well h = absurd h
 
 -- ---- logs
 
@@ -148,6 +165,7 @@ record Begun (setup : Setup) (past : Past) (s : State) (call : Call) (answer : A
   tied : Tied setup past s
   sent : Sent setup past s
   counted : count (facts_of past) < 2 ^ 64
+  last : last_call past ≡ Some call
   known : KnownFor past s call answer
 
 -- what an event leaves, and its entries
@@ -162,7 +180,7 @@ record Went (setup : Setup) (call : Call) (past : Past) (s t : State) (entries :
 answers_went : (setup : Setup) → IsSetup setup → (past : Past) (s t : State) (call : Call) (answer : Answer) (entries : List Entry) → Begun setup past s call answer → IsCall call → Answers s call answer entries t →
     Went setup call past s t entries
 answers_went setup is past s t call answer entries begun fits h =
-    let o = answers_orderly setup is past s t begun.tied begun.sent call answer entries fits begun.known h in
+    let o = answers_orderly setup is past s t begun.tied begun.sent call answer entries fits begun.last begun.known h in
     let d : Did = o.did in
     let added : d.entries ≡ entries = sym o.does.entries in
     let left : d.state ≡ t = sym o.does.state in
@@ -221,9 +239,10 @@ module _ (setup : Setup) (past : Past) (s : State) (e : Event) (holds : Holds se
   -- an event began, whose moment is noted
   holds_begun : Begun setup start noted e.call e.answer
   holds_begun = record {
-    tied = tied_more setup past noted (begun (max s.moment e.moment) e) (omega arith) refl refl (tied_alike setup past s (max s.moment e.moment) s.sealed (omega arith) holds.tied);
+    tied = tied_more setup past noted (begun (max s.moment e.moment) e) (omega arith) refl refl refl refl (tied_alike setup past s (max s.moment e.moment) s.sealed (omega arith) holds.tied);
     sent = record { numbered = numbered_begun (own_of setup) past s.sealed s.sessions holds.sent.numbered (max s.moment e.moment) e; sized = holds.sent.sized; short = holds.sent.short; rows = holds.sent.rows };
     counted = holds.counted;
+    last = refl;
     known = known_for e.call e.answer refl refl;
   }
 

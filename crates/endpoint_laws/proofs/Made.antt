@@ -1,6 +1,6 @@
 -- All that an end does is made of small things: the structure of what goes out, of chunks, of datagrams, of timers and of calls is gone through here, once, for every law.
 use Rattle.endpoint_model.specs.declared.row_due.RowDue.TheVariants.{Abandon, Data, Keepalive, Session as SessionOf}
-use Rattle.endpoint_model.specs.Event.{AddRow, Answer as CallAnswer, Began, Call, Cancel, Close, Done, Introduce, NotAdded, NotOpened, OnFlows, Open, OutOfMemory, Receive, Refused, Stopped, Tick}
+use Rattle.endpoint_model.specs.Event.{AddRow, Answer as CallAnswer, Began, Call, Cancel, Close, Done, Introduce, NotAdded, NotOpened, NotSought, OnFlows, Open, OutOfMemory, Receive, Refused, Searching, Seek, Stopped, Tick, Unseek}
 use Rattle.rtmfp_forms.specs.Address.{AddressParts}
 use Rattle.endpoint_model.specs.Admission.{Admission, Admitted, Rejected, admission, admitted, admitted_packet, confirming, confirming_by, counted_at, counted_by, has_mode, mode_at, opened_datagram, packet_in, sid_at, timed_at, timed_by}
 use Rattle.startup.specs.declared.answer.Answer.{Answer}
@@ -9,14 +9,14 @@ use Rattle.rtmfp_data_chunks.specs.Fitting.{AreSmall, FitsIn}
 use Rattle.endpoint_model.specs.declared.place.Place.TheVariants.{Attempt, Session, Startup}
 use Rattle.startup.specs.declared.attempt.Stage.{Stage as AttemptStage}
 use Rattle.startup.specs.declared.aim.Aim.{Aim}
-use Rattle.startup.specs.declared.aim.Aim.TheVariants.{AtPeer}
+use Rattle.startup.specs.declared.aim.Aim.TheVariants.{AtPeer, ByName}
 use Rattle.startup.specs.Aims.{end_of_aim}
 use Rattle.startup.specs.State.{AttemptState, SpreadParts, StartupState}
 use Rattle.cookies.specs.declared.CookieTest.TheVariants.{Bad, Moved as CookieMoved, Expired as Stale, Current}
-use Rattle.std.proofs.Common.{drop, ◌≡◌, ℕ, ◌∷◌, ◌==◌, if◌then◌else◌, ◌||◌, ◌∙◌, [], Bool, Err, List, None, Ok, Option, Result, Some, ap, false, refl, take, true}
+use Rattle.std.proofs.Common.{drop, ◌≡◌, ℕ, ◌∷◌, ◌==◌, if◌then◌else◌, ◌||◌, ◌∙◌, [], Bool, Err, List, None, Ok, Option, Result, Some, ap, false, refl, sym, take, true}
 use Rattle.glare_core.specs.declared.facts.Why.TheVariants.{Cancelled, Expired, Far, Idle as WasIdle, Near, Unconfirmed as NotConfirmed}
 use Rattle.rtmfp_base.specs.declared.cause.Cause.{Cause}
-use Rattle.rtmfp_chunks.specs.Chunk.{Chunk, Close as CloseChunk, CloseAck, CookieChange, Ping, RHello, Redirect}
+use Rattle.rtmfp_chunks.specs.Chunk.{Chunk, Close as CloseChunk, CloseAck, CookieChange, FIHello, Fragment, IHello, IIKeying, Ping, PingReply, RHello, RIKeying, Redirect}
 use Rattle.rtmfp_chunks.specs.declared.reading.ChunkFault.{ChunkFault}
 use Rattle.session_core.specs.declared.stage.Stage.TheVariants.{Opening, Open as OpenStage, NearClose, FarLinger, Closed}
 use Rattle.cookies.specs.declared.CookieTest.{CookieTest}
@@ -31,7 +31,7 @@ use Rattle.endpoint_model.specs.FlowCall.{FlowCall, flow_did, flow_refusal}
 use Rattle.glare_core.specs.declared.facts.Held.TheVariants.{HalfOpen, KeptAsInitiator, KeptAsResponder, Opening as OpeningHeld}
 use Rattle.glare_core.specs.declared.facts.Held.{Held}
 use Rattle.startup.specs.declared.attempt.Stage.TheVariants.{Hello, Keying}
-use Rattle.endpoint_model.specs.Effects.{Hellos, InSession, InStartup, Introduction, Reply, Silence, cancelling, chunk_did, chunks_did, due_done, forwarded, initiator_keyed, keying_done, most_acks, opening, opening_done, outset, part_received, read_done, read_left, read_reply, received, replied, responder_keyed, tick_once, ticks, walked, walked_and_acked, with_opened}
+use Rattle.endpoint_model.specs.Effects.{Hellos, InSession, InStartup, Introduction, Reply, Silence, seeking, unseeking, cancelling, chunk_did, chunks_did, due_done, forwarded, initiator_keyed, keying_done, most_acks, opening, opening_done, outset, part_received, read_done, read_fact, read_left, read_reply, received, replied, responder_keyed, tick_once, ticks, walked, walked_and_acked, with_opened}
 use Rattle.session_core.specs.declared.stage.SessionDue.TheVariants.{Idle, Over, RepeatClose, Unconfirmed}
 use Rattle.startup_packets.specs.Readings.{InitiatorKeying, ResponderKeying, initiator_keying_in, responder_keying_in}
 use Rattle.startup.specs.Keyings.{after_keying, after_opening, again_or_birth, born_session, change_answer, keyed_reading, keyed_with, keying_of, opened_as, opened_reading, opened_with, repeated_session, session_answer}
@@ -53,12 +53,13 @@ use Rattle.glare_core.specs.declared.facts.Why.{Why}
 use Rattle.rtmfp_base.specs.declared.cause.Cause.TheVariants.{WrongPlace}
 use Rattle.endpoint_model.specs.FlowChunks.{acked, acks_body, flow_cause, flow_taken, flow_taken_by, taking_cause, unowed}
 use Rattle.mobility.specs.Tests.{address_for, after_reply, after_seen, asks}
-use Rattle.startup.specs.Attempts.{after_end_of, after_begin, after_confirm, after_end, begin_spread, end_fact, end_of, has_number, hello_spread, keying_signed, lowest, session_in}
+use Rattle.startup.specs.Attempts.{has_tag, answer_fact_as, answer_fact, answer_keying, after_answer, after_answer_as, seek_spread, after_seek, after_unseek, after_end_of, after_begin, after_confirm, after_end, begin_spread, end_fact, end_of, has_number, hello_spread, keying_signed, lowest, session_in}
 use Rattle.startup.specs.Due.{repeat_of, repeat_signed}
 use Rattle.session_core.specs.Closing.{first_due as session_first_due, after_due as after_due_in, asked_to_close, closed_near, is_held, is_near_close, kept_alive, needs_keepalive}
 use Rattle.endpoint_model.specs.FlowTimes.{end_due, abandon_due, all_late, data_body, row_due, row_due_done}
 use Rattle.endpoint_model.specs.OnFlows.{call_refusal, call_refusal_by, flow_called, flow_called_by, flows_done}
 use Rattle.endpoint_laws.proofs.ByKind.{chunk_by_kind}
+use Rattle.endpoint_laws.proofs.Spelled.{hello_kind}
 use Rattle.rtmfp_chunks.specs.Writing.{chunk_bytes}
 use Rattle.endpoint_model.specs.Causes.{initiator_keying_cause, takes}
 use Rattle.rtmfp_chunks.specs.FieldReading.{chunk_reading}
@@ -76,11 +77,41 @@ use Rattle.glare_core.specs.Ledger.{held_with}
 use Rattle.endpoint_model.specs.Sending.{last_count, sent_answer, sent_by, sent_each, sent_if, sent_in_session, sent_spread, sent_startup}
 use Rattle.sha2.specs.Sha256.{sha256}
 use Rattle.rtmfp_data_chunks.proofs.Fitting.{small_next, what_is_read_fits}
-use Rattle.endpoint_laws.proofs.Small.{FlowThing, GoesOn, Called, Came, Acked, Unowed, Late, Overdue, Packed, on_flows, birth, stated, MayBe, IsNoChunk, Any, Sends, Quiet, Timed, All, Begins, Enters}
+use Rattle.endpoint_laws.proofs.Small.{FlowThing, GoesOn, Called, Came, Acked, Unowed, Late, Overdue, Packed, on_flows, birth, stated, began, MayBe, IsNoChunk, Any, Sends, Quiet, Timed, All, Begins, Enters}
 use Rattle.startup.specs.Due.{repeated}
 use Rattle.startup.specs.Attempts.{with_attempt, without_attempt_by}
 use Rattle.endpoint_laws.proofs.Walks.{Steps, tick_walked, acked_walked, unowed_walked, tick_all_walked}
-use Rattle.endpoint_laws.proofs.Kin.{IsKin, kin_confirm, kin_end, kin_rhello, kin_redirect, kin_change, kin_keying}
+use Rattle.endpoint_laws.proofs.Kin.{IsKin, kin_confirm, kin_end, kin_rhello, kin_redirect, kin_change, kin_keying, kin_unseek}
+
+-- what a hello, a redirect or a change of a cookie states and leaves, before it is answered
+abbrev pub read_first : State → Place → AddressParts → Result Chunk ChunkFault → Did
+read_first s place from read = record { state = read_left s place from read; entries = fact_entries (read_fact s read) }
+
+-- It isn't a responder's hello.
+abbrev pub IsNoHello : Result Chunk ChunkFault → Type 0
+IsNoHello (Ok (RHello tag cookie cert)) = ⊥
+IsNoHello read = Unit {0}
+
+-- all else states nothing
+pub no_fact : (s : State) (read : Result Chunk ChunkFault) → IsNoHello read → read_fact s read ≡ None
+no_fact s (Ok (RHello tag cookie cert)) other = absurd other
+no_fact s _ other = refl
+
+-- what is so of a responder's hello, and of all else that is read
+pub by_hello : (R : Result Chunk ChunkFault → Type 0) → ((tag cookie cert : List ℕ) → R (Ok (RHello tag cookie cert))) → ((read : Result Chunk ChunkFault) → IsNoHello read → R read) → (read : Result Chunk ChunkFault) → R read
+by_hello R hello other (Ok (RHello tag cookie cert)) = hello tag cookie cert
+by_hello R hello other (Ok (IHello epd tag)) = other (Ok (IHello epd tag)) tt
+by_hello R hello other (Ok (FIHello epd reply tag)) = other (Ok (FIHello epd reply tag)) tt
+by_hello R hello other (Ok (Redirect tag list)) = other (Ok (Redirect tag list)) tt
+by_hello R hello other (Ok (CookieChange old new)) = other (Ok (CookieChange old new)) tt
+by_hello R hello other (Ok (IIKeying near cookie cert part sign)) = other (Ok (IIKeying near cookie cert part sign)) tt
+by_hello R hello other (Ok (RIKeying near part sign)) = other (Ok (RIKeying near part sign)) tt
+by_hello R hello other (Ok (Ping bytes)) = other (Ok (Ping bytes)) tt
+by_hello R hello other (Ok (PingReply bytes)) = other (Ok (PingReply bytes)) tt
+by_hello R hello other (Ok CloseChunk) = other (Ok CloseChunk) tt
+by_hello R hello other (Ok CloseAck) = other (Ok CloseAck) tt
+by_hello R hello other (Ok (Fragment more id number bytes)) = other (Ok (Fragment more id number bytes)) tt
+by_hello R hello other (Err fault) = other (Err fault) tt
 
 -- what an answer carries in sessions
 abbrev pub Carries : (List ℕ → Type 0) → Reply → Type 0
@@ -156,11 +187,11 @@ module _ {Body : List ℕ → Type 0} {P : State → Did → Type 0} (l : Sends 
       let d : Did = forwarded s to body in
       l.steps.and_then s d (sent_if d.state redirect) (forwarded_made s to body carries) (answered_made d.state redirect)
 
-  -- after what it leaves
-  pub read_by : (s : State) (place : Place) (from : AddressParts) (read : Result Chunk ChunkFault) → P s (nothing (read_left s place from read)) → Carries Body (read_reply s place from read) → P s (read_done s place from read)
-  read_by s place from read left carries =
+  -- after what it states and leaves
+  pub read_by : (s : State) (place : Place) (from : AddressParts) (read : Result Chunk ChunkFault) → P s (read_first s place from read) → Carries Body (read_reply s place from read) → P s (read_done s place from read)
+  read_by s place from read first carries =
       let t : State = read_left s place from read in
-      l.steps.and_then s (nothing t) (replied t place from (read_reply s place from read)) left (replied_made t place from (read_reply s place from read) carries)
+      l.steps.and_then s (read_first s place from read) (replied t place from (read_reply s place from read)) first (replied_made t place from (read_reply s place from read) carries)
 
 -- ---- sessions that go on
 
@@ -198,15 +229,20 @@ held_is_there (Some old) row e = by (is_held old.session.stage) e
     by false e = absurd (cc)
 
 module _ {Body : List ℕ → Type 0} {P : State → Did → Type 0} (q : Quiet Body P) where
-  left_made : (s : State) (place : Place) (from : AddressParts) (read : Result Chunk ChunkFault) → P s (nothing (read_left s place from read))
-  left_made s place from (Ok (RHello tag cookie cert)) = q.attempts s _ (kin_rhello s.startup tag cookie from s.moment)
-  left_made s place from (Ok (Redirect tag list)) = q.attempts s _ (kin_redirect s.startup tag list from s.moment)
-  left_made s place from (Ok (CookieChange old new)) = q.attempts s _ (kin_change s.startup (sid_at place) old new s.moment)
-  left_made s place from (Ok _) = q.sends.steps.does_nothing s
-  left_made s place from (Err fault) = q.sends.steps.does_nothing s
+  -- all but a responder's hello state nothing
+  left_made : (s : State) (place : Place) (from : AddressParts) (read : Result Chunk ChunkFault) → IsNoHello read → P s (read_first s place from read)
+  left_made s place from (Ok (RHello tag cookie cert)) other = absurd other
+  left_made s place from (Ok (Redirect tag list)) other = q.attempts s _ (kin_redirect s.startup tag list from s.moment)
+  left_made s place from (Ok (CookieChange old new)) other = q.attempts s _ (kin_change s.startup (sid_at place) old new s.moment)
+  left_made s place from (Ok _) other = q.sends.steps.does_nothing s
+  left_made s place from (Err fault) other = q.sends.steps.does_nothing s
 
-  pub read_made : (s : State) (place : Place) (from : AddressParts) (read : Result Chunk ChunkFault) → Carries Body (read_reply s place from read) → P s (read_done s place from read)
-  read_made s place from read carries = read_by q.sends s place from read (left_made s place from read) carries
+  pub quiet_read_made : (s : State) (place : Place) (from : AddressParts) (read : Result Chunk ChunkFault) → IsNoHello read → Carries Body (read_reply s place from read) → P s (read_done s place from read)
+  quiet_read_made s place from read other carries = read_by q.sends s place from read (left_made s place from read other) carries
+
+  -- a search is given up
+  pub unseeking_made : (s : State) (near : ℕ) → P s (unseeking s near)
+  unseeking_made s near = q.unseeks s (after_unseek s.startup near) near Cancelled (kin_unseek s.startup near)
 
   -- ---- facts
 
@@ -226,6 +262,7 @@ module _ {Body : List ℕ → Type 0} {P : State → Did → Type 0} (q : Quiet 
     where
       by_aim : (near : ℕ) (aim : Aim) → P s (record { state = with_startup s (without_attempt_by s.startup near (end_of_aim near Cancelled aim)); entries = fact_entries (end_of_aim near Cancelled aim) })
       by_aim near (AtPeer peer n) = q.ends s _ peer near Cancelled (record { own = refl; secret = refl })
+      by_aim near (ByName name) = q.attempts s _ (record { own = refl; secret = refl })
 
       by : (o : Option (ℕ × AttemptState)) → P s (record { state = with_startup s (after_end_of s.startup o Cancelled); entries = fact_entries (end_of o Cancelled) })
       by None = q.sends.steps.does_nothing s
@@ -328,6 +365,14 @@ module _ {Body : List ℕ → Type 0} {P : State → Did → Type 0} (q : Quiet 
       let new : Row = record row { session = after_due_in (Some RepeatClose) s.moment row.session } in
       and_home_made q.sends s near (chunk_bytes CloseChunk) (nothing (with_row s near new)) (q.goes_on s near row new is (record { descends = record { same = refl; opening = λ e. (e, refl) }; flows = refl })) q.close
 
+-- ---- responders' hellos come in the startup context alone
+
+pub not_in_session : (near kind : ℕ) → kind ≡ 0x70 → takes (Session near) kind ≡ true → ⊥
+not_in_session near kind is taken = let clash : true ≡ false = sym taken ∙ ap (takes (Session near)) is in cc
+
+pub not_in_attempt : (near generation kind : ℕ) → kind ≡ 0x70 → takes (Attempt near generation) kind ≡ true → ⊥
+not_in_attempt near generation kind is taken = let clash : true ≡ false = sym taken ∙ ap (takes (Attempt near generation)) is in cc
+
 -- ---- flows
 
 -- a message that is due to be abandoned is the first that is overdue
@@ -361,6 +406,7 @@ module _ {Body : List ℕ → Type 0} {P : State → Did → Type 0} (k : Timed 
   tick_made s = tick_walked (P s) s (record {
     none = k.quiet.sends.steps.does_nothing s;
     ends = λ near a peer n aims there over. k.quiet.ends s _ peer near Expired (record { own = refl; secret = refl });
+    unseeks = λ near a name aims there over. k.quiet.unseeks s _ near Expired (record { own = refl; secret = refl });
     repeats = λ e there. (let startup : StartupState = with_attempt s.startup e.0 (repeated e.1 s.moment) in
         let t : State = with_startup s startup in
         k.quiet.sends.steps.and_then s (nothing t) (due_done t (repeat_of s.startup e.0 e.1)) (k.quiet.attempts s startup (record { own = refl; secret = refl })) (repeated_made k.quiet t e.0 e.1 _ _ e.1.stage));
@@ -418,19 +464,22 @@ module _ {Body : List ℕ → Type 0} {P : State → Did → Type 0} (a : All Bo
   -- by what is so of keyings
   pub chunk_by : (R : Did → Type 0) (place : Place) (from : AddressParts) (draws : Draws) (walk : Walk) (s : State) (c : Placed) → AreSmall walk.cursor → ((d : Did) → P s d → R d) →
       (c.kind ≡ 0x38 → takes place 0x38 ≡ true → initiator_keying_cause s walk from c.payload ≡ None → R (initiator_keyed s from draws c.payload)) → (takes place 0x78 ≡ true → R (responder_keyed s (sid_at place) from c.payload)) →
+      ((tag cookie cert : List ℕ) → chunk_reading c.kind c.payload ≡ Ok (RHello tag cookie cert) → takes place c.kind ≡ true → R (read_done s place from (Ok (RHello tag cookie cert)))) →
       R (chunk_did place from draws walk s c)
-  chunk_by R place from draws walk s c small up initiator responder = chunk_by_kind R place from draws walk s c (record {
+  chunk_by R place from draws walk s c small up initiator responder hello = chunk_by_kind R place from draws walk s c (record {
     discarded = λ cause. up _ (a.timed.quiet.discards s c.at cause);
     initiator = λ kind taken none formed. initiator kind taken none;
     responder = λ kind taken none formed. responder taken;
     told = λ told taken has. up _ (told_made a.timed.quiet s (sid_at place) from c);
     flows = λ is taken none. up _ (flow_taken_made s (sid_at place) (data_reading walk.cursor c.kind c.payload) (λ chunk read. (what_is_read_fits walk.cursor c.kind c.payload chunk small read).0) none);
-    reads = λ none. up _ (read_made a.timed.quiet s place from (chunk_reading c.kind c.payload) (carries_any Body a.bodies (read_reply s place from (chunk_reading c.kind c.payload))));
+    reads = λ taken formed none.
+        by_hello (λ read. chunk_reading c.kind c.payload ≡ read → R (read_done s place from read)) (λ tag cookie cert is. hello tag cookie cert is taken)
+        (λ read other is. up _ (quiet_read_made a.timed.quiet s place from read other (carries_any Body a.bodies (read_reply s place from read)))) (chunk_reading c.kind c.payload) refl;
   })
 
   -- one that came in a session begins none
   pub session_chunk_made : (near : ℕ) (from : AddressParts) (draws : Draws) (walk : Walk) (s : State) (c : Placed) → AreSmall walk.cursor → P s (chunk_did (Session near) from draws walk s c)
-  session_chunk_made near from draws walk s c small = chunk_by (P s) (Session near) from draws walk s c small (λ d made. made) (λ kind taken none. absurd (cc)) (λ taken. absurd (cc))
+  session_chunk_made near from draws walk s c small = chunk_by (P s) (Session near) from draws walk s c small (λ d made. made) (λ kind taken none. absurd (cc)) (λ taken. absurd (cc)) (λ tag cookie cert is taken. absurd (not_in_session near c.kind (hello_kind c.kind c.payload tag cookie cert is) taken))
 
 -- ---- sessions and attempts that begin
 
@@ -447,6 +496,36 @@ module _ {Body : List ℕ → Type 0} {Q P : State → Did → Type 0} (q : Quie
       let spread : SpreadParts = begin_spread s.startup peer candidates draws.nonce draws.tag s.moment in
       b.steps.and_then s (stated s startup (started_fact s.startup.ledger peer (free_from s draws.word) draws.nonce)) (sent_spread (with_startup s startup) spread) (b.starts s startup peer _ (free_from s draws.word) draws.nonce (record { own = refl; secret = refl }))
       (b.quiet (with_startup s startup) _ (spread_made q.sends (with_startup s startup) spread))
+
+  pub seeking_made : (s : State) (name : List ℕ) (candidates : List AddressParts) (draws : Draws) → P s (seeking s name candidates draws)
+  seeking_made s name candidates draws =
+      let near : ℕ = free_from s draws.word in
+      let startup : StartupState = after_seek s.startup name candidates near draws.nonce draws.tag s.moment in
+      let spread : SpreadParts = seek_spread name candidates draws.nonce draws.tag s.moment in
+      b.steps.and_then s (began s startup near name) (sent_spread (with_startup s startup) spread) (b.seeks s startup near name (record { own = refl; secret = refl }))
+      (b.quiet (with_startup s startup) _ (spread_made q.sends (with_startup s startup) spread))
+
+  -- a responder's hello makes an attempt of a search
+  met_made : (s : State) (print : List ℕ) (e : ℕ × AttemptState) (from : AddressParts) (cookie : List ℕ) (aim : Aim) →
+      P s (record { state = with_startup s (after_answer_as s.startup print e from cookie s.moment aim); entries = fact_entries (answer_fact_as s.startup print e.0 e.1.ni aim) })
+  met_made s print e from cookie (AtPeer peer n) = b.quiet s _ (q.attempts s _ (record { own = refl; secret = refl }))
+  met_made s print e from cookie (ByName name) = b.starts s _ print _ e.0 e.1.ni (record { own = refl; secret = refl })
+
+  answer_first_made : (s : State) (print : List ℕ) (o : Option (ℕ × AttemptState)) (from : AddressParts) (cookie : List ℕ) →
+      P s (record { state = with_startup s (after_answer s.startup print o from cookie s.moment); entries = fact_entries (answer_fact s.startup print o) })
+  answer_first_made s print None from cookie = b.steps.does_nothing s
+  answer_first_made s print (Some e) from cookie = met_made s print e from cookie e.1.aim
+
+  pub hello_made : (s : State) (place : Place) (from : AddressParts) (tag cookie cert : List ℕ) → P s (read_done s place from (Ok (RHello tag cookie cert)))
+  hello_made s place from tag cookie cert =
+      let read : Result Chunk ChunkFault = Ok (RHello tag cookie cert) in
+      let t : State = read_left s place from read in
+      b.steps.and_then s (read_first s place from read) (replied t place from (read_reply s place from read)) (answer_first_made s (sha256 cert) (lowest (has_tag tag) s.startup.attempts) from cookie)
+      (b.quiet t _ (answered_made q.sends t (answer_keying s.startup (sha256 cert) (lowest (has_tag tag) s.startup.attempts) from cookie)))
+
+  pub read_made : (s : State) (place : Place) (from : AddressParts) (read : Result Chunk ChunkFault) → Carries Body (read_reply s place from read) → P s (read_done s place from read)
+  read_made s place from = by_hello (λ read. Carries Body (read_reply s place from read) → P s (read_done s place from read)) (λ tag cookie cert carries. hello_made s place from tag cookie cert)
+      (λ read other carries. b.quiet s _ (quiet_read_made q s place from read other carries))
 
   keyed_with_made : (s : State) (startup : StartupState) (from : AddressParts) (now near : ℕ) (nr : List ℕ) (keying : InitiatorKeying) (t : CookieTest) → P s (keying_done s from (Some (keyed_with startup from now near nr keying t)))
   keyed_with_made s startup from now near nr keying Current = by (repeated_session (held_with startup.ledger (sha256 keying.cert)) (keying_of keying))
@@ -478,6 +557,7 @@ module _ {Body : List ℕ → Type 0} {Q P : State → Did → Type 0} (q : Quie
       let t : State = with_opened (with_startup s (after_opening s.startup near fact)) fact from in
       b.steps.and_then s (record { state = t; entries = FactEntry fact ∷ [] }) (sent_in_session t near from (chunk_bytes (Ping []))) (b.opens s (after_opening s.startup near fact) _ from (record { own = refl; secret = refl }))
       (b.quiet t _ (in_session_made q.sends t near from (chunk_bytes (Ping [])) q.empty_ping))
+  opened_as_made s near from keying ni (ByName name) = b.steps.does_nothing s
 
   opened_made : (s : State) (near : ℕ) (from : AddressParts) (o : Option AttemptState) (r : Result ResponderKeying Cause) → P s (opening_done s near from (opened_reading near o r))
   opened_made s near from (Some e) (Ok keying) = opened_as_made s near from keying e.ni e.aim
@@ -544,6 +624,10 @@ module _ {Body : List ℕ → Type 0} {Q P : State → Did → Type 0} (k : Time
   pub answers_by : (s t : State) (call : Call) (answer : CallAnswer) (entries : List Entry) → Answers s call answer entries t → WasMade P s t entries
   answers_by s t (Open peer candidates draws) (Began n) entries h = answer_is s t entries _ (opening_made k.quiet b s peer candidates draws) h.2
   answers_by s t (Open peer candidates draws) (NotOpened refusal) entries h = answer_is s t entries _ (b.steps.does_nothing s) h.1
+  answers_by s t (Seek name candidates draws) (Searching near) entries h = answer_is s t entries _ (seeking_made k.quiet b s name candidates draws) h.2
+  answers_by s t (Seek name candidates draws) (NotSought refusal) entries h = answer_is s t entries _ (b.steps.does_nothing s) h.1
+  answers_by s t (Unseek near) Done entries h = answer_is s t entries _ (b.quiet s _ (unseeking_made k.quiet s near)) h.1
+  answers_by s t (Unseek near) (Refused refusal) entries h = answer_is s t entries _ (b.steps.does_nothing s) h.1
   answers_by s t (Cancel n) Done entries h = answer_is s t entries _ (b.quiet s _ (cancelling_made k.quiet s n)) h.1
   answers_by s t (Cancel n) (Refused refusal) entries h = answer_is s t entries _ (b.steps.does_nothing s) h.2
   answers_by s t (Close near) Done entries h = answer_is s t entries _ (b.quiet s _ (closing_made k.quiet s near)) h.1
@@ -564,7 +648,7 @@ module _ {Body : List ℕ → Type 0} {Q P : State → Did → Type 0} (a : All 
 
   pub chunk_made : (place : Place) (from : AddressParts) (draws : Draws) (walk : Walk) (s : State) (c : Placed) → AreSmall walk.cursor → P s (chunk_did place from draws walk s c)
   chunk_made place from draws walk s c small =
-      chunk_by a (P s) place from draws walk s c small (b.quiet s) (λ kind taken none. initiator_made a.timed.quiet b s from draws c.payload) (λ taken. responder_made a.timed.quiet b s (sid_at place) from c.payload)
+      chunk_by a (P s) place from draws walk s c small (b.quiet s) (λ kind taken none. initiator_made a.timed.quiet b s from draws c.payload) (λ taken. responder_made a.timed.quiet b s (sid_at place) from c.payload) (λ tag cookie cert is taken. hello_made a.timed.quiet b s place from tag cookie cert)
 
   pub chunks_made : (place : Place) (from : AddressParts) (draws : Draws) (walk : Walk) (s : State) (cs : List Placed) → AreSmall walk.cursor → P s (chunks_did place from draws walk s cs)
   chunks_made place from draws walk s [] small = b.steps.does_nothing s

@@ -1,10 +1,10 @@
 -- What is held with each peer, and what stands under each session ID, when one thing changes.
-use Rattle.std.proofs.Common.{◌≡◌, ℕ, ◌+◌, ◌<◌, ◌≤◌, ◌==◌, List, ◌∷◌, length, Bool, true, false, Option, Some, None, ◌||◌, inl, inr, refl, sym, ap, ◌∙◌, arith}
+use Rattle.std.proofs.Common.{◌≡◌, ℕ, ◌+◌, ◌<◌, ◌≤◌, ◌==◌, List, ◌∷◌, length, Bool, true, false, Option, Some, None, ◌||◌, inl, inr, refl, sym, ap, subst, ◌∙◌, arith}
 use Rattle.glare_core.specs.declared.facts.Held.{Held}
 use Rattle.glare_core.specs.Things.{near_of}
 use Rattle.glare_core.proofs.Tails.{same_end}
 use Rattle.endpoint_model.specs.State.{State, uses, is_used}
-use Rattle.endpoint_model.proofs.Members.{has, without, tested, has_others, has_gone, IsOnce, one_less, once_without}
+use Rattle.endpoint_model.proofs.Members.{has, without, tested, has_others, has_gone, IsOnce, one_less, once_without, same_without}
 
 abbrev pub Found : Type 0
 Found = Option (List ℕ × Held)
@@ -96,6 +96,28 @@ ids_more most ids s t near i same new count free some room = record {
   ];
   within = omega (arith, count, room);
 }
+
+-- the same where it takes the place of itself, which wasn't there
+pub ids_started : (most : ℕ) (ids : List ℕ) (s t : State) (near : ℕ) → has near ids ≡ false → Ids most (near ∷ ids) t → Ids most (near ∷ without near ids) t
+ids_started most ids s t near none i = subst (λ (l : List ℕ). Ids most (near ∷ l) t) (sym (same_without near ids none)) i
+
+-- or was
+pub ids_renewed : (most : ℕ) (ids : List ℕ) (s t : State) (near : ℕ) → Ids most ids s → ((q : ℕ) → is_used t q ≡ is_used s q) → uses t ≡ uses s → is_used s near ≡ true → Ids most (near ∷ without near ids) t
+ids_renewed most ids s t near i same count there =
+    let has_it : has near ids ≡ true = sym (i.used near) ∙ there in
+    record {
+      used = λ q. elim (tested near q) [
+        | inl is ↦ same q ∙ ap (is_used s) (sym is.0) ∙ there ∙ sym (first_is (near == q) (has q (without near ids)) is.1)
+        | inr is ↦ same q ∙ i.used q ∙ sym (has_others q near ids (λ e. is.0 (sym e))) ∙ sym (first_or (near == q) (has q (without near ids)) is.1)
+      ];
+      count = omega (arith, count, i.count, one_less near ids i.once has_it);
+      once = (has_gone near ids, once_without near ids i.once);
+      not_zero = elim (tested near 0) [
+        | inl is ↦ absurd (let clash : true ≡ false = sym has_it ∙ ap (λ (q : ℕ). has q ids) is.0 ∙ i.not_zero in cc)
+        | inr is ↦ first_or (near == 0) (has 0 (without near ids)) is.1 ∙ has_others 0 near ids (λ e. is.0 (sym e)) ∙ i.not_zero
+      ];
+      within = omega (arith, count, i.within);
+    }
 
 pub ids_less : (most : ℕ) (ids : List ℕ) (s t : State) (near : ℕ) → Ids most ids s → ((q : ℕ) → (q ≡ near → ⊥) → is_used t q ≡ is_used s q) → is_used t near ≡ false →
     is_used s near ≡ true → uses t + 1 ≡ uses s → Ids most (without near ids) t

@@ -1,5 +1,5 @@
 -- What the state agrees with after a change that states no fact, and after one fact.
-use Rattle.std.proofs.Common.{◌≡◌, ℕ, ◌+◌, ◌<◌, ◌≤◌, List, ◌∷◌, Bool, true, false, cond, Option, Some, None, is_some, ◌||◌, inl, inr, ◌⊎◌, refl, sym, ap, subst, ◌∙◌, arith}
+use Rattle.std.proofs.Common.{◌≡◌, ℕ, ◌+◌, ◌<◌, ◌≤◌, ◌^◌, List, ◌∷◌, Bool, true, false, cond, Option, Some, None, is_some, ◌||◌, inl, inr, ◌⊎◌, refl, sym, ap, subst, ◌∙◌, arith}
 use Rattle.std.specs.FinMap.{get}
 use Rattle.glare_core.specs.declared.facts.Fact.{Fact}
 use Rattle.glare_core.specs.declared.facts.Fact.TheVariants.{Started, Born, Opened, Confirmed, Ended}
@@ -12,8 +12,8 @@ use Rattle.rtmfp_base.proofs.Maps.{get_inserted, get_beside, len_known}
 use Rattle.introducer.specs.Directory.{AddressRows}
 use Rattle.glare_core.specs.declared.facts.Held.TheVariants.{Opening}
 use Rattle.startup.specs.declared.aim.Aim.{Aim}
-use Rattle.startup.specs.declared.aim.Aim.TheVariants.{AtPeer}
-use Rattle.startup.specs.State.{AttemptState}
+use Rattle.startup.specs.declared.aim.Aim.TheVariants.{AtPeer, ByName}
+use Rattle.startup.specs.State.{AttemptState, FitsStage}
 use Rattle.startup.specs.Attempts.{with_attempt}
 use Rattle.session_core.specs.Session.{SessionState}
 use Rattle.session_core.proofs.Keyed.{keyed_same}
@@ -22,14 +22,16 @@ use Rattle.startup.proofs.Stepping.{held_after_own, held_after_other}
 use Rattle.endpoint_model.specs.declared.row.Row.{Row}
 use Rattle.endpoint_model.specs.declared.entry.Entry.TheVariants.{Fact as FactEntry, Closed}
 use Rattle.endpoint_model.specs.Event.{Setup}
-use Rattle.endpoint_laws.specs.Past.{Stamped, stamped, is_close, Closes, GoesOn, IsClosing, fact_done, fact_and, closed_done, facts_of, ids_in_use, ids_after, ids_left, Past}
+use Rattle.endpoint_laws.specs.Past.{Stamped, Search, stamped, is_close, Closes, GoesOn, IsClosing, IsSearch, WasSought, started_id, unsought_id, fact_done, fact_and, closed_done, sought_done, unsought_done, last_call, facts_of, ids_in_use, ids_after, ids_left, ids_sought, Past}
+use Rattle.glare_core.specs.Standing.{count}
+use Rattle.endpoint_model.specs.Views.{NamedSearch, EndedSearch}
 use Rattle.endpoint_laws.specs.OfTheLog.{WasThing}
 use Rattle.endpoint_model.specs.State.{State, uses, is_used, with_row, with_startup}
 use Rattle.endpoint_laws.proofs.Matching.{Found, of_peer, Matches, changed_matches, Ids, ids_same}
 use Rattle.glare_core.specs.Account.{StandsFor}
 use Rattle.endpoint_model.proofs.Members.{tested}
-use Rattle.endpoint_laws.proofs.Tied.{Tied, AreBy, by_later, closing_by, StageFits, IsClosed, IsClosedThing, thing_of, found_in}
-use Rattle.endpoint_laws.proofs.Agrees.{Agrees, IsOurs, IsGiven, IsAt, Fits, GoesOnBeside, ClosesAt, WasStarted, started_still, combined, thing_at, thing_here, thing_elsewhere, used_here, used_elsewhere, found_of_attempt, found_of_peer, found_at, held_row_is, closing_row_is, none_closes, no_attempt, agrees_changed, agrees_of, tied_of}
+use Rattle.endpoint_laws.proofs.Tied.{Tied, IsKept, IsKeptIn, AreBy, by_later, closing_by, StageFits, IsClosed, IsClosedThing, thing_of, found_in}
+use Rattle.endpoint_laws.proofs.Agrees.{Agrees, IsOurs, IsGiven, IsAt, Fits, GoesOnBeside, ClosesAt, SearchesAt, none_searches, WasStarted, started_still, combined, thing_at, thing_here, thing_elsewhere, used_here, used_elsewhere, found_of_attempt, found_of_peer, found_at, held_row_is, closing_row_is, none_closes, no_attempt, agrees_changed, agrees_of, tied_of}
 
 -- ---- the ledger after a fact
 
@@ -74,9 +76,9 @@ noted_matches s t fact near oa os m at ledger was here id =
 
 -- ---- closings, after one entry
 
--- A fact ends nothing but under this session ID.
+-- A fact ends nothing, and takes no search, but under this session ID.
 abbrev pub EndsAt : ℕ → Fact → Type 0
-EndsAt near (Started peer n id ni) = Unit {0}
+EndsAt near (Started peer n id ni) = id ≡ near
 EndsAt near (Born j) = Unit {0}
 EndsAt near (Opened j) = Unit {0}
 EndsAt near (Confirmed peer id) = Unit {0}
@@ -107,6 +109,13 @@ closes_none near thing facts (Opened j) none c = c
 closes_none near thing facts (Confirmed peer id) none c = c
 closes_none near thing facts (Ended peer id why) none c = not_both (is_close why) c.1 none
 
+goes_elsewhere : (near q : ℕ) (fact : Fact) → EndsAt near fact → (q ≡ near → ⊥) → GoesOn q (started_id (Some fact))
+goes_elsewhere near q (Started peer n id ni) ends other = λ e. other (sym e ∙ ends)
+goes_elsewhere near q (Born j) ends other = tt
+goes_elsewhere near q (Opened j) ends other = tt
+goes_elsewhere near q (Confirmed peer id) ends other = tt
+goes_elsewhere near q (Ended peer id why) ends other = tt
+
 pub beside_fact : (near moment : ℕ) (past : Past) (fact : Fact) → EndsAt near fact → GoesOnBeside near past (stamped moment (FactEntry fact) ∷ past)
 beside_fact near moment past fact ends = record {
   done = λ x w. inr w;
@@ -115,6 +124,8 @@ beside_fact near moment past fact ends = record {
     | inl b ↦ absurd (closes_elsewhere near q thing (facts_of past) fact ends other b.0)
     | inr p ↦ p.1
   ];
+  sought = λ q other which at there. inr (tt, goes_elsewhere near q fact ends other, there);
+  before = λ q other which at there. elim there [ inl b ↦ absurd b.0 | inr p ↦ p.2 ];
 }
 
 pub beside_closed : (near moment : ℕ) (past : Past) → GoesOnBeside near past (stamped moment (Closed near) ∷ past)
@@ -122,10 +133,19 @@ beside_closed near moment past = record {
   done = λ x w. inr w;
   closing = λ q other thing at c. inr ((λ e. other (sym e)), c);
   back = λ q other thing at c. elim c [ inl b ↦ absurd b.0 | inr p ↦ p.1 ];
+  sought = λ q other which at there. inr (tt, tt, there);
+  before = λ q other which at there. elim there [ inl b ↦ absurd b.0 | inr p ↦ p.2 ];
 }
 
 pub beside_same : (near : ℕ) (past : Past) → GoesOnBeside near past past
-beside_same near past = record { done = λ x w. w; closing = λ q other thing at c. c; back = λ q other thing at c. c }
+beside_same near past = record { done = λ x w. w; closing = λ q other thing at c. c; back = λ q other thing at c. c; sought = λ q other which at there. there; before = λ q other which at there. there }
+
+-- where no search was, none is after a fact
+pub still_unsought : (past : Past) (near moment : ℕ) (fact : Fact) → ((which : Search) (at : ℕ) → IsSearch near which at past → ⊥) → (o : Option AttemptState) → SearchesAt (stamped moment (FactEntry fact) ∷ past) near o
+still_unsought past near moment fact none o which at there = elim there [ inl b ↦ absurd b.0 | inr p ↦ absurd (none which at p.2) ]
+
+pub none_sought : (past : Past) (near : ℕ) (o : Option AttemptState) → SearchesAt past near o → o ≡ None → (which : Search) (at : ℕ) → IsSearch near which at past → ⊥
+none_sought past near o searching none which at there = subst (λ (x : Option AttemptState). IsKeptIn x which at) none (searching which at there)
 
 -- where something was held, nothing closes after a fact that closes nothing
 pub still_none : (setup : Setup) (past : Past) (s : State) → Agrees setup past s → (near : ℕ) (p : List ℕ) (h : Held) → thing_at s near ≡ Some (p, h) → (moment : ℕ) (fact : Fact) → IsNoClose fact →
@@ -158,9 +178,9 @@ some_or false b (inr e) = e
 
 -- what stands under one session ID is replaced by the same thing
 pub agrees_same : (setup : Setup) (past : Past) (s t : State) (near : ℕ) (oa : Option AttemptState) (os : Option Row) → Agrees setup past s → IsGiven setup t → IsAt near oa os s t →
-    t.startup.ledger ≡ s.startup.ledger → combined near oa os ≡ thing_at s near → (is_some oa || is_some os) ≡ is_used s near → uses t ≡ uses s → t.moment ≡ s.moment → Fits setup past near oa os → ClosesAt past near os →
+    t.startup.ledger ≡ s.startup.ledger → combined near oa os ≡ thing_at s near → (is_some oa || is_some os) ≡ is_used s near → uses t ≡ uses s → t.moment ≡ s.moment → Fits setup past near oa os → ClosesAt past near os → SearchesAt past near oa →
     Agrees setup past t
-agrees_same setup past s t near oa os a given at ledger same used count moment fits closes =
+agrees_same setup past s t near oa os a given at ledger same used count moment fits closes searches =
     let all : (q : ℕ) → thing_at t q ≡ thing_at s q = λ q. elim (same_number q near) [
       | inl is ↦ ap (thing_at t) is ∙ thing_here near oa os s t at ∙ same ∙ ap (thing_at s) (sym is)
       | inr is ↦ thing_elsewhere near oa os s t at q is
@@ -171,7 +191,7 @@ agrees_same setup past s t near oa os a given at ledger same used count moment f
     ] in
     agrees_changed setup past past s t near oa os a given at
     (subst (λ (l : Ledger). Matches (thing_at t) (held_with l)) (sym ledger) (same_matches (thing_at s) (thing_at t) (held_with s.startup.ledger) all a.matches))
-    fits (beside_same near past) closes (ids_same setup.config.max_sessions (ids_in_use past) s t a.ids all_used count)
+    fits (beside_same near past) closes searches (ids_same setup.config.max_sessions (ids_in_use past) s t a.ids all_used count)
     (subst (λ (m : ℕ). AreBy m past) (sym moment) a.by_now)
     (subst (λ (l : Ledger). row_count l ≤ setup.config.max_peers) (sym ledger) a.rows)
   where
@@ -251,17 +271,19 @@ tied_session setup past s near old new tied is alike =
     }) refl (alike_found s.moment old new alike ∙ sym (found_at s near old none is))
     (sym (some_or (is_some (get s.startup.attempts near)) (is_some (get s.sessions near)) (inr (ap (λ (o : Option Row). is_some o) is))))
     (omega (arith, len_known s.sessions near new old is)) refl (ours_alike setup s.moment past near old.session new.session alike a.by_now (a.ours near old is))
-    (closes_alike s.moment past near (get s.sessions near) old new (a.closing near) is alike)) tied.account
+    (closes_alike s.moment past near (get s.sessions near) old new (a.closing near) is alike) (subst (λ (o : Option AttemptState). SearchesAt past near o) none (a.searching near))) tied.account tied.few
 
 -- what stands where an attempt is isn't closing
 attempt_is_open : (setup : Setup) (past : Past) (s : State) → Agrees setup past s → (near : ℕ) (old : AttemptState) (aim : Aim) → old.aim ≡ aim → get s.startup.attempts near ≡ Some old →
     (thing : Held) (at : ℕ) → IsClosing near thing at past → ⊥
 attempt_is_open setup past s a near old (AtPeer peer n) aims is thing at c = none_closes setup past s a near peer (Opening n near old.ni) (found_of_peer s near old peer n is aims) thing at c
+attempt_is_open setup past s a near old (ByName name) aims is thing at c = subst (λ (o : Option Row). IsClosedThing o thing) (a.apart near old is) (a.closing near thing at c)
 
 -- an attempt is replaced by one with the same values
 pub tied_attempt : (setup : Setup) (past : Past) (s : State) (near : ℕ) (old new : AttemptState) → Tied setup past s → get s.startup.attempts near ≡ Some old →
-    combined near (Some new) None ≡ combined near (Some old) None → (WasStarted past near old → WasStarted past near new) → Tied setup past (with_startup s (with_attempt s.startup near new))
-tied_attempt setup past s near old new tied is same was =
+    combined near (Some new) None ≡ combined near (Some old) None → (WasStarted past near old → WasStarted past near new) → FitsStage new.aim new.stage → ((which : Search) (at : ℕ) → IsKept old which at → IsKept new which at) →
+    Tied setup past (with_startup s (with_attempt s.startup near new))
+tied_attempt setup past s near old new tied is same was stage kept =
     let t : State = with_startup s (with_attempt s.startup near new) in
     let a = agrees_of setup past s tied in
     let there = found_of_attempt s near old is in
@@ -272,13 +294,23 @@ tied_attempt setup past s near old new tied is same was =
       sessions = λ q other. refl;
     }) refl (same ∙ sym there)
     (sym (some_or (is_some (get s.startup.attempts near)) (is_some (get s.sessions near)) (inl (ap (λ (o : Option AttemptState). is_some o) is))))
-    (omega (arith, len_known s.startup.attempts near new old is)) refl (was (a.started near old is)) (λ thing at c. attempt_is_open setup past s a near old old.aim refl is thing at c)) tied.account
+    (omega (arith, len_known s.startup.attempts near new old is)) refl (was (a.started near old is), stage) (λ thing at c. attempt_is_open setup past s a near old old.aim refl is thing at c)
+    (λ which at there. kept which at (subst (λ (o : Option AttemptState). IsKeptIn o which at) is (a.searching near which at there)))) tied.account tied.few
 
--- more was done that states no fact, and ends no closing
-pub tied_more : (setup : Setup) (past : Past) (s : State) (x : Stamped) → x.moment ≤ s.moment → fact_done x.what ≡ None → closed_done x.what ≡ None → Tied setup past s → Tied setup (x ∷ past) s
-tied_more setup past s x in_time no_fact no_closed t =
+-- more was done that states no fact, ends no closing, and says nothing of searches
+pub tied_more : (setup : Setup) (past : Past) (s : State) (x : Stamped) → x.moment ≤ s.moment → fact_done x.what ≡ None → closed_done x.what ≡ None → sought_done x.what ≡ None → unsought_done x.what ≡ None → Tied setup past s → Tied setup (x ∷ past) s
+tied_more setup past s x in_time no_fact no_closed no_sought no_unsought t =
     let facts : facts_of (x ∷ past) ≡ facts_of past = ap (λ (o : Option Fact). fact_and o (facts_of past)) no_fact in
-    let ids : ids_in_use (x ∷ past) ≡ ids_in_use past = ap (λ (o : Option ℕ). ids_left o (ids_after (fact_done x.what) (ids_in_use past))) no_closed ∙ ap (λ (o : Option Fact). ids_after o (ids_in_use past)) no_fact in
+    let ids : ids_in_use (x ∷ past) ≡ ids_in_use past =
+    ap (λ (o : Option NamedSearch). ids_sought o (ids_left (unsought_id (unsought_done x.what)) (ids_left (closed_done x.what) (ids_after (fact_done x.what) (ids_in_use past))))) no_sought
+    ∙ ap (λ (o : Option EndedSearch). ids_left (unsought_id o) (ids_left (closed_done x.what) (ids_after (fact_done x.what) (ids_in_use past)))) no_unsought
+    ∙ ap (λ (o : Option ℕ). ids_left o (ids_after (fact_done x.what) (ids_in_use past))) no_closed ∙ ap (λ (o : Option Fact). ids_after o (ids_in_use past)) no_fact in
+    let still : (q : ℕ) (which : Search) (at : ℕ) → IsSearch q which at past → IsSearch q which at (x ∷ past) =
+    λ q which at there. inr (subst (λ (o : Option EndedSearch). GoesOn q (unsought_id o)) (sym no_unsought) tt, subst (λ (o : Option Fact). GoesOn q (started_id o)) (sym no_fact) tt, there) in
+    let before : (q : ℕ) (which : Search) (at : ℕ) → IsSearch q which at (x ∷ past) → IsSearch q which at past = λ q which at there. elim there [
+      | inl b ↦ absurd (subst (λ (o : Option NamedSearch). WasSought q which o (last_call past)) no_sought b.0)
+      | inr p ↦ p.2
+    ] in
     let on : (q : ℕ) (thing : Held) (at : ℕ) → IsClosing q thing at past → IsClosing q thing at (x ∷ past) = λ q thing at c. inr (subst (GoesOn q) (sym no_closed) tt, c) in
     let back : (q : ℕ) (thing : Held) (at : ℕ) → IsClosing q thing at (x ∷ past) → IsClosing q thing at past = λ q thing at c. elim c [
       | inl b ↦ absurd (subst (Closes q thing (facts_of past)) no_fact b.0)
@@ -301,11 +333,13 @@ tied_more setup past s x in_time no_fact no_closed t =
           };
       closing = λ near thing at c. a.closing near thing at (back near thing at c);
       apart = a.apart;
-      started = λ near b e. started_still past (x ∷ past) b.start near b.ni b.aim (λ y was. inr was) (a.started near b e);
+      started = λ near b e. started_still past (x ∷ past) near b b.aim (λ y was. inr was) (λ which at there. still near which at there) (a.started near b e);
+      searching = λ near which at there. a.searching near which at (before near which at there);
+      stages = a.stages;
       ids = subst P (sym ids) a.ids;
       by_now = (in_time, a.by_now);
       rows = a.rows;
-    }) (subst (StandsFor 0 s.startup.ledger) (sym facts) t.account)
+    }) (subst (StandsFor 0 s.startup.ledger) (sym facts) t.account) (subst (λ (f : List Fact). count f < 2 ^ 64) (sym facts) t.few)
 
 -- what doesn't touch what is held
 pub tied_alike : (setup : Setup) (past : Past) (s : State) (moment sealed : ℕ) → s.moment ≤ moment → Tied setup past s →
@@ -324,6 +358,7 @@ tied_alike setup past s moment sealed up t = record {
   closing = t.closing;
   apart = t.apart;
   started = t.started;
+  searching = t.searching;
   used = t.used;
   count = t.count;
   once = t.once;
@@ -331,6 +366,7 @@ tied_alike setup past s moment sealed up t = record {
   by_now = by_later s.moment moment past up t.by_now;
   within = t.within;
   rows = t.rows;
+  few = t.few;
 }
 
 -- whom an end introduces touches nothing of it
@@ -349,6 +385,7 @@ tied_unseen setup past s introduces redirects t = record {
   closing = t.closing;
   apart = t.apart;
   started = t.started;
+  searching = t.searching;
   used = t.used;
   count = t.count;
   once = t.once;
@@ -356,4 +393,5 @@ tied_unseen setup past s introduces redirects t = record {
   by_now = t.by_now;
   within = t.within;
   rows = t.rows;
+  few = t.few;
 }

@@ -175,7 +175,7 @@ module _ (place : Place) (from : AddressParts) (draws : Draws) where
         flows = λ is taken none. taken_stays place s (sid_at place) (own_of place c.kind is taken)
             (data_reading walk.cursor c.kind c.payload) (λ chunk read.
             (what_is_read_fits walk.cursor c.kind c.payload chunk small read).0) none;
-        reads = λ none. read_made q s place from (chunk_reading c.kind c.payload)
+        reads = λ taken formed none. read_made q b s place from (chunk_reading c.kind c.payload)
             (carries_any Any (λ body. tt) (read_reply s place from
             (chunk_reading c.kind c.payload)));
       })

@@ -9,7 +9,7 @@ use Rattle.glare_core.specs.Things.{near_of}
 use Rattle.glare_core.specs.Ledger.{held_with}
 use Rattle.glare_core.proofs.Accounts.{reads_held, reads_floor, reads_started, reads_knows, reads_rows}
 use Rattle.startup.specs.declared.aim.Aim.{Aim}
-use Rattle.startup.specs.declared.aim.Aim.TheVariants.{AtPeer}
+use Rattle.startup.specs.declared.aim.Aim.TheVariants.{AtPeer, ByName}
 use Rattle.startup.specs.Aims.{IsHeldAs, peer_of_aim}
 use Rattle.startup.specs.State.{AttemptState, peer_of_attempt}
 use Rattle.session_core.specs.declared.stage.Role.{Role}
@@ -18,10 +18,10 @@ use Rattle.session_core.specs.declared.stage.Stage.{Stage}
 use Rattle.session_core.specs.declared.stage.Stage.TheVariants.{Opening, Open, NearClose, FarLinger, Closed}
 use Rattle.endpoint_model.specs.declared.row.Row.{Row}
 use Rattle.endpoint_model.specs.Event.{Setup}
-use Rattle.endpoint_laws.specs.Past.{Past, facts_of, past_of, last_moment}
+use Rattle.endpoint_laws.specs.Past.{Past, Search, facts_of, past_of, last_moment}
 use Rattle.endpoint_model.specs.State.{State}
-use Rattle.endpoint_laws.specs.OfTheLog.{IsHeldByLog, IsThing, IsClosingStage, AttemptIsThere, SessionStands, SessionIsThere, ClosingIsThere, IsOfTheLog, TheStateIsOfTheLog}
-use Rattle.endpoint_laws.proofs.Tied.{Tied, StageFits, IsClosedThing, thing_of, found_in}
+use Rattle.endpoint_laws.specs.OfTheLog.{IsOfAim, IsThing, IsClosingStage, AttemptIsThere, SearchIsThere, SessionStands, SessionIsThere, ClosingIsThere, IsOfTheLog, TheStateIsOfTheLog}
+use Rattle.endpoint_laws.proofs.Tied.{Tied, WasStartedAs, IsKeptIn, StageFits, IsClosedThing, thing_of, found_in}
 use Rattle.endpoint_laws.proofs.Agrees.{found_row}
 use Rattle.endpoint_laws.proofs.Chunked.{either_way}
 use Rattle.session_core.specs.Closing.{is_held}
@@ -79,9 +79,15 @@ module _ (setup : Setup) (past : Past) (s : State) (tied : Tied setup past s) wh
       let both : Some (AttemptHeld m near a.ni) ≡ Some (AttemptHeld n near ni) = sym held_is ∙ ap (held_with s.startup.ledger) same ∙ thing in
       let number : m ≡ n = same_n m n near near a.ni ni both in
       record { attempt = a; there = e; aim_is = aims ∙ (λ i. AtPeer (same i) (number i)); ni_is = same_ni m n near near a.ni ni both }
+  attempt_as peer n near ni a (ByName name) aims e is thing = absurd (cc)
 
-  held_by_log : (near : ℕ) (ni : List ℕ) (aim : Aim) → IsHeldAs s.startup.ledger near ni aim → IsHeldByLog past near ni aim
-  held_by_log near ni (AtPeer peer n) is = sym (holds peer) ∙ is
+  held_by_log : (near : ℕ) (a : AttemptState) (aim : Aim) → IsHeldAs s.startup.ledger near a.ni aim → WasStartedAs past near a aim → IsOfAim past near a aim
+  held_by_log near a (AtPeer peer n) is was = (sym (holds peer) ∙ is, was)
+  held_by_log near a (ByName name) is was = was.0
+
+  search_there : (near : ℕ) (which : Search) (at : ℕ) (o : Option AttemptState) → get s.startup.attempts near ≡ o → IsKeptIn o which at → SearchIsThere s near which at
+  search_there near which at None e kept = absurd kept
+  search_there near which at (Some a) e kept = record { attempt = a; there = e; aim_is = kept.0; tag_is = kept.1; ni_is = kept.2; start_is = kept.3 }
 
   attempt_there : (peer : List ℕ) (n near : ℕ) (ni : List ℕ) (o : Option AttemptState) → get s.startup.attempts near ≡ o → peer_of_attempt o ≡ Some peer → held_with s.startup.ledger peer ≡ Some (AttemptHeld n near ni) →
       AttemptIsThere s peer n near ni
@@ -117,7 +123,8 @@ module _ (setup : Setup) (past : Past) (s : State) (tied : Tied setup past s) wh
     moment = at;
     ids = tied.used;
     uses_are = tied.count;
-    attempts = λ near a e. record { is_held = held_by_log near a.ni a.aim (tied.sound.held near a e); started = tied.started near a e };
+    attempts = λ near a e. held_by_log near a a.aim (tied.sound.held near a e) (tied.started near a e);
+    searches_there = λ near which at there. search_there near which at (get s.startup.attempts near) refl (tied.searching near which at there);
     attempts_there = λ peer n near ni e. let thing = holds peer ∙ e in attempt_there peer n near ni (get s.startup.attempts near) refl (tied.sound.there peer n near ni thing) thing;
     sessions = λ near x e. let ties = tied.sessions near x e in record { stands = stands near x e; id = ties.id; own = ties.own };
     sessions_there = λ peer thing e is. session_there peer thing (tied.there peer thing (holds peer ∙ e) is);

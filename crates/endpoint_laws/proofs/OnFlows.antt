@@ -13,7 +13,7 @@ use Rattle.endpoint_model.specs.InSessions.{held_row}
 use Rattle.endpoint_model.specs.OnFlows.{flow_entry, flows_done, flow_called_by, flow_called}
 use Rattle.endpoint_laws.specs.Past.{Past, stamped, onto, fact_and, facts_of}
 use Rattle.endpoint_laws.proofs.Unseen.{AreUnseen, flows_unseen}
-use Rattle.endpoint_laws.proofs.Lines.{FactPart, FactMeets, OutPart, OutMeets, ClosedMeets, EntriesMeet}
+use Rattle.endpoint_laws.proofs.Lines.{FactPart, FactMeets, OutPart, OutMeets, nothing_over, EntriesMeet}
 use Rattle.endpoint_laws.proofs.Tied.{Tied}
 use Rattle.endpoint_laws.proofs.Moving.{IsAlike, alike_itself, tied_session, tied_more}
 use Rattle.endpoint_laws.proofs.Going.{Goes, Keeps, goes_nothing}
@@ -32,7 +32,7 @@ module _ (setup : Setup) (call : Call) (s : State) where
   facts_meet (entry ∷ rest) past are = (
     (
       subst (FactMeets setup s.moment call past rest) (sym are.0.no_fact) tt,
-      subst (ClosedMeets setup s.moment call past) (sym are.0.no_closed) tt,
+      nothing_over setup s.moment call past _ _ _ are.0.no_closed are.0.no_sought are.0.no_unsought,
     ),
     facts_meet rest (stamped s.moment entry ∷ past) are.1,
   )
@@ -44,7 +44,7 @@ module _ (setup : Setup) (call : Call) (s : State) where
   tied_unseen : (entries : List Entry) (past : Past) → AreUnseen entries → Tied setup past s → Tied setup (onto s.moment entries past) s
   tied_unseen [] past are tied = tied
   tied_unseen (entry ∷ rest) past are tied =
-      tied_unseen rest (stamped s.moment entry ∷ past) are.1 (tied_more setup past s (stamped s.moment entry) (omega arith) are.0.no_fact are.0.no_closed tied)
+      tied_unseen rest (stamped s.moment entry ∷ past) are.1 (tied_more setup past s (stamped s.moment entry) (omega arith) are.0.no_fact are.0.no_closed are.0.no_sought are.0.no_unsought tied)
 
   sent_unseen : (entries : List Entry) (past : Past) → AreUnseen entries → Sent setup past s → Sent setup (onto s.moment entries past) s
   sent_unseen [] past are sent = sent

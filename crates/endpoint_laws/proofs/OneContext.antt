@@ -4,12 +4,12 @@ use Rattle.crypto_profile.specs.declared.keys.Context.{Context}
 use Rattle.crypto_profile.specs.declared.keys.Context.TheVariants.{Startup}
 use Rattle.glare_core.specs.declared.facts.Held.{Held}
 use Rattle.endpoint_laws.specs.Past.{Past}
-use Rattle.endpoint_laws.specs.Contexts.{ContextsOf, OpensFirst, OpensUnder, StandsUnder, inward}
+use Rattle.endpoint_laws.specs.Contexts.{ContextsOf, OpensFirst, OpensUnder, SearchUnder, StandsUnder, inward}
 
 -- the one context of a session ID at an end that did this
 abbrev pub ContextOf : List ℕ → Past → ℕ → Context → Type 0
 ContextOf own past sid context =
-    ((sid ≡ 0) × (context ≡ Startup 0)) ⊎ ((thing : Held) × StandsUnder past sid thing ×
+    (((sid ≡ 0) ⊎ SearchUnder past sid) × (context ≡ Startup 0)) ⊎ ((thing : Held) × StandsUnder past sid thing ×
     (context ≡ inward own thing))
 
 pub one_context : (own : List ℕ) (past : Past) (sid : ℕ) (context : Context) → ContextOf own past sid context → ContextsOf own past sid (context ∷ [])

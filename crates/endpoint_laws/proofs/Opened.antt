@@ -1,5 +1,5 @@
 -- The context in which a datagram opens: by what is kept it is the same as by what the end has stated.
-use Rattle.std.proofs.Common.{◌≡◌, ◌≢◌, ℕ, ◌≤◌, ◌==◌, List, [], ◌∷◌, length, drop, length-drop, nat_lt, Bool, true, false, ◌||◌, if◌then◌else◌, Option, Some, None, is_some, inl, inr, refl, sym, ap, subst, ◌∙◌, arith}
+use Rattle.std.proofs.Common.{◌≡◌, ◌≢◌, ℕ, ◌≤◌, ◌==◌, List, [], ◌∷◌, length, drop, length-drop, nat_lt, Bool, true, false, ◌||◌, if◌then◌else◌, Option, Some, None, is_some, inl, inr, ◌⊎◌, refl, sym, ap, subst, ◌∙◌, arith}
 use Rattle.std.proofs.lemmas.Bool.Decides.{nat_tests}
 use Rattle.std.specs.FinMap.{get, contains_key}
 use Rattle.crypto_profile.specs.declared.keys.Context.{Context}
@@ -15,7 +15,7 @@ use Rattle.glare_core.specs.declared.facts.Held.{Held}
 use Rattle.glare_core.specs.declared.facts.Held.TheVariants.{Opening as OpeningHeld}
 use Rattle.glare_core.proofs.Accounts.{reads_held}
 use Rattle.startup.specs.declared.aim.Aim.{Aim}
-use Rattle.startup.specs.declared.aim.Aim.TheVariants.{AtPeer}
+use Rattle.startup.specs.declared.aim.Aim.TheVariants.{AtPeer, ByName}
 use Rattle.startup.specs.State.{AttemptState}
 use Rattle.session_core.specs.Session.{context_between, context_of}
 use Rattle.session_core.specs.Hearing.{opens_in as opens_in_session}
@@ -25,7 +25,7 @@ use Rattle.endpoint_model.specs.declared.place.Place.{Place}
 use Rattle.endpoint_model.specs.declared.place.Place.TheVariants.{Startup, Attempt, Session}
 use Rattle.endpoint_model.specs.Event.{Setup, Event, own_of}
 use Rattle.endpoint_laws.specs.Past.{Past, facts_of, IsClosing, past_of}
-use Rattle.endpoint_laws.specs.Contexts.{ContextsOf, HeldUnder, OpensFirst, StandsUnder, inward}
+use Rattle.endpoint_laws.specs.Contexts.{ContextsOf, HeldUnder, OpensFirst, SearchUnder, StandsUnder, inward}
 use Rattle.endpoint_laws.proofs.OneContext.{ContextOf, one_context, opens_first, the_context}
 use Rattle.endpoint_laws.specs.OfTheLog.{WasThing}
 use Rattle.session_core.specs.Closing.{is_held as is_held_stage}
@@ -36,7 +36,8 @@ use Rattle.endpoint_laws.specs.Laws.{IsSetup, AreCalls}
 use Rattle.endpoint_laws.specs.OpensIn.{startup_unless, context_in_startup, context_in_session, context_found, opens_in, OpensAt, IsContextAt, OpensByTheLog}
 use Rattle.endpoint_model.proofs.Naming.{place_by}
 use Rattle.endpoint_model.proofs.Members.{tested}
-use Rattle.endpoint_laws.proofs.Tied.{Tied, IsClosedThing, thing_of}
+use Rattle.endpoint_laws.proofs.Tied.{Tied, IsClosedThing, IsKeptIn, search_of, thing_of}
+use Rattle.endpoint_laws.proofs.Searching.{kept_as}
 use Rattle.endpoint_laws.proofs.InSessions.{was_itself}
 use Rattle.endpoint_laws.proofs.SessionChunks.{was_inward}
 use Rattle.endpoint_laws.proofs.Chunked.{either_way}
@@ -110,6 +111,15 @@ module _ (setup : Setup) (past : Past) (s : State) (tied : Tied setup past s) (p
 
   startup_context : (sid : ℕ) (ni : List ℕ) (aim : Aim) (peer : List ℕ) (thing : Held) → found_as sid ni aim ≡ Some (peer, thing) → (StartupContext 0) ≡ inward own thing
   startup_context sid ni (AtPeer q n) peer thing is = let same : (q, OpeningHeld n sid ni) ≡ (peer, thing) = cc in ap (λ (x : List ℕ × Held). inward own x.1) same
+  startup_context sid ni (ByName name) peer thing is = absurd (cc)
+
+  -- a search is where an attempt is
+  search_found : (sid : ℕ) (plain : List ℕ) → sid ≢ 0 → SearchUnder past sid → Opens setup.secret (StartupContext 0) sid part plain → context_found s (place_of s sid) part ≡ Some (StartupContext 0)
+  search_found sid plain other under opens = by (get s.startup.attempts sid) refl (tied.searching sid under.which under.at under.stands)
+    where
+      by : (o : Option AttemptState) → get s.startup.attempts sid ≡ o → IsKeptIn o under.which under.at → context_found s (place_of s sid) part ≡ Some (StartupContext 0)
+      by None e kept = absurd kept
+      by (Some a) e kept = ap (λ (p : Option Place). context_found s p part) (place_by s sid true (contains_key s.sessions sid) other (ap is_some e) refl) ∙ startup_found sid plain opens
 
   thing_found : (sid : ℕ) (oa : Option AttemptState) (os : Option Row) (peer : List ℕ) (thing : Held) (plain : List ℕ) → sid ≢ 0 →
       get s.startup.attempts sid ≡ oa → get s.sessions sid ≡ os → combined sid oa os ≡ Some (peer, thing) → Opens setup.secret (inward own thing) sid part plain →
@@ -170,7 +180,11 @@ module _ (setup : Setup) (past : Past) (s : State) (tied : Tied setup past s) (p
       stands (inr closing) = none_closes_at_zero sid named.0 closing.0 zero closing.1
 
   found_elsewhere : (sid : ℕ) (c : Context) (plain : List ℕ) → sid ≢ 0 → ContextOf own past sid c → Opens setup.secret c sid part plain → context_found s (place_of s sid) part ≡ Some c
-  found_elsewhere sid c plain other (inl named) opens = absurd (other named.0)
+  found_elsewhere sid c plain other (inl named) opens = by named.0
+    where
+      by : (sid ≡ 0) ⊎ SearchUnder past sid → context_found s (place_of s sid) part ≡ Some c
+      by (inl zero) = absurd (other zero)
+      by (inr under) = search_found sid plain other under (subst (λ (x : Context). Opens setup.secret x sid part plain) named.1 opens) ∙ ap (λ (x : Context). Some x) (sym named.1)
   found_elsewhere sid c plain other (inr named) opens = stands named.1 ∙ ap (λ (x : Context). Some x) (sym named.2)
     where
       here : Opens setup.secret (inward own named.0) sid part plain
@@ -204,7 +218,7 @@ module _ (setup : Setup) (past : Past) (s : State) (tied : Tied setup past s) (p
   told_at_zero sid c zero e =
       let found = opens_in_startup 0 c e in
       record {
-        context = inl (zero, sym found.0);
+        context = inl (inl zero, sym found.0);
         plain = found.1.0;
         opens = subst (λ (id : ℕ). Opens setup.secret c id part found.1.0) (sym zero) found.1.1;
       }
@@ -235,6 +249,11 @@ module _ (setup : Setup) (past : Past) (s : State) (tied : Tied setup past s) (p
   named_by : (sid : ℕ) (c : Context) (a : AttemptState) (aim : Aim) → a.aim ≡ aim → get s.startup.attempts sid ≡ Some a → (StartupContext 0) ≡ c → (plain : List ℕ) × Opens setup.secret c sid part plain → Named sid c
   named_by sid c a (AtPeer peer n) aims ea is opens = record {
     context = inr (OpeningHeld n sid a.ni, inl (is_held sid peer (OpeningHeld n sid a.ni) (found_of_peer s sid a peer n ea aims)), sym is);
+    plain = opens.0;
+    opens = opens.1;
+  }
+  named_by sid c a (ByName name) aims ea is opens = record {
+    context = inl (inr (record { which = search_of name a; at = a.start; stands = (kept_as setup past s tied sid a name aims ea).0 }), sym is);
     plain = opens.0;
     opens = opens.1;
   }

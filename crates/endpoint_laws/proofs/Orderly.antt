@@ -1,5 +1,5 @@
 -- What every thing that an end does keeps and adds. A thing after an orderly one is orderly, so the chunks of a datagram and the things of a tick are gone through once, for all that is said of them.
-use Rattle.std.proofs.Common.{◌≡◌, ℕ, ◌==◌, List, [], ◌∷◌, ◌++◌, take, drop, Bool, true, false, ◌||◌, if◌then◌else◌, Some, inl, inr, ◌⊎◌, refl, sym, ap, subst, ◌∙◌, append_assoc}
+use Rattle.std.proofs.Common.{◌≡◌, ℕ, ◌==◌, List, [], ◌∷◌, ◌++◌, take, drop, Bool, true, false, ◌||◌, if◌then◌else◌, Some, None, inl, inr, ◌⊎◌, refl, sym, ap, subst, ◌∙◌, append_assoc}
 use Rattle.std.proofs.lemmas.List.{take-append-drop, append-nil}
 use Rattle.std.specs.FinMap.{get}
 use Rattle.rtmfp_forms.specs.Address.{AddressParts}
@@ -31,7 +31,9 @@ use Rattle.endpoint_laws.proofs.Lines.{FactPart, EntriesMeet}
 use Rattle.endpoint_laws.proofs.Tied.{Tied}
 use Rattle.endpoint_laws.proofs.Going.{Goes, goes_nothing, goes_then, goes_discarded}
 use Rattle.endpoint_laws.proofs.OutSends.{Sent, Meets, meets_nothing, meets_then}
-use Rattle.endpoint_laws.proofs.OutItems.{meets_end, meets_repeat, meets_confirming, meets_discarded}
+use Rattle.startup.specs.Attempts.{without_attempt_by}
+use Rattle.endpoint_laws.proofs.OutItems.{short_left, meets_end, meets_unsought, meets_repeat, meets_confirming, meets_discarded}
+use Rattle.endpoint_laws.proofs.Searching.{goes_expired}
 use Rattle.endpoint_laws.proofs.OutSessions.{meets_tested}
 use Rattle.endpoint_laws.proofs.Walks.{Steps, tick_walked, acked_walked, unowed_walked, tick_all_walked}
 use Rattle.endpoint_laws.proofs.Ending.{tick_end, tick_repeat}
@@ -101,12 +103,14 @@ tick_orderly setup call is is_tick s past tied sent well = record {
   goes = tick_walked (λ d. Goes setup call past s d) s (record {
     none = goes_nothing setup call s past tied;
     ends = λ near a peer n aims there over. tick_end setup call is_tick s near a peer n aims there over past tied;
+    unseeks = λ near a name aims there over. goes_expired setup past s tied near a name aims there call is_tick over;
     repeats = λ e there. tick_repeat setup call is_tick s e there past tied;
     row = λ near row due there due_is. goes_row_due setup call is_tick past s tied near row there (well near row there) due due_is;
   });
   meets = tick_walked (λ d. Meets setup s.moment call past d) s (record {
     none = meets_nothing setup s.moment call past s sent;
     ends = λ near a peer n aims there over. meets_end setup past s sent tied s.moment call is.cert.short_named near peer;
+    unseeks = λ near a name aims there over. meets_unsought setup past s sent s.moment call near _ (without_attempt_by s.startup near None) (short_left s.startup.attempts near sent.short);
     repeats = λ e there. meets_repeat setup past s sent tied s.moment call is.cert.short_named e there;
     row = λ near row due there due_is. meets_row_due setup call is_tick past s tied near row there (well near row there) sent due;
   });

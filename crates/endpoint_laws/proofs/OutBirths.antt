@@ -35,7 +35,7 @@ use Rattle.rtmfp_base.specs.declared.cause.Cause.{Cause}
 use Rattle.rtmfp_base.specs.declared.cause.Cause.TheVariants.{SecondKeying, BadSignature, Wide}
 use Rattle.startup_packets.specs.Packets.{initiator_part_in, is_signed}
 use Rattle.startup.specs.declared.aim.Aim.{Aim}
-use Rattle.startup.specs.declared.aim.Aim.TheVariants.{AtPeer}
+use Rattle.startup.specs.declared.aim.Aim.TheVariants.{AtPeer, ByName}
 use Rattle.startup.specs.State.{AttemptState, Attempts, StartupState}
 use Rattle.startup.specs.Attempts.{wide}
 use Rattle.startup_packets.specs.Readings.{InitiatorKeying, ResponderKeying, initiator_keying_in, initiator_fields, with_initiator_part, responder_keying_in}
@@ -291,6 +291,7 @@ module _ (setup : Setup) (now : ℕ) (call : Call) (past : Past) (s : State) (se
 
   by_aim : (a : AttemptState) (keying : ResponderKeying) (aim : Aim) → a.aim ≡ aim → get s.startup.attempts near ≡ Some a → Meets setup now call past (opening_done s near from (opened_as near keying a.ni aim))
   by_aim a keying (AtPeer peer n) aims is = meets_opened _ (attempt_held setup past s sent tied near a peer n aims is)
+  by_aim a keying (ByName _) aims is = meets_nothing setup now call past s sent
 
   by_attempt : (o : Option AttemptState) → get s.startup.attempts near ≡ o → (read : Result ResponderKeying Cause) → Meets setup now call past (opening_done s near from (opened_reading near o read))
   by_attempt None is read = meets_nothing setup now call past s sent

@@ -47,5 +47,5 @@ module _ (setup : Setup) (from : AddressParts) (datagram : List ℕ) (draws : Dr
       responder = λ kind taken none formed. meets_responder setup s.moment call past s sent tied from (sid_at place) c.payload;
       told = λ told taken has. told_at place passed told taken;
       flows = λ is taken none. meets_flow_taken setup call past s sent (sid_at place) (data_reading walk.cursor c.kind c.payload);
-      reads = λ none. meets_read setup s.moment call past s sent tied cert place from (chunk_reading c.kind c.payload) none;
+      reads = λ taken formed none. meets_read setup call past s sent tied cert place from (chunk_reading c.kind c.payload) none;
     })

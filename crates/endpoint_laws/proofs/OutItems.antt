@@ -19,10 +19,12 @@ use Rattle.startup.specs.declared.attempt.Stage.TheVariants.{Hello, Keying}
 use Rattle.startup_packets.specs.Packets.{ihello_packet}
 use Rattle.glare_core.specs.declared.facts.Fact.TheVariants.{Ended}
 use Rattle.startup.specs.declared.aim.Aim.{Aim}
-use Rattle.startup.specs.declared.aim.Aim.TheVariants.{AtPeer}
+use Rattle.startup.specs.declared.aim.Aim.TheVariants.{AtPeer, ByName}
 use Rattle.startup.specs.Aims.{IsHeldAs, discriminator_of_aim, keying_of_aim, end_of_aim}
-use Rattle.startup.specs.State.{AttemptState, Attempts, StartupState}
-use Rattle.startup.specs.Attempts.{lowest, has_number, with_attempt, without_attempt, end_of, after_end_of, keying_answer, begun_attempt, distinct_candidates, confirm_fact, after_confirm}
+use Rattle.identity.specs.ServiceNames.{IsServiceName}
+use Rattle.glare_core.specs.declared.facts.Why.{Why}
+use Rattle.startup.specs.State.{AttemptState, Attempts, FitsStage, StartupState}
+use Rattle.startup.specs.Attempts.{lowest, has_number, with_attempt, without_attempt, end_of, after_end_of, keying_answer, begun_attempt, begun_search, has_search, after_unseek, distinct_candidates, confirm_fact, after_confirm}
 use Rattle.crypto_profile.specs.Keys.{sign_key_of}
 use Rattle.startup.specs.Due.{repeat_signed, repeated, repeat_of}
 use Rattle.session_core.specs.Session.{is_opening, confirmed}
@@ -31,19 +33,31 @@ use Rattle.endpoint_model.specs.declared.config.Draws.{Draws}
 use Rattle.endpoint_model.specs.declared.place.Place.{Place}
 use Rattle.endpoint_model.specs.declared.place.Place.TheVariants.{Startup as StartupPlace, Attempt, Session}
 use Rattle.endpoint_model.specs.declared.entry.Entry.{Entry}
-use Rattle.endpoint_model.specs.declared.entry.Entry.TheVariants.{Fact as FactEntry, Discard}
+use Rattle.endpoint_model.specs.declared.entry.Entry.TheVariants.{Fact as FactEntry, Sought, Unsought, Discard}
 use Rattle.endpoint_model.specs.Event.{Setup, own_of, Call}
 use Rattle.endpoint_laws.specs.Past.{Past, stamped, onto, facts_of}
 use Rattle.endpoint_model.specs.State.{State, Did, nothing, fact_entries, with_startup, with_row, with_session, with_sealed, free_from}
 use Rattle.endpoint_model.specs.Sending.{last_count, sent_startup, sent_answer, sent_each}
 use Rattle.endpoint_model.specs.Admission.{confirming, confirming_by}
-use Rattle.endpoint_model.specs.Effects.{opening, cancelling, due_done, discarded}
+use Rattle.endpoint_model.specs.Effects.{opening, seeking, unseeking, cancelling, due_done, discarded}
 use Rattle.endpoint_laws.proofs.Lines.{EntriesMeet, OutPart}
 use Rattle.endpoint_laws.proofs.Tied.{Tied}
 use Rattle.endpoint_laws.proofs.OutNumbers.{numbered_fact, numbered_quiet, numbered_changed}
 use Rattle.endpoint_laws.proofs.OutHeld.{IsSized, HasSizes, held_sized}
-use Rattle.endpoint_laws.proofs.OutSends.{IsNarrow, IsShort, AreShort, Sent, Meets, MayGo, meets_nothing, meets_after, meets_then, meets_startup}
+use Rattle.endpoint_laws.proofs.OutSends.{IsNarrow, IsNamed, IsShort, AreShort, Sent, Meets, MayGo, meets_nothing, meets_after, meets_then, meets_startup}
 use Rattle.endpoint_laws.proofs.OutKeyings.{ihello_may, iikeying_may}
+
+-- ---- attempts towards a peer
+
+abbrev pub IsAtPeer : Aim → Type 0
+IsAtPeer (AtPeer peer n) = Unit {0}
+IsAtPeer (ByName name) = ⊥
+
+-- in the keying stage it is one
+pub keyed_towards : (aim : Aim) (stage : Stage) (at : AddressParts) (cookie : List ℕ) → stage ≡ Keying at cookie → FitsStage aim stage → IsAtPeer aim
+keyed_towards (AtPeer peer n) stage at cookie is fits = tt
+keyed_towards (ByName name) Hello at cookie is fits = absurd (cc)
+keyed_towards (ByName name) (Keying other old) at cookie is fits = fits
 
 -- ---- what is kept when something changes
 
@@ -132,8 +146,48 @@ meets_opening setup now call past s sent tied peer candidates draws peer_len non
     meets_after setup now call past (FactEntry fact ∷ []) _ (tt, tt)
     (meets_each setup now call (ihello_packet (0x01 ∷ peer) draws.tag) (λ p. ihello_may setup p 0 (0x01 ∷ peer) draws.tag (omega arith) (omega arith)) (distinct_candidates candidates)
     (stamped now (FactEntry fact) ∷ past) _
-    record { numbered = begun.numbered; sized = begun.sized; short = short_put s.startup.attempts near a sent.short (record { tag = omega arith; cookie = tt }); rows = sent.rows }
+    record { numbered = begun.numbered; sized = begun.sized; short = short_put s.startup.attempts near a sent.short (record { tag = omega arith; cookie = tt; name = tt }); rows = sent.rows }
     tied.secret tied.own)
+
+-- ---- a search begins, and is over
+
+name_short : (name : List ℕ) → IsServiceName name → length (0x02 ∷ name) ≤ 128
+name_short name is = omega (arith, is.few)
+
+pub meets_seeking : (setup : Setup) (now : ℕ) (call : Call) (past : Past) (s : State) → Sent setup past s → Tied setup past s → (name : List ℕ) (candidates : List AddressParts) (draws : Draws) →
+    IsServiceName name → length draws.tag ≡ 16 → Meets setup now call past (seeking s name candidates draws)
+meets_seeking setup now call past s sent tied name candidates draws named tag_len =
+    let near : ℕ = free_from s draws.word in
+    let a : AttemptState = begun_search name candidates draws.nonce draws.tag s.moment in
+    let entry : Entry = Sought near name in
+    meets_after setup now call past (entry ∷ []) _ (tt, tt)
+    (meets_each setup now call (ihello_packet (0x02 ∷ name) draws.tag) (λ p. ihello_may setup p 0 (0x02 ∷ name) draws.tag (name_short name named) (omega arith)) (distinct_candidates candidates)
+    (stamped now entry ∷ past) _
+    record {
+      numbered = numbered_quiet (own_of setup) past s.sealed s.sessions sent.numbered (stamped now entry) refl refl;
+      sized = sent.sized;
+      short = short_put s.startup.attempts near a sent.short (record { tag = omega arith; cookie = tt; name = named });
+      rows = sent.rows;
+    }
+    tied.secret tied.own)
+
+pub meets_unsought : (setup : Setup) (past : Past) (s : State) → Sent setup past s → (now : ℕ) (call : Call) (near : ℕ) (why : Why) (left : StartupState) → AreShort left.attempts → Meets setup now call past (record { state = with_startup s left; entries = Unsought near why ∷ [] })
+meets_unsought setup past s sent now call near why left short = record {
+  lines = (tt, tt);
+  sent = record {
+    numbered = numbered_quiet (own_of setup) past s.sealed s.sessions sent.numbered (stamped now (Unsought near why)) refl refl;
+    sized = sent.sized;
+    short = short;
+    rows = sent.rows;
+  };
+}
+
+unsought_short : (s : StartupState) (near : ℕ) (b : Bool) → AreShort s.attempts → AreShort (if b then record s { attempts = remove s.attempts near } else s).attempts
+unsought_short s near true all = short_left s.attempts near all
+unsought_short s near false all = all
+
+pub meets_unseeking : (setup : Setup) (now : ℕ) (call : Call) (past : Past) (s : State) → Sent setup past s → (near : ℕ) → Meets setup now call past (unseeking s near)
+meets_unseeking setup now call past s sent near = meets_unsought setup past s sent now call near Cancelled (after_unseek s.startup near) (unsought_short s.startup near (has_search s.startup near) sent.short)
 
 -- ---- an attempt ends
 
@@ -143,6 +197,7 @@ ended_short s (Some e) all = short_left s.attempts e.0 all
 
 light_end : (near : ℕ) (aim : Aim) → IsLight (end_of_aim near Cancelled aim)
 light_end near (AtPeer peer n) = tt
+light_end near (ByName name) = tt
 
 ended_light : (o : Option (ℕ × AttemptState)) → IsLight (end_of o Cancelled)
 ended_light None = tt
@@ -167,19 +222,21 @@ module _ (setup : Setup) (past : Past) (s : State) (sent : Sent setup past s) (t
   attempt_sized : (near : ℕ) (a : AttemptState) (peer : List ℕ) (n : ℕ) → a.aim ≡ AtPeer peer n → get s.startup.attempts near ≡ Some a → HasSizes peer (Some (OpeningHeld n near a.ni))
   attempt_sized near a peer n aims there = held_sized peer (facts_of past) (OpeningHeld n near a.ni) sent.sized (attempt_held near a peer n aims there)
 
-  keying_may : (near : ℕ) (a : AttemptState) (cookie : List ℕ) (aim : Aim) → a.aim ≡ aim → get s.startup.attempts near ≡ Some a → length cookie ≤ 128 → length s.startup.cert ≤ 80 →
+  keying_may : (near : ℕ) (a : AttemptState) (cookie : List ℕ) (aim : Aim) → IsAtPeer aim → a.aim ≡ aim → get s.startup.attempts near ≡ Some a → length cookie ≤ 128 → length s.startup.cert ≤ 80 →
       MayGo setup past 0 (keying_of_aim (sign_key_of s.startup.secret) near cookie s.startup.cert a.ni aim)
-  keying_may near a cookie (AtPeer peer n) aims there narrow cert =
+  keying_may near a cookie (ByName name) other aims there narrow cert = absurd other
+  keying_may near a cookie (AtPeer peer n) other aims there narrow cert =
       iikeying_may setup past 0 s.startup.secret near cookie s.startup.cert a.ni n peer narrow cert tied.cert (attempt_held near a peer n aims there) (attempt_sized near a peer n aims there)
 
-  pub attempt_may : (near : ℕ) (a : AttemptState) (to : AddressParts) (cookie : List ℕ) → get s.startup.attempts near ≡ Some a → length cookie ≤ 128 → length setup.cert ≤ 80 →
+  pub attempt_may : (near : ℕ) (a : AttemptState) (to : AddressParts) (cookie : List ℕ) → IsAtPeer a.aim → get s.startup.attempts near ≡ Some a → length cookie ≤ 128 → length setup.cert ≤ 80 →
       MayGo setup past 0 (keying_answer s.startup near a to cookie).plain
-  attempt_may near a to cookie there narrow short =
+  attempt_may near a to cookie towards there narrow short =
       let cert : length s.startup.cert ≤ 80 = subst (λ (c : List ℕ). length c ≤ 80) (sym tied.cert) short in
-      keying_may near a cookie a.aim refl there narrow cert
+      keying_may near a cookie a.aim towards refl there narrow cert
 
   aimed_may : (near : ℕ) (a : AttemptState) (aim : Aim) → a.aim ≡ aim → get s.startup.attempts near ≡ Some a → (p : Past) → MayGo setup p 0 (ihello_packet (discriminator_of_aim aim) a.tag)
   aimed_may near a (AtPeer peer n) aims there p = ihello_may setup p 0 (0x01 ∷ peer) a.tag (omega (arith, (attempt_sized near a peer n aims there).0)) (sent.short near a there).tag
+  aimed_may near a (ByName name) aims there p = ihello_may setup p 0 (0x02 ∷ name) a.tag (name_short name (subst IsNamed aims (sent.short near a there).name)) (sent.short near a there).tag
 
   pub hello_may : (near : ℕ) (a : AttemptState) → get s.startup.attempts near ≡ Some a → (p : Past) → MayGo setup p 0 (ihello_packet (discriminator_of_aim a.aim) a.tag)
   hello_may near a there p = aimed_may near a a.aim refl there p
@@ -194,7 +251,7 @@ module _ (setup : Setup) (past : Past) (s : State) (sent : Sent setup past s) (t
     by_stage e (Keying at cookie) there is t after secret own =
         let narrow : length cookie ≤ 128 = subst IsNarrow is (sent.short e.0 e.1 there).cookie in
         meets_answer setup now call past (with_startup s t) (sent_startup_changed setup past s t sent after) (secret ∙ tied.secret) (own ∙ tied.own) (keying_answer s.startup e.0 e.1 at cookie)
-        (attempt_may e.0 e.1 at cookie there narrow short)
+        (attempt_may e.0 e.1 at cookie (keyed_towards e.1.aim e.1.stage at cookie is (tied.sound.stages e.0 e.1 there)) there narrow short)
 
     -- an attempt ends, or sends again
     pub meets_end : (near : ℕ) (peer : List ℕ) → Meets setup now call past (due_done (with_startup s (without_attempt s.startup near (Ended peer near Expired))) (EndDue (Ended peer near Expired)))
@@ -206,7 +263,7 @@ module _ (setup : Setup) (past : Past) (s : State) (sent : Sent setup past s) (t
     meets_repeat e there =
         let kept : IsShort e.1 = sent.short e.0 e.1 there in
         by_stage e e.1.stage there refl (with_attempt s.startup e.0 (repeated e.1 s.moment))
-        (short_put s.startup.attempts e.0 (repeated e.1 s.moment) sent.short (record { tag = kept.tag; cookie = kept.cookie })) refl refl
+        (short_put s.startup.attempts e.0 (repeated e.1 s.moment) sent.short (record { tag = kept.tag; cookie = kept.cookie; name = kept.name })) refl refl
 
 -- ---- a session is confirmed
 

@@ -15,6 +15,9 @@ use Rattle.crypto_profile.specs.Sealing.{number_of, sealed, sealed_in}
 use Rattle.crypto_profile.proofs.Opened.{sealed_carries}
 use Rattle.packet_scramble.specs.Datagram.{datagram}
 use Rattle.introducer.specs.Directory.{AddressRows}
+use Rattle.identity.specs.ServiceNames.{IsServiceName}
+use Rattle.startup.specs.declared.aim.Aim.{Aim}
+use Rattle.startup.specs.declared.aim.Aim.TheVariants.{AtPeer, ByName}
 use Rattle.startup.specs.State.{AttemptState, Attempts}
 use Rattle.startup.specs.declared.attempt.Stage.{Stage}
 use Rattle.startup.specs.declared.attempt.Stage.TheVariants.{Hello, Keying}
@@ -41,9 +44,15 @@ abbrev pub IsNarrow : Stage → Type 0
 IsNarrow Hello = Unit {0}
 IsNarrow (Keying at cookie) = length cookie ≤ 128
 
+-- the name that is looked for is one
+abbrev pub IsNamed : Aim → Type 0
+IsNamed (AtPeer peer n) = Unit {0}
+IsNamed (ByName name) = IsServiceName name
+
 pub record IsShort (a : AttemptState) : Type 0 where
   pub tag : length a.tag ≤ 128
   pub cookie : IsNarrow a.stage
+  pub name : IsNamed a.aim
 
 abbrev pub AreShort : Attempts → Type 0
 AreShort attempts = (near : ℕ) (a : AttemptState) → get attempts near ≡ Some a → IsShort a

@@ -41,7 +41,8 @@ use Rattle.glare_core.proofs.Accounts.{reads_held, reads_floor, reads_knows, rea
 use Rattle.rtmfp_base.specs.declared.cause.Cause.TheVariants.{BadSignature, Wide, WrongResponder, OwnCertificate, Malformed}
 use Rattle.startup_packets.specs.Packets.{initiator_part_in, is_signed, is_signed_by, before_signature}
 use Rattle.startup_packets.specs.Readings.{InitiatorKeying, part_offset, cert_offset, with_initiator_part, initiator_fields, initiator_keying_in}
-use Rattle.startup.specs.Keyings.{keying_of, is_own, heard_cause, named_cause, cookie_cause, initiator_cause, cause_by, iikeying_cause, repeated_session}
+use Rattle.startup.specs.Keyings.{keying_of, heard_cause, named_cause, cookie_cause, initiator_cause, cause_by, iikeying_cause, repeated_session}
+use Rattle.startup.specs.Attempts.{is_own}
 use Rattle.endpoint_model.specs.Event.{Setup, own_of}
 use Rattle.endpoint_laws.specs.Past.{Past, facts_of, ids_in_use}
 use Rattle.endpoint_model.specs.Keying.{IsSigned, initiator_part}

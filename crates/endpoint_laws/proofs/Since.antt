@@ -13,31 +13,31 @@ use Rattle.endpoint_model.specs.Event.{Setup, Call, Receive, ReceiveCall, receiv
 use Rattle.endpoint_laws.specs.Past.{Past, facts_of}
 use Rattle.endpoint_laws.specs.Lawful.{FactLine}
 
--- An attempt was held at the start, and so was a half-open session, or it was born of this datagram, which then goes under session ID 0.
+-- An attempt was held at the start, or a search became it by this datagram, which then goes under session ID 0; and a half-open session was held at the start, or it was born of this datagram.
 abbrev pub Comes : ℕ → List Fact → List ℕ → Option Held → Type 0
 Comes sid start peer None = Unit {0}
-Comes sid start peer (Some (Opening n near ni)) = held peer start ≡ Some (Opening n near ni)
+Comes sid start peer (Some (Opening n near ni)) = (held peer start ≡ Some (Opening n near ni)) ⊎ (sid ≡ 0)
 Comes sid start peer (Some (HalfOpen j)) = (held peer start ≡ Some (HalfOpen j)) ⊎ ((sid ≡ 0) × (j.near ≡ 0 → ⊥))
 Comes sid start peer (Some (KeptAsResponder j)) = Unit {0}
 Comes sid start peer (Some (KeptAsInitiator j)) = Unit {0}
 
 comes_first : (sid : ℕ) (start : List Fact) (peer : List ℕ) (o : Option Held) → held peer start ≡ o → Comes sid start peer o
 comes_first sid start peer None e = tt
-comes_first sid start peer (Some (Opening n near ni)) e = e
+comes_first sid start peer (Some (Opening n near ni)) e = inl e
 comes_first sid start peer (Some (HalfOpen j)) e = inl e
 comes_first sid start peer (Some (KeptAsResponder j)) e = tt
 comes_first sid start peer (Some (KeptAsInitiator j)) e = tt
 
 -- the facts that a datagram under this session ID can bring
 abbrev FactComes : ℕ → Fact → Type 0
-FactComes sid (Started peer n near ni) = ⊥
+FactComes sid (Started peer n near ni) = sid ≡ 0
 FactComes sid (Born j) = (sid ≡ 0) × (j.near ≡ 0 → ⊥)
 FactComes sid (Opened j) = Unit {0}
 FactComes sid (Confirmed peer near) = Unit {0}
 FactComes sid (Ended peer near why) = Unit {0}
 
 comes_after : (sid : ℕ) (start : List Fact) (peer : List ℕ) (fact : Fact) (o : Option Held) → FactComes sid fact → Comes sid start peer o → Comes sid start peer (after fact o)
-comes_after sid start peer (Started p n near ni) o f c = absurd f
+comes_after sid start peer (Started p n near ni) o f c = inr f
 comes_after sid start peer (Born j) o f c = inr f
 comes_after sid start peer (Opened j) None f c = tt
 comes_after sid start peer (Opened j) (Some (Opening n near ni)) f c = tt
@@ -74,7 +74,8 @@ pub came_first : (call : Call) (start : List Fact) → CameSince call start star
 came_first call start = came_at_first (receive_in call) start
 
 brings : (setup : Setup) (now : ℕ) (past : Past) (rest : List Entry) (r : ReceiveCall) (f : Fact) → FactLine setup now (Receive r.from r.datagram r.draws) past rest f → FactComes (sid_of r.datagram) f
-brings setup now past rest r (Started p n near ni) l = absurd l.by
+brings setup now past rest r (Started p n near ni) (inl by_open) = absurd by_open.0
+brings setup now past rest r (Started p n near ni) (inr hello) = hello.reads.opens.id
 brings setup now past rest r (Born j) l = (l.by.0.reads.opens.id, l.id.some)
 brings setup now past rest r (Opened j) l = tt
 brings setup now past rest r (Confirmed p near) l = tt

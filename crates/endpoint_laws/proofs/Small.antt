@@ -24,7 +24,7 @@ use Rattle.session_flows.specs.Owing.{after_acks, owing_none, owes}
 use Rattle.session_flows.specs.Timing.{overdue_in, overdue_done}
 use Rattle.introducer.specs.Directory.{AddressRows}
 use Rattle.endpoint_model.specs.declared.row.Row.{Row}
-use Rattle.endpoint_model.specs.declared.entry.Entry.TheVariants.{Fact as FactEntry, Moved, Out}
+use Rattle.endpoint_model.specs.declared.entry.Entry.TheVariants.{Fact as FactEntry, Moved, Sought, Unsought, Out}
 use Rattle.endpoint_model.specs.State.{State, Did, nothing, fact_entries, with_startup, with_row, with_session, without_row, with_sealed}
 use Rattle.endpoint_model.specs.Sending.{packet_head, startup_datagram, session_datagram}
 use Rattle.endpoint_model.specs.InSessions.{closed}
@@ -96,6 +96,13 @@ birth s ended j from = record { state = with_born s ended (Born j) from; entries
 abbrev pub stated : State → StartupState → Fact → Did
 stated s startup fact = record { state = with_startup s startup; entries = FactEntry fact ∷ [] }
 
+-- a search begins, and is over
+abbrev pub began : State → StartupState → ℕ → List ℕ → Did
+began s startup near name = record { state = with_startup s startup; entries = Sought near name ∷ [] }
+
+abbrev pub given_up : State → StartupState → ℕ → Why → Did
+given_up s startup near why = record { state = with_startup s startup; entries = Unsought near why ∷ [] }
+
 -- ---- what a law says
 
 -- Of nothing, of one thing after another, and of a datagram, in the startup context and in a session. Of the bodies that go out in sessions something may be known.
@@ -106,7 +113,7 @@ pub record Sends (Body : List ℕ → Type 0) (P : State → Did → Type 0) : T
   pub out_in : (s : State) (near : ℕ) (row : Row) (to : AddressParts) (body : List ℕ) → get s.sessions near ≡ Some row → Body body →
       P s (record { state = with_session s near row (after_seal row.session); entries = Out to (session_datagram row.session s.moment body) (context_of row.session true) ∷ [] })
 
--- And of what begins no session, but for what is done with flows: a change of the attempts alone, facts, and sessions that go on and end.
+-- And of what begins no session, but for what is done with flows: a change of the attempts alone, facts, searches that are over, and sessions that go on and end.
 pub record Quiet (Body : List ℕ → Type 0) (P : State → Did → Type 0) : Type 0 where
   pub sends : Sends Body P
   pub attempts : (s : State) (startup : StartupState) → IsKin s.startup startup → P s (nothing (with_startup s startup))
@@ -115,6 +122,7 @@ pub record Quiet (Body : List ℕ → Type 0) (P : State → Did → Type 0) : T
   pub empty_ping : Body (chunk_bytes (Ping []))
   pub discards : (s : State) (at : ℕ) (cause : Cause) → P s (discarded s at cause)
   pub ends : (s : State) (startup : StartupState) (peer : List ℕ) (near : ℕ) (why : Why) → IsKin s.startup startup → P s (stated s startup (Ended peer near why))
+  pub unseeks : (s : State) (startup : StartupState) (near : ℕ) (why : Why) → IsKin s.startup startup → P s (given_up s startup near why)
   pub confirms : (s : State) (startup : StartupState) (peer : List ℕ) (near : ℕ) → IsKin s.startup startup → P s (stated s startup (Confirmed peer near))
   pub closes : (s : State) (near : ℕ) → P s (closed s near)
   pub forgets : (s : State) (near : ℕ) → P s (nothing (without_row s near))
@@ -137,11 +145,12 @@ pub record All (Body : List ℕ → Type 0) (P : State → Did → Type 0) : Typ
   pub calls : (s : State) (near : ℕ) (row : Row) (call : FlowCall) → get s.sessions near ≡ Some row → flow_refusal row.flows call ≡ None → P s (flows_done s near row (flow_did row.flows call))
   pub takes : (s : State) (near : ℕ) (row : Row) (chunk : DataChunk) → get s.sessions near ≡ Some row → FitsIn chunk → flows_cause row.session row.flows chunk ≡ None → P s (flow_taken_by s near chunk (Some row))
 
--- And of attempts and sessions that begin, by a law of which the one before is a part.
+-- And of attempts, searches and sessions that begin, by a law of which the one before is a part.
 pub record Begins (Q P : State → Did → Type 0) : Type 0 where
   pub quiet : (s : State) (d : Did) → Q s d → P s d
   pub steps : Steps P
   pub starts : (s : State) (startup : StartupState) (peer : List ℕ) (n near : ℕ) (ni : List ℕ) → IsKin s.startup startup → P s (stated s startup (Started peer n near ni))
+  pub seeks : (s : State) (startup : StartupState) (near : ℕ) (name : List ℕ) → IsKin s.startup startup → P s (began s startup near name)
   pub bears : (s : State) (peer : List ℕ) (o : Option Held) (j : Joined) (from : AddressParts) → P s (birth s (way_made peer o) j from)
   pub opens : (s : State) (startup : StartupState) (j : Joined) (from : AddressParts) → IsKin s.startup startup → P s (record { state = with_opened (with_startup s startup) (Opened j) from; entries = FactEntry (Opened j) ∷ [] })
 

@@ -1,5 +1,6 @@
--- Keyings that read are spelled, and their signatures end them.
-use Rattle.std.proofs.Common.{◌≡◌, ℕ, ◌-◌, List, [], ◌++◌, length, take, Option, Some, None, Result, Ok, Err, true, refl, sym, ap, subst, ◌∙◌, arith, append_assoc, length-append}
+-- Keyings and responders' hellos that read are spelled, and the signatures of keyings end them.
+use Rattle.std.proofs.Common.{◌≡◌, ℕ, ◌-◌, ◌==◌, List, [], ◌++◌, length, take, Option, Some, None, Result, Ok, Err, Bool, true, false, if◌then◌else◌, refl, sym, ap, subst, ◌∙◌, arith, append_assoc, length-append}
+use Rattle.std.proofs.lemmas.Bool.{eqb-true}
 use Rattle.std.proofs.lemmas.List.{take_at}
 use Rattle.std.proofs.lemmas.Slice.Eq.{bytes_eq-Decides}
 use Rattle.crypto_profile.specs.Hmac.{hmac}
@@ -8,8 +9,9 @@ use Rattle.rtmfp_vlu.proofs.Bytes.{IsBytes, IsBytes-drop}
 use Rattle.rtmfp_vlu.proofs.Fields.{behind}
 use Rattle.rtmfp_forms.specs.OptionReading.{◌>>=◌}
 use Rattle.rtmfp_chunks.specs.Fields.{Field, Counted, Number, SessionId, More, OneAddress, Parts, Then, Rest, AddressList, Ignored, Form, CountedForm, SessionIdForm, Row, ThenRow, RestRow, AddressesRow, IgnoredRow, form_of, PartsSpell}
-use Rattle.rtmfp_chunks.specs.Chunk.{Chunk, IIKeying, RIKeying, Spells, row_of, parts_of}
-use Rattle.rtmfp_chunks.specs.FieldReading.{field_then, list_at, row_at, typed, chunk_at, chunk_with, known_chunk, chunk_or_fault, chunk_reading}
+use Rattle.rtmfp_chunks.specs.declared.reading.ChunkFault.{ChunkFault}
+use Rattle.rtmfp_chunks.specs.Chunk.{Chunk, IHello, FIHello, RHello, Redirect, CookieChange, IIKeying, RIKeying, Ping, PingReply, Close, CloseAck, Fragment, Spells, row_of, parts_of}
+use Rattle.rtmfp_chunks.specs.FieldReading.{field_then, list_at, row_at, typed, typed_row, chunk_at, chunk_with, known_chunk, chunk_or_fault, chunk_reading}
 use Rattle.rtmfp_chunks.proofs.FieldLaws.{FieldIs, field_is}
 use Rattle.rtmfp_chunks.proofs.RowLaws.{row_of_parts, RowIs, row_is}
 use Rattle.startup_packets.specs.Packets.{is_signed, is_signed_by, before_signature}
@@ -156,6 +158,81 @@ pub responder_spelled : (b : List ℕ) (chunk : Chunk) → IsBytes b → chunk_r
 unfolding chunk_reading chunk_at row_of
 responder_spelled b chunk are e =
     responder_in b (row_at (ThenRow SessionIdForm (ThenRow CountedForm RestRow)) b) chunk (spelled_row (ThenRow SessionIdForm (ThenRow CountedForm RestRow)) b are) e
+
+-- ---- responders' hellos that read
+
+hello_parts : (parts : Parts) → row_of_parts parts ≡ ThenRow CountedForm (ThenRow CountedForm RestRow) → (tag : List ℕ) × (cookie : List ℕ) × (cert : List ℕ) × (parts ≡ parts_of (RHello tag cookie cert))
+hello_parts parts e =
+    let one = then_is parts CountedForm (ThenRow CountedForm RestRow) e in
+    let tag = counted_is one.field one.form in
+    let two = then_is one.rest CountedForm RestRow one.row in
+    let cookie = counted_is two.field two.form in
+    let last = rest_is two.rest two.row in
+    (tag.0, cookie.0, last.0, one.is ∙ ap (λ (f : Field). Then f one.rest) tag.1 ∙ ap (Then (Counted tag.0)) (two.is ∙ ap (λ (f : Field). Then f two.rest) cookie.1 ∙ ap (Then (Counted cookie.0)) last.1))
+
+hello_in : (b : List ℕ) (r : Result Parts ℕ) (chunk : Chunk) → ((parts : Parts) → r ≡ Ok parts → PartsSpell parts b × (row_of_parts parts ≡ ThenRow CountedForm (ThenRow CountedForm RestRow))) →
+    chunk_or_fault 0x70 b (Some (typed 0x70 r)) ≡ Ok chunk → Spells chunk 0x70 b
+unfolding chunk_with
+hello_in b (Ok parts) chunk h e =
+    let both = h parts refl in
+    let is = hello_parts parts both.1 in
+    let x : Chunk = RHello is.0 is.1 is.2 in
+    let same : chunk ≡ x = known 0x70 (chunk_with 0x70 parts) x chunk (ap (chunk_with 0x70) is.3) e in
+    subst (λ (c : Chunk). Spells c 0x70 b) (sym same) (refl, subst (λ (p : Parts). PartsSpell p b) is.3 both.0)
+hello_in b (Err left) chunk h e = absurd (cc)
+
+pub hello_spelled : (b : List ℕ) (chunk : Chunk) → IsBytes b → chunk_reading 0x70 b ≡ Ok chunk → Spells chunk 0x70 b
+unfolding chunk_reading chunk_at row_of
+hello_spelled b chunk are e =
+    hello_in b (row_at (ThenRow CountedForm (ThenRow CountedForm RestRow)) b) chunk (spelled_row (ThenRow CountedForm (ThenRow CountedForm RestRow)) b are) e
+
+-- no other type of chunk reads as one
+
+is_hello : Option Chunk → Bool
+is_hello (Some (RHello tag cookie cert)) = true
+is_hello other = false
+
+no_hello_if : (b : Bool) (x : Chunk) (o : Option Chunk) → is_hello (Some x) ≡ false → is_hello o ≡ false → is_hello (if b then Some x else o) ≡ false
+no_hello_if true x o first later = first
+no_hello_if false x o first later = later
+
+other_with : (kind : ℕ) (parts : Parts) → (kind == 0x70) ≡ false → is_hello (chunk_with kind parts) ≡ false
+unfolding chunk_with is_hello
+other_with kind (Then (Counted x) (Rest y)) other = no_hello_if (kind == 0x30) (IHello x y) _ refl (no_hello_if (kind == 0x79) (CookieChange x y) None refl refl)
+other_with kind (Then (Counted epd) (Then (OneAddress reply) (Rest tag))) other = no_hello_if (kind == 0x0f) (FIHello epd reply tag) None refl refl
+other_with kind (Then (Counted tag) (Then (Counted cookie) (Rest cert))) other = ap (λ (b : Bool). is_hello (if b then Some (RHello tag cookie cert) else None)) other
+other_with kind (Then (Counted tag) (AddressList list)) other = no_hello_if (kind == 0x71) (Redirect tag list) None refl refl
+other_with kind (Then (SessionId near) (Then (Counted cookie) (Then (Counted cert) (Then (Counted part) (Rest sign))))) other = no_hello_if (kind == 0x38) (IIKeying near cookie cert part sign) None refl refl
+other_with kind (Then (SessionId near) (Then (Counted part) (Rest sign))) other = no_hello_if (kind == 0x78) (RIKeying near part sign) None refl refl
+other_with kind (Rest bytes) other = no_hello_if (kind == 0x01) (Ping bytes) _ refl (no_hello_if (kind == 0x41) (PingReply bytes) None refl refl)
+other_with kind Ignored other = no_hello_if (kind == 0x0c) Close _ refl (no_hello_if (kind == 0x4c) CloseAck None refl refl)
+other_with kind (Then (More more) (Then (Number id) (Then (Number number) (Rest bytes)))) other = no_hello_if (kind == 0x7f) (Fragment more id number bytes) None refl refl
+other_with kind parts other = refl
+
+known_is : (kind : ℕ) (o : Option Chunk) (chunk : Chunk) → known_chunk kind o ≡ Ok chunk → o ≡ Some chunk
+known_is kind None chunk e = absurd (cc)
+known_is kind (Some x) chunk e = let same : x ≡ chunk = cc in ap (λ (c : Chunk). Some c) same
+
+typed_kind : (kind : ℕ) (r : Result Parts ℕ) (found : ℕ × Parts) → typed kind r ≡ Ok found → kind ≡ found.0
+typed_kind kind (Ok parts) found e = let same : (kind, parts) ≡ found = cc in ap (λ (x : ℕ × Parts). x.0) same
+typed_kind kind (Err left) found e = absurd (cc)
+
+row_kind : (kind : ℕ) (b : List ℕ) (o : Option Row) (found : ℕ × Parts) → typed_row kind b o ≡ Some (Ok found) → kind ≡ found.0
+row_kind kind b None found e = absurd (cc)
+row_kind kind b (Some row) found e = typed_kind kind (row_at row b) found (let same : typed kind (row_at row b) ≡ Ok found = cc in same)
+
+pub hello_kind : (kind : ℕ) (b tag cookie cert : List ℕ) → chunk_reading kind b ≡ Ok (RHello tag cookie cert) → kind ≡ 0x70
+unfolding chunk_reading chunk_at is_hello
+hello_kind kind b tag cookie cert e = by (chunk_at kind b) refl e
+  where
+    at_kind : (k : ℕ) (t : Bool) → (k == 0x70) ≡ t → (parts : Parts) → chunk_with k parts ≡ Some (RHello tag cookie cert) → k ≡ 0x70
+    at_kind k true is parts e = eqb-true k 0x70 is
+    at_kind k false is parts e = absurd (let clash : true ≡ false = sym (ap is_hello e) ∙ other_with k parts is in cc)
+
+    by : (o : Option (Result (ℕ × Parts) ℕ)) → chunk_at kind b ≡ o → chunk_or_fault kind b o ≡ Ok (RHello tag cookie cert) → kind ≡ 0x70
+    by None is e = absurd (cc)
+    by (Some (Err left)) is e = absurd (cc)
+    by (Some (Ok found)) is e = row_kind kind b (row_of kind) found is ∙ at_kind found.0 (found.0 == 0x70) refl found.1 (known_is kind (chunk_with found.0 found.1) (RHello tag cookie cert) e)
 
 -- ---- what ends a payload
 

@@ -11,11 +11,12 @@ use Rattle.glare_core.specs.declared.facts.Fact.{Fact}
 use Rattle.glare_core.specs.declared.facts.Held.TheVariants.{Opening}
 use Rattle.glare_core.specs.declared.answers.StartRefusal.{StartRefusal}
 use Rattle.glare_core.specs.declared.answers.StartRefusal.TheVariants.{OwnPrint, AttemptsSpent, PeersFull}
-use Rattle.glare_core.specs.Standing.{peer_of}
+use Rattle.glare_core.specs.Standing.{peer_of, count}
 use Rattle.glare_core.specs.Things.{near_of}
 use Rattle.glare_core.specs.Ledger.{Ledger, held_with, knows, row_count, noted}
 use Rattle.rtmfp_base.specs.Reasons.{where_true}
 use Rattle.glare_core.specs.Calls.{start_held, start_refusal, started_fact, peers_full}
+use Rattle.glare_core.proofs.Accounts.{reads_started}
 use Rattle.glare_core.proofs.Giving.{gave_started}
 use Rattle.startup.specs.State.{AttemptState}
 use Rattle.startup.specs.Attempts.{begin_spread, begun_attempt, after_begin}
@@ -28,10 +29,10 @@ use Rattle.endpoint_model.specs.State.{State, Did, uses, is_used, is_free, free_
 use Rattle.endpoint_model.specs.Sending.{sent_spread}
 use Rattle.endpoint_model.specs.Effects.{candidates_refusal, start_refused, full_refused, open_refusal, opening}
 use Rattle.endpoint_model.proofs.Ids.{free_from_is_free}
-use Rattle.endpoint_laws.proofs.Matching.{of_peer, ids_more}
+use Rattle.endpoint_laws.proofs.Matching.{of_peer, ids_more, ids_started}
 use Rattle.endpoint_laws.proofs.Tied.{Tied}
 use Rattle.endpoint_laws.proofs.Agrees.{IsAt, combined, thing_at, used_here, used_elsewhere, agrees_changed, agrees_of, tied_of}
-use Rattle.endpoint_laws.proofs.Moving.{beside_fact, none_there_still, noted_matches, rows_after_known, rows_after_new}
+use Rattle.endpoint_laws.proofs.Moving.{beside_fact, none_there_still, noted_matches, rows_after_known, rows_after_new, still_unsought, none_sought}
 use Rattle.endpoint_laws.proofs.Facts.{all_none, test_fails, stands_of}
 use Rattle.endpoint_laws.proofs.Made.{spread_made}
 use Rattle.endpoint_laws.proofs.Going.{Goes, goes_then, goes_sends}
@@ -115,6 +116,7 @@ pub record MayStart (s : State) (peer : List ℕ) : Type 0 where
   pub unheld : held_with s.startup.ledger peer ≡ None
   pub row : peers_full s.startup.ledger peer ≡ false
   pub place : full s ≡ None
+  pub unspent : (s.startup.ledger.started == 2 ^ 64 - 1) ≡ false
 
 start_none : (o : Option StartRefusal) → start_refused o ≡ None → o ≡ None
 start_none None e = refl
@@ -135,7 +137,17 @@ may_start s peer candidates none =
       unheld = none_held (held_with s.startup.ledger peer) each.1.0;
       row = test_fails (peers_full s.startup.ledger peer) (PeersFull (row_count s.startup.ledger)) each.1.1.1.0;
       place = index_none (full s) all.1.1.0;
+      unspent = test_fails (l.started == 2 ^ 64 - 1) AttemptsSpent each.1.1.0;
     }
+
+-- a number that is given is one of 64 bits
+pub few_more : (setup : Setup) (past : Past) (s : State) → Tied setup past s → (s.startup.ledger.started == 2 ^ 64 - 1) ≡ false → 1 + count (facts_of past) < 2 ^ 64
+few_more setup past s tied other =
+    let started : s.startup.ledger.started ≡ 0 + count (facts_of past) = reads_started 0 s.startup.ledger (facts_of past) tied.account in
+    next_fits s.startup.ledger.started (count (facts_of past)) (omega (arith, started)) tied.few other
+  where
+    next_fits : (n m : ℕ) → n ≡ m → m < 2 ^ 64 → (n == 2 ^ 64 - 1) ≡ false → 1 + m < 2 ^ 64
+    next_fits n m same few other = grind (arith, nat_tests)
 
 started_tied : (setup : Setup) (past : Past) (s : State) (peer : List ℕ) (candidates : List AddressParts) (near : ℕ) (ni tag : List ℕ) → Tied setup past s → MayStart s peer → IsNew s near →
     Tied setup (stamped s.moment (FactEntry (started_fact s.startup.ledger peer near ni)) ∷ past) (with_startup s (after_begin s.startup peer candidates near ni tag s.moment))
@@ -157,12 +169,14 @@ started_tied setup past s peer candidates near ni tag tied may new =
     (agrees_changed setup past now s t near (Some begun) None a
     (record { config = a.given.config; cert = a.given.cert; secret = a.given.secret; cookie_secret = a.given.cookie_secret; own = a.given.own; max_peers = a.given.max_peers }) at
     (noted_matches s t fact near (Some begun) None a.matches at refl was refl (λ h e. let same : Opening (s.startup.ledger.started + 1) near ni ≡ h = cc in sym (ap near_of same)))
-    (inl refl) (beside_fact near s.moment past fact tt) (none_there_still past near (get s.sessions near) (a.closing near) new.session s.moment fact tt None)
+    (inl refl, tt) (beside_fact near s.moment past fact refl) (none_there_still past near (get s.sessions near) (a.closing near) new.session s.moment fact tt None)
+    (still_unsought past near s.moment fact (none_sought past near (get s.startup.attempts near) (a.searching near) new.attempt) (Some begun))
+    (ids_started setup.config.max_sessions (ids_in_use past) s t near (sym (a.ids.used near) ∙ new.unused)
     (ids_more setup.config.max_sessions (ids_in_use past) s t near a.ids (used_elsewhere near (Some begun) None s t at) (used_here near (Some begun) None s t at)
-    (omega (arith, len_new s.startup.attempts near begun new.attempt)) new.unused new.some (room_left setup past s tied may.place))
+    (omega (arith, len_new s.startup.attempts near begun new.attempt)) new.unused new.some (room_left setup past s tied may.place)))
     (omega arith, a.by_now)
     (rows_after_either s.startup.ledger fact setup.config.max_peers peer refl tied.rows (row_left setup past s peer tied may.row)))
-    (gave_started s.startup.ledger peer near ni may.start 0 (facts_of past) tied.account)
+    (gave_started s.startup.ledger peer near ni may.start 0 (facts_of past) tied.account) (few_more setup past s tied may.unspent)
 
 pub goes_opening : (setup : Setup) (past : Past) (s : State) (peer : List ℕ) (candidates : List AddressParts) (draws : Draws) → setup.config.max_sessions ≤ 65536 → draws.word < 2 ^ 32 →
     open_refusal s peer candidates ≡ None → Tied setup past s → Goes setup (Open peer candidates draws) past s (opening s peer candidates draws)
@@ -177,7 +191,7 @@ goes_opening setup past s peer candidates draws most small none tied =
     let spread = begin_spread s.startup peer candidates draws.nonce draws.tag s.moment in
     goes_then setup (Open peer candidates draws) past s first (λ u. sent_spread u spread)
     (record {
-      meets = (((stands_of (own_of setup) t.startup.ledger fact (facts_of past) after.own after.account, record { by = (refl, refl); id = is_free_of setup past s near tied new }), tt), tt);
+      meets = (((stands_of (own_of setup) t.startup.ledger fact (facts_of past) after.own after.account, inl ((refl, refl), is_free_of setup past s near tied new)), tt), tt);
       tied = after;
       moment = refl;
     })

@@ -1,5 +1,5 @@
 -- The state of an end agrees with what it did.
-use Rattle.std.proofs.Common.{◌≡◌, ℕ, ◌+◌, ◌≤◌, List, [], ◌∷◌, length, true, false, if◌then◌else◌, Option, Some, None, is_some, ◌||◌, inl, inr, refl, ap, ◌∙◌, arith}
+use Rattle.std.proofs.Common.{◌≡◌, ℕ, ◌+◌, ◌≤◌, ◌<◌, ◌^◌, List, [], ◌∷◌, length, true, false, if◌then◌else◌, Option, Some, None, is_some, ◌||◌, inl, inr, refl, ap, ◌∙◌, arith}
 use Rattle.std.specs.Ordering.{nat_cmp}
 use Rattle.std.specs.Cmp.Lexicographic.{slice_cmp}
 use Rattle.std.specs.FinMap.{get, get-empty, len-empty}
@@ -11,6 +11,10 @@ use Rattle.glare_core.specs.Ledger.{PeerRow, Ledger, row_or_blank, held_with, ro
 use Rattle.glare_core.specs.Account.{StandsFor}
 use Rattle.glare_core.proofs.Giving.{stands_new}
 use Rattle.rtmfp_base.proofs.Maps.{none_is_some}
+use Rattle.glare_core.specs.declared.facts.Fact.TheVariants.{Started}
+use Rattle.glare_core.specs.Standing.{count as started_in}
+use Rattle.startup.specs.declared.aim.Aim.{Aim}
+use Rattle.startup.specs.declared.aim.Aim.TheVariants.{AtPeer, ByName}
 use Rattle.startup.specs.State.{AttemptState, IsSound}
 use Rattle.startup.proofs.Sound.{new_is_sound}
 use Rattle.session_core.specs.declared.stage.Role.{Role}
@@ -21,8 +25,8 @@ use Rattle.session_core.specs.Session.{SessionState, IsKeyed}
 use Rattle.session_core.specs.Closing.{is_held}
 use Rattle.endpoint_model.specs.declared.row.Row.{Row}
 use Rattle.endpoint_model.specs.Event.{Setup, own_of}
-use Rattle.endpoint_laws.specs.Past.{Past, facts_of, ids_in_use, is_in_use, IsClosing}
-use Rattle.endpoint_laws.specs.OfTheLog.{WasThing, WasStartedAs}
+use Rattle.endpoint_laws.specs.Past.{Past, Search, facts_of, ids_in_use, is_in_use, IsClosing, IsSearch, WasStated}
+use Rattle.endpoint_laws.specs.OfTheLog.{WasThing}
 use Rattle.endpoint_model.specs.State.{State, fresh, uses, is_used}
 use Rattle.endpoint_model.proofs.Members.{IsOnce}
 use Rattle.endpoint_laws.proofs.Matching.{Found, of_peer}
@@ -100,6 +104,23 @@ abbrev pub IsClosedThing : Option Row → Held → Type 0
 IsClosedThing None thing = ⊥
 IsClosedThing (Some row) thing = (is_held row.session.stage ≡ false) × WasThing row.session.role row.session.joined thing
 
+-- what a search looks for, by what is kept of it
+abbrev pub search_of : List ℕ → AttemptState → Search
+search_of name a = record { name = name; tag = a.tag; ni = a.ni }
+
+-- What is towards a peer was started at its moment; what is towards a name is a search that began then, with its sizes.
+abbrev pub WasStartedAs : Past → ℕ → AttemptState → Aim → Type 0
+WasStartedAs past near a (AtPeer peer n) = WasStated a.start (Started peer n near a.ni) past
+WasStartedAs past near a (ByName name) = IsSearch near (search_of name a) a.start past × (length a.ni ≡ 16) × (near < 2 ^ 32)
+
+-- It is that search.
+abbrev pub IsKept : AttemptState → Search → ℕ → Type 0
+IsKept a which at = (a.aim ≡ ByName which.name) × (a.tag ≡ which.tag) × (a.ni ≡ which.ni) × (a.start ≡ at)
+
+abbrev pub IsKeptIn : Option AttemptState → Search → ℕ → Type 0
+IsKeptIn None which at = ⊥
+IsKeptIn (Some a) which at = IsKept a which at
+
 -- The state agrees with what was done.
 pub record Tied (setup : Setup) (past : Past) (s : State) : Type 0 where
   -- what was given at the beginning
@@ -117,8 +138,9 @@ pub record Tied (setup : Setup) (past : Past) (s : State) : Type 0 where
   pub closing : (near : ℕ) (thing : Held) (at : ℕ) → IsClosing near thing at past → IsClosedThing (get s.sessions near) thing
   -- no attempt and session have one near id
   pub apart : (near : ℕ) (a : AttemptState) → get s.startup.attempts near ≡ Some a → get s.sessions near ≡ None
-  -- each attempt was started at its moment
-  pub started : (near : ℕ) (a : AttemptState) → get s.startup.attempts near ≡ Some a → WasStartedAs past a.start near a.ni a.aim
+  -- each attempt was started at its moment, or is a search, and each search is there
+  pub started : (near : ℕ) (a : AttemptState) → get s.startup.attempts near ≡ Some a → WasStartedAs past near a a.aim
+  pub searching : (near : ℕ) (which : Search) (at : ℕ) → IsSearch near which at past → IsKeptIn (get s.startup.attempts near) which at
   -- the session IDs in use are those of the attempts and the sessions
   pub used : (near : ℕ) → is_used s near ≡ is_in_use near past
   pub count : uses s ≡ length (ids_in_use past)
@@ -129,6 +151,8 @@ pub record Tied (setup : Setup) (past : Past) (s : State) : Type 0 where
   -- the limits
   pub within : uses s ≤ setup.config.max_sessions
   pub rows : row_count s.startup.ledger ≤ setup.config.max_peers
+  -- the number of the last attempt is one of 64 bits
+  pub few : started_in (facts_of past) < 2 ^ 64
 
 -- A new end has done nothing.
 pub fresh_tied : (setup : Setup) → Tied setup [] (fresh setup)
@@ -152,6 +176,7 @@ fresh_tied setup =
       closing = λ near thing at none. absurd none;
       apart = λ near a e. no_session near;
       started = λ near a e. absurd (none_is_some a (get s.startup.attempts near) (no_attempt near) e);
+      searching = λ near which at none. absurd none;
       used = λ near. ap (λ (o : Option AttemptState). is_some o || is_some (get s.sessions near)) (no_attempt near) ∙ ap (λ (o : Option Row). is_some o) (no_session near);
       count = none;
       once = tt;
@@ -159,4 +184,5 @@ fresh_tied setup =
       by_now = tt;
       within = omega (arith, none);
       rows = omega (arith, len-empty (slice_cmp nat_cmp) PeerRow);
+      few = omega arith;
     }

@@ -1,4 +1,4 @@
--- Entries of which the table of lawful logs has no line: they state no fact, send nothing, and end no closing.
+-- Entries of which the table of lawful logs has no line: they state no fact, send nothing, end no closing, and say nothing of searches.
 use Rattle.std.proofs.Common.{◌≡◌, ℕ, List, [], ◌∷◌, map, Option, Some, None, Result, Ok, Err, refl}
 use Rattle.std.specs.FinMap.{get}
 use Rattle.rtmfp_data_chunks.specs.declared.view.DataFault.{DataFault}
@@ -10,23 +10,25 @@ use Rattle.endpoint_model.specs.declared.row.Row.{Row}
 use Rattle.endpoint_model.specs.State.{State}
 use Rattle.endpoint_model.specs.OnFlows.{flow_entry}
 use Rattle.endpoint_model.specs.FlowChunks.{flow_taken_by, flow_taken}
-use Rattle.endpoint_model.specs.Views.{fact_in, out_in, closed_in}
+use Rattle.endpoint_model.specs.Views.{fact_in, out_in, closed_in, sought_in, unsought_in}
 
 pub record IsUnseen (entry : Entry) : Type 0 where
   pub no_fact : fact_in entry ≡ None
   pub no_out : out_in entry ≡ None
   pub no_closed : closed_in entry ≡ None
+  pub no_sought : sought_in entry ≡ None
+  pub no_unsought : unsought_in entry ≡ None
 
 abbrev pub AreUnseen : List Entry → Type 0
 AreUnseen [] = Unit {0}
 AreUnseen (entry ∷ rest) = IsUnseen entry × AreUnseen rest
 
 flow_unseen : (near : ℕ) (x : Stated) → IsUnseen (flow_entry near x)
-flow_unseen near (Opened flow) = record { no_fact = refl; no_out = refl; no_closed = refl }
-flow_unseen near (Queued flow seq message) = record { no_fact = refl; no_out = refl; no_closed = refl }
-flow_unseen near (Abandoned flow seq) = record { no_fact = refl; no_out = refl; no_closed = refl }
-flow_unseen near (Finished flow seq) = record { no_fact = refl; no_out = refl; no_closed = refl }
-flow_unseen near (Handed flow seq message) = record { no_fact = refl; no_out = refl; no_closed = refl }
+flow_unseen near (Opened flow) = record { no_fact = refl; no_out = refl; no_closed = refl; no_sought = refl; no_unsought = refl }
+flow_unseen near (Queued flow seq message) = record { no_fact = refl; no_out = refl; no_closed = refl; no_sought = refl; no_unsought = refl }
+flow_unseen near (Abandoned flow seq) = record { no_fact = refl; no_out = refl; no_closed = refl; no_sought = refl; no_unsought = refl }
+flow_unseen near (Finished flow seq) = record { no_fact = refl; no_out = refl; no_closed = refl; no_sought = refl; no_unsought = refl }
+flow_unseen near (Handed flow seq message) = record { no_fact = refl; no_out = refl; no_closed = refl; no_sought = refl; no_unsought = refl }
 
 pub flows_unseen : (near : ℕ) (stated : List Stated) → AreUnseen (map (flow_entry near) stated)
 flows_unseen near [] = tt

@@ -4,10 +4,10 @@ use Rattle.std.specs.FinMap.{get, keys}
 use Rattle.rtmfp_base.proofs.Lowest.{first_is_there}
 use Rattle.glare_core.specs.declared.facts.Why.TheVariants.{Expired}
 use Rattle.rtmfp_base.specs.Reasons.{first_that_stands}
-use Rattle.startup.specs.declared.answer.Due.TheVariants.{Ended as EndDue}
+use Rattle.startup.specs.declared.answer.Due.TheVariants.{Ended as EndDue, Unsought as UnsoughtDue}
 use Rattle.glare_core.specs.declared.facts.Fact.TheVariants.{Ended}
 use Rattle.startup.specs.declared.aim.Aim.{Aim}
-use Rattle.startup.specs.declared.aim.Aim.TheVariants.{AtPeer}
+use Rattle.startup.specs.declared.aim.Aim.TheVariants.{AtPeer, ByName}
 use Rattle.startup.specs.Aims.{end_of_aim}
 use Rattle.startup.specs.State.{AttemptState, StartupState}
 use Rattle.startup.specs.Attempts.{lowest, with_attempt, without_attempt, without_attempt_by}
@@ -28,11 +28,13 @@ pub record Steps (P : State → Did → Type 0) : Type 0 where
 
 -- ---- the first thing that is due
 
--- The end of an attempt, its hellos or its keying again, or the first thing of a session.
+-- The end of an attempt or of a search, its hellos or its keying again, or the first thing of a session.
 pub record IsDueThing (R : Did → Type 0) (s : State) : Type 0 where
   pub none : R (nothing s)
   pub ends : (near : ℕ) (a : AttemptState) (peer : List ℕ) (n : ℕ) → a.aim ≡ AtPeer peer n → get s.startup.attempts near ≡ Some a → is_over s.moment a ≡ true →
       R (due_done (with_startup s (without_attempt s.startup near (Ended peer near Expired))) (EndDue (Ended peer near Expired)))
+  pub unseeks : (near : ℕ) (a : AttemptState) (name : List ℕ) → a.aim ≡ ByName name → get s.startup.attempts near ≡ Some a → is_over s.moment a ≡ true →
+      R (due_done (with_startup s (without_attempt_by s.startup near None)) (UnsoughtDue near))
   pub repeats : (e : ℕ × AttemptState) → get s.startup.attempts e.0 ≡ Some e.1 → R (due_done (with_startup s (with_attempt s.startup e.0 (repeated e.1 s.moment))) (repeat_of s.startup e.0 e.1))
   pub row : (near : ℕ) (row : Row) (due : RowDue) → get s.sessions near ≡ Some row → row_due s.moment row ≡ Some due → R (row_due_done s near row due)
 
@@ -58,6 +60,7 @@ module _ (R : Did → Type 0) (s : State) (k : IsDueThing R s) where
   end_walked : (near : ℕ) (a : AttemptState) (aim : Aim) → a.aim ≡ aim → get s.startup.attempts near ≡ Some a → is_over s.moment a ≡ true →
       R (due_done (with_startup s (without_attempt_by s.startup near (end_of_aim near Expired aim))) (due_end near aim))
   end_walked near a (AtPeer peer n) aims there over = k.ends near a peer n aims there over
+  end_walked near a (ByName name) aims there over = k.unseeks near a name aims there over
 
   attempt_walked : (e : ℕ × AttemptState) → get s.startup.attempts e.0 ≡ Some e.1 → (b : Bool) → is_over s.moment e.1 ≡ b →
       R (due_done (with_startup s (if b then without_attempt_by s.startup e.0 (end_of_aim e.0 Expired e.1.aim) else with_attempt s.startup e.0 (repeated e.1 s.moment))) (if b then due_end e.0 e.1.aim else repeat_of s.startup e.0 e.1))

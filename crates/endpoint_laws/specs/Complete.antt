@@ -1,5 +1,6 @@
 -- What keyings give that nothing refuses.
 use Rattle.std.specs.Prelude.{ℕ, ◌≡◌, ◌≢◌, ◌+◌, ◌-◌, ◌^◌, ◌<◌, true, List, [], ◌∷◌, ◌++◌, take, Some, None, Ok}
+use Rattle.std.specs.List.{AllByRecursion}
 use Rattle.std.specs.FinMap.{get}
 use Rattle.crypto_profile.specs.declared.keys.Context.{Context}
 use Rattle.crypto_profile.specs.declared.keys.Context.TheVariants.{Startup}
@@ -20,14 +21,14 @@ use Rattle.startup.specs.declared.aim.Aim.TheVariants.{AtPeer}
 use Rattle.startup.specs.State.{AttemptState}
 use Rattle.endpoint_model.specs.declared.walk.Walk.{Walk}
 use Rattle.endpoint_model.specs.declared.config.Draws.{Draws}
-use Rattle.endpoint_model.specs.declared.place.Place.TheVariants.{Attempt}
+use Rattle.endpoint_model.specs.declared.place.Place.TheVariants.{Startup as StartupPlace, Attempt}
 use Rattle.endpoint_model.specs.declared.entry.Entry.{Entry}
 use Rattle.endpoint_model.specs.declared.entry.Entry.TheVariants.{Fact as FactEntry, Out}
 use Rattle.endpoint_model.specs.Views.{out_in}
-use Rattle.endpoint_model.specs.Event.{Setup, own_of, Receive, Answer, Began, Done, NotOpened, Refused, NotAdded, Stopped, OutOfMemory, Event, moment_at}
-use Rattle.endpoint_laws.specs.Past.{facts_of, last_moment, past_of_log, out_count, outs_of}
+use Rattle.endpoint_model.specs.Event.{Setup, own_of, Receive, Answer, Began, Searching, Done, NotOpened, NotSought, Refused, NotAdded, Stopped, OutOfMemory, Event, moment_at}
+use Rattle.endpoint_laws.specs.Past.{Past, facts_of, onto, last_moment, past_of_log, out_count, outs_of}
 use Rattle.endpoint_laws.specs.Contexts.{session_context}
-use Rattle.endpoint_model.specs.Keying.{IsFirst, chunks_of}
+use Rattle.endpoint_model.specs.Keying.{chunks_of}
 use Rattle.endpoint_laws.specs.Admissible.{Admissible, Offer}
 use Rattle.endpoint_laws.specs.Lawful.{AnswersAttempt}
 use Rattle.endpoint_model.specs.State.{State, at_moment, current_generation}
@@ -86,12 +87,29 @@ taken_event moment from datagram draws answer entries =
 -- that found no memory.
 abbrev pub WentThrough : Answer → List Placed → List Placed → Type 0
 WentThrough (Began n) chunks gone = ⊥
+WentThrough (Searching near) chunks gone = ⊥
 WentThrough Done chunks gone = gone ≡ chunks
 WentThrough (NotOpened refusal) chunks gone = ⊥
+WentThrough (NotSought refusal) chunks gone = ⊥
 WentThrough (Refused refusal) chunks gone = ⊥
 WentThrough (NotAdded refusal) chunks gone = ⊥
 WentThrough (Stopped stop) chunks gone = (stop.taken ≡ true) × (gone ≡ take stop.chunks chunks)
 WentThrough OutOfMemory chunks gone = ⊥
+
+-- The chunks before this one, of those that were gone through. None of them has its type.
+pub record IsBehind (front : List Placed) (chunk : Placed) (gone : List Placed) : Type 0 where
+  pub back : List Placed
+  pub whole : gone ≡ front ++ chunk ∷ back
+  pub others : AllByRecursion (λ c. c.kind ≢ chunk.kind) front
+
+-- What an end did up to a chunk of a datagram that it takes outside of sessions: what its log says,
+-- and what the chunks before added. Where none of them answers a search, these state nothing.
+abbrev pub done_up_to : List Event → State → ℕ → AddressParts → Draws → List Placed → Past
+done_up_to log s moment from draws front =
+    onto (at_moment s moment).moment
+    (chunks_did (StartupPlace current_generation) from draws outset (at_moment s moment)
+    front).entries
+    (past_of_log log)
 
 -- how many datagrams went out, among entries
 abbrev pub outs_in : List Entry → ℕ
@@ -99,21 +117,22 @@ outs_in [] = 0
 outs_in (entry ∷ rest) = out_count (out_in entry) + outs_in rest
 
 -- Where the end with this log takes a datagram whose first initiator's keying is admissible by what
--- the log says, and goes through this keying, the session of its offer is born and told in that
--- call. The peer's fingerprint isn't the own one, and fewer than 2^64 - 1 datagrams went out, so
+-- was done up to it, and goes through this keying, the session of its offer is born and told in
+-- that call. The peer's fingerprint isn't the own one, and fewer than 2^64 - 1 datagrams went out, so
 -- that each has a number.
 abbrev pub AdmissibleKeyingsBear : Type 0
 AdmissibleKeyingsBear = (setup : Setup) (log : List Event) (s t : State) (moment : ℕ)
     (from : AddressParts) (datagram : List ℕ) (draws : Draws) (answer : Answer)
-    (entries : List Entry) (offer : Offer) (gone : List Placed)
+    (entries : List Entry) (offer : Offer) (front gone : List Placed)
     → IsSetup setup → AreCalls log → StandsFor setup log s → IsCall (Receive from datagram draws)
     → Step s (taken_event moment from datagram draws answer entries) t
-    → (a : Admissible setup (past_of_log log)
+    → (a : Admissible setup (done_up_to log s moment from draws front)
     (moment_at (last_moment 0 log) (taken_event moment from datagram draws answer entries)) from
     datagram offer)
-    → WentThrough answer (chunks_of a.packet) gone → IsFirst a.chunk gone
+    → WentThrough answer (chunks_of a.packet) gone → IsBehind front a.chunk gone
     → offer.peer ≢ own_of setup → outs_of (past_of_log log) + outs_in entries < 2 ^ 64 - 1
-    → (j : Joined) × IsOfOffer offer draws.nonce (facts_of (past_of_log log)) j ×
+    → (j : Joined) ×
+    IsOfOffer offer draws.nonce (facts_of (done_up_to log s moment from draws front)) j ×
     IsBornAndTold setup from j entries
 
 -- ---- responders' keyings

@@ -13,7 +13,7 @@ use Rattle.glare_core.specs.Standing.{held}
 use Rattle.glare_core.specs.Things.{near_of}
 use Rattle.glare_core.specs.Tells.{Values, as_initiator, as_responder}
 use Rattle.endpoint_model.specs.State.{current_generation}
-use Rattle.endpoint_laws.specs.Past.{Past, facts_of, IsClosing}
+use Rattle.endpoint_laws.specs.Past.{Past, Search, facts_of, IsClosing, IsSearch}
 
 -- the context of a session, in one direction
 abbrev pub session_context : Values → Bool → Context
@@ -46,7 +46,13 @@ abbrev pub StandsUnder : Past → ℕ → Held → Type 0
 StandsUnder past near thing = HeldUnder (facts_of past) near thing ⊎
     ((at : ℕ) × IsClosing near thing at past)
 
--- the contexts of session ID 0, in order
+-- A search stands under this session ID.
+pub record SearchUnder (past : Past) (near : ℕ) : Type 0 where
+  pub which : Search
+  pub at : ℕ
+  pub stands : IsSearch near which at past
+
+-- the contexts of session ID 0, and of a search's, in order
 abbrev pub startup_contexts : List Context
 startup_contexts = Startup current_generation ∷ []
 
@@ -54,11 +60,11 @@ startup_contexts = Startup current_generation ∷ []
 abbrev pub inward_contexts : List ℕ → Held → List Context
 inward_contexts own thing = inward own thing ∷ []
 
--- The contexts of a session ID at an end that did this, in order: startup for 0 and for an
--- attempt's, and a session's own for that of a session that is held or closing.
+-- The contexts of a session ID at an end that did this, in order: startup for 0, for a search's and
+-- for an attempt's, and a session's own for that of a session that is held or closing.
 abbrev pub ContextsOf : List ℕ → Past → ℕ → List Context → Type 0
 ContextsOf own past sid contexts =
-    ((sid ≡ 0) × (contexts ≡ startup_contexts)) ⊎
+    (((sid ≡ 0) ⊎ SearchUnder past sid) × (contexts ≡ startup_contexts)) ⊎
     ((thing : Held) × StandsUnder past sid thing × (contexts ≡ inward_contexts own thing))
 
 -- The datagram goes under this session ID, opens in this context, and has this plain packet.

@@ -8,7 +8,9 @@ use Rattle.packet_scramble.specs.Datagram.{datagram}
 use Rattle.rtmfp_packet.specs.Whole.{Whole}
 use Rattle.rtmfp_packet.specs.Walk.{Placed}
 use Rattle.rtmfp_packet.specs.Reading.{PacketReading}
-use Rattle.rtmfp_chunks.specs.Chunk.{RIKeying, Close as CloseChunk, CloseAck, Spells}
+use Rattle.rtmfp_chunks.specs.Chunk.{RHello, RIKeying, Close as CloseChunk, CloseAck, Spells}
+use Rattle.sha2.specs.Sha256.{sha256}
+use Rattle.identity.specs.Certificates.{IsCertificate}
 use Rattle.glare_core.specs.declared.facts.Why.{Why}
 use Rattle.glare_core.specs.declared.facts.Why.TheVariants.{Cancelled, Expired, Glare, Override, Unconfirmed, Near, Far, Idle}
 use Rattle.glare_core.specs.declared.facts.Fact.{Fact}
@@ -20,11 +22,11 @@ use Rattle.glare_core.specs.Standing.{held, count}
 use Rattle.glare_core.specs.Stands.{Stands, IsBornOf, IsForBorn}
 use Rattle.glare_core.specs.Told.{AllDifferent}
 use Rattle.endpoint_model.specs.declared.entry.Entry.{Entry}
-use Rattle.endpoint_model.specs.Views.{Sending, fact_in, out_in, closed_in}
+use Rattle.endpoint_model.specs.Views.{Sending, NamedSearch, EndedSearch, fact_in, out_in, closed_in, sought_in, unsought_in}
 use Rattle.endpoint_model.specs.declared.config.Draws.{Draws}
-use Rattle.endpoint_model.specs.Event.{Setup, own_of, Call, OpenCall, ReceiveCall, open_in, cancel_in, close_in, receive_in, tick_in, Event, moment_at}
+use Rattle.endpoint_model.specs.Event.{Setup, own_of, Call, OpenCall, SeekCall, ReceiveCall, open_in, seek_in, unseek_in, cancel_in, close_in, receive_in, tick_in, Event, moment_at}
 use Rattle.endpoint_model.specs.State.{current_generation}
-use Rattle.endpoint_laws.specs.Past.{Past, with_event, facts_of, is_in_use, IsClosing, taken_since, nothing_done, with_begun, with_entry, with_fact, WasStated, WentOut}
+use Rattle.endpoint_laws.specs.Past.{Past, Search, IsSearch, with_event, facts_of, is_in_use, IsClosing, taken_since, nothing_done, with_begun, with_entry, with_fact, WasStated, WentOut}
 use Rattle.endpoint_laws.specs.Contexts.{ReadsUnder, StandsUnder, inward, outward, OpensUnder}
 use Rattle.endpoint_laws.specs.Taken.{TookAt, TakesChunkIn}
 use Rattle.endpoint_model.specs.Keying.{IsSigned, IsAmong, KeyingsAre, chunks_of, initiator_part, responder_part}
@@ -44,6 +46,21 @@ OpensIn (Some o) peer ni = (o.peer ≡ peer) × (ni ≡ o.draws.nonce)
 
 abbrev pub Opens : Call → List ℕ → List ℕ → Type 0
 Opens call peer ni = OpensIn (open_in call) peer ni
+
+-- The call seeks an end with this name.
+abbrev pub SeeksIn : Option SeekCall → List ℕ → Type 0
+SeeksIn None name = ⊥
+SeeksIn (Some seek) name = seek.name ≡ name
+
+abbrev pub Seeks : Call → List ℕ → Type 0
+Seeks call name = SeeksIn (seek_in call) name
+
+abbrev pub UnseeksIn : Option ℕ → ℕ → Type 0
+UnseeksIn None near = ⊥
+UnseeksIn (Some id) near = id ≡ near
+
+abbrev pub Unseeks : Call → ℕ → Type 0
+Unseeks call near = UnseeksIn (unseek_in call) near
 
 abbrev pub CancelsIn : Option ℕ → ℕ → Type 0
 CancelsIn None n = ⊥
@@ -97,6 +114,36 @@ TakesAnswerIn setup (Some r) j = AnswersAttempt setup.secret j r.datagram
 abbrev pub TakesAnswer : Setup → Call → Joined → Type 0
 TakesAnswer setup call j = TakesAnswerIn setup (receive_in call) j
 
+-- The datagram opens in the startup context under session ID 0, and a responder's hello in it has
+-- the tag of a search under this session ID with this nonce, and a certificate of the search's
+-- name and of this peer.
+pub record AnswersSearch (secret : List ℕ) (past : Past) (datagram peer : List ℕ) (n near : ℕ)
+    (ni : List ℕ) : Type 0 where
+  pub packet : Whole
+  pub reads : ReadsUnder secret (Startup current_generation) 0 datagram packet
+  pub chunk : Placed
+  pub among : IsAmong chunk (chunks_of packet)
+  pub tag : List ℕ
+  pub cookie : List ℕ
+  pub cert : List ℕ
+  pub spells : Spells (RHello tag cookie cert) chunk.kind chunk.payload
+  pub is_cert : IsCertificate cert
+  pub peer_is : peer ≡ sha256 cert
+  pub at : ℕ
+  pub stands : IsSearch near (record { name = drop 16 cert; tag = tag; ni = ni }) at past
+  -- the nonce and the number go out in 16 bytes and 8
+  pub nonce_size : length ni ≡ 16
+  pub number : n < 2 ^ 64
+
+abbrev pub TakesHelloIn : Setup → Past → Option ReceiveCall → List ℕ → ℕ → ℕ → List ℕ → Type 0
+TakesHelloIn setup past None peer n near ni = ⊥
+TakesHelloIn setup past (Some r) peer n near ni =
+    AnswersSearch setup.secret past r.datagram peer n near ni
+
+abbrev pub TakesHello : Setup → Past → Call → List ℕ → ℕ → ℕ → List ℕ → Type 0
+TakesHello setup past call peer n near ni =
+    TakesHelloIn setup past (receive_in call) peer n near ni
+
 -- The call takes a datagram that opens under this session ID, in the context of this thing.
 abbrev pub TakesUnderIn : Setup → Option ReceiveCall → ℕ → Held → Type 0
 TakesUnderIn setup None near thing = ⊥
@@ -108,10 +155,11 @@ TakesUnder setup call near thing = TakesUnderIn setup (receive_in call) near thi
 
 -- ---- the lines of facts
 
-pub record StartedLine (call : Call) (past : Past) (peer : List ℕ) (near : ℕ)
-    (ni : List ℕ) : Type 0 where
-  pub by : Opens call peer ni
-  pub id : IsFree near past
+-- An attempt starts by an open, under a session ID that is free; or by the answer to a search, under
+-- the search's.
+abbrev pub StartedLine : Setup → Call → Past → List ℕ → ℕ → ℕ → List ℕ → Type 0
+StartedLine setup call past peer n near ni = (Opens call peer ni × IsFree near past) ⊎
+    TakesHello setup past call peer n near ni
 
 -- What was done before a Born, and before the Ended directly before it that makes way for it, if
 -- there is one.
@@ -211,7 +259,7 @@ EndedLine setup now call past rest peer near Idle = IsTick call × IsIdle setup 
 -- What a fact asks of its event, beside what the facts before it ask.
 abbrev pub FactLine : Setup → ℕ → Call → Past → List Entry → Fact → Type 0
 FactLine setup now call past rest (Started peer n near ni) =
-    StartedLine call past peer near ni
+    StartedLine setup call past peer n near ni
 FactLine setup now call past rest (Born j) = BornLine setup now call past j
 FactLine setup now call past rest (Opened j) = TakesAnswer setup call j
 FactLine setup now call past rest (Confirmed peer near) =
@@ -323,23 +371,58 @@ pub record ClosedLine (setup : Setup) (now : ℕ) (call : Call) (past : Past) (n
   pub by : TakesChunkIn setup past thing near (receive_in call) CloseAck ⊎
       (IsTick call × (at + 19000 ≤ now))
 
+-- ---- the lines of searches
+
+-- A search begins by a seek of its name, under a session ID that is free.
+pub record SoughtLine (call : Call) (past : Past) (near : ℕ) (name : List ℕ) : Type 0 where
+  pub by : Seeks call name
+  pub id : IsFree near past
+
+-- A search is cancelled by its unseek, and expires at a tick, so long after it began.
+abbrev pub SearchEnds : Call → ℕ → ℕ → ℕ → Why → Type 0
+SearchEnds call near at now Cancelled = Unseeks call near
+SearchEnds call near at now Expired = IsTick call × (at + lifetime ≤ now)
+SearchEnds call near at now Glare = ⊥
+SearchEnds call near at now Override = ⊥
+SearchEnds call near at now Unconfirmed = ⊥
+SearchEnds call near at now Near = ⊥
+SearchEnds call near at now Far = ⊥
+SearchEnds call near at now Idle = ⊥
+
+-- A search stands under this session ID, and ends so.
+pub record UnsoughtLine (now : ℕ) (call : Call) (past : Past) (near : ℕ) (why : Why)
+    : Type 0 where
+  pub which : Search
+  pub at : ℕ
+  pub stands : IsSearch near which at past
+  pub by : SearchEnds call near at now why
+
 -- ---- the table
 
--- the line of an entry, which is a fact, a datagram that goes out, the end of a closing, or none of
--- these
+-- the line of what an entry says of a search, if it does: that it begins, or that it is over
+abbrev pub SearchLine : ℕ → Call → Past → Option NamedSearch → Option EndedSearch → Type 0
+SearchLine now call past (Some sought) ended = SoughtLine call past sought.near sought.name
+SearchLine now call past None (Some ended) = UnsoughtLine now call past ended.near ended.why
+SearchLine now call past None None = Unit {0}
+
+-- the line of an entry, which is a fact, a datagram that goes out, the end of a closing, the
+-- beginning or the end of a search, or none of these
 abbrev pub LineOf : Setup → ℕ → Call → Past → List Entry → Option Fact → Option Sending →
-    Option ℕ → Type 0
-LineOf setup now call past rest (Some fact) sent over =
+    Option ℕ → Option NamedSearch → Option EndedSearch → Type 0
+LineOf setup now call past rest (Some fact) sent over sought ended =
     Stands (own_of setup) (count (facts_of past)) (facts_of past) fact ×
     FactLine setup now call past rest fact × IsCounted fact
-LineOf setup now call past rest None (Some sent) over =
+LineOf setup now call past rest None (Some sent) over sought ended =
     OutLine setup past sent.datagram sent.context
-LineOf setup now call past rest None None (Some near) = ClosedLine setup now call past near
-LineOf setup now call past rest None None None = Unit {0}
+LineOf setup now call past rest None None (Some near) sought ended =
+    ClosedLine setup now call past near
+LineOf setup now call past rest None None None sought ended =
+    SearchLine now call past sought ended
 
 abbrev pub Line : Setup → ℕ → Call → Past → List Entry → Entry → Type 0
 Line setup now call past rest entry =
     LineOf setup now call past rest (fact_in entry) (out_in entry) (closed_in entry)
+    (sought_in entry) (unsought_in entry)
 
 -- the entries of an event, in order
 abbrev pub EntriesLawful : Setup → ℕ → Call → Past → List Entry → Type 0

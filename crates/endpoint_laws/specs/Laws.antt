@@ -3,7 +3,8 @@ use Rattle.std.specs.Prelude.{ℕ, ◌≡◌, ◌≤◌, ◌<◌, ◌^◌, List,
 use Rattle.identity.specs.Certificates.{IsCertificate}
 use Rattle.glare_core.specs.Account.{StandsFor as AccountStandsFor}
 use Rattle.glare_core.specs.Ledger.{row_count}
-use Rattle.endpoint_model.specs.Event.{Setup, Call, Open, Receive, Event}
+use Rattle.identity.specs.ServiceNames.{IsServiceName}
+use Rattle.endpoint_model.specs.Event.{Setup, Call, Open, Seek, Receive, Event}
 use Rattle.endpoint_laws.specs.Past.{facts_of, past_of_log}
 use Rattle.endpoint_model.specs.State.{State, uses}
 use Rattle.endpoint_model.specs.Log.{StandsFor}
@@ -24,6 +25,8 @@ AreBytes bytes = All (λ byte. byte < 2 ^ 8) bytes
 abbrev pub IsCall : Call → Type 0
 IsCall (Open peer candidates draws) = (length peer ≡ 32) × (length draws.nonce ≡ 16) ×
     (draws.word < 2 ^ 32) × (length draws.tag ≡ 16)
+IsCall (Seek name candidates draws) = IsServiceName name × (length draws.nonce ≡ 16) ×
+    (draws.word < 2 ^ 32) × (length draws.tag ≡ 16)
 IsCall (Receive from datagram draws) = AreBytes datagram × (length draws.nonce ≡ 16) ×
     (draws.word < 2 ^ 32) × (length draws.token ≡ 16)
 IsCall call = Unit {0}
@@ -43,7 +46,7 @@ TheLedgerIsOfTheLog = (setup : Setup) (log : List Event) (s : State) → IsSetup
     AreCalls log → StandsFor setup log s
     → AccountStandsFor 0 s.startup.ledger (facts_of (past_of_log log))
 
--- There are never more attempts and sessions than may be.
+-- There are never more attempts, searches and sessions than may be.
 abbrev pub UsesAreWithin : Type 0
 UsesAreWithin = (setup : Setup) (log : List Event) (s : State) → IsSetup setup → AreCalls log →
     StandsFor setup log s → uses s ≤ setup.config.max_sessions

@@ -4,6 +4,7 @@ pub mod Taken
 pub mod Admissible
 pub mod Lawful
 pub mod History
+pub mod Draws
 pub mod Laws
 pub mod OfTheLog
 pub mod Agreed

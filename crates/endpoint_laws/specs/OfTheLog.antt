@@ -11,7 +11,7 @@ use Rattle.glare_core.specs.Standing.{held, seen, count, peers_in}
 use Rattle.glare_core.specs.Things.{IsSession, near_of}
 use Rattle.glare_core.specs.Ledger.{held_with, floor_of, knows, row_count}
 use Rattle.startup.specs.declared.aim.Aim.{Aim}
-use Rattle.startup.specs.declared.aim.Aim.TheVariants.{AtPeer}
+use Rattle.startup.specs.declared.aim.Aim.TheVariants.{AtPeer, ByName}
 use Rattle.startup.specs.State.{AttemptState}
 use Rattle.session_core.specs.declared.stage.Role.{Role}
 use Rattle.session_core.specs.declared.stage.Role.TheVariants.{Initiator, Responder}
@@ -20,7 +20,7 @@ use Rattle.session_core.specs.declared.stage.Stage.TheVariants.{Opening, Open, N
 use Rattle.session_core.specs.Session.{SessionState}
 use Rattle.endpoint_model.specs.declared.row.Row.{Row}
 use Rattle.endpoint_model.specs.Event.{Setup, own_of, Event}
-use Rattle.endpoint_laws.specs.Past.{Past, facts_of, ids_in_use, is_in_use, IsClosing, last_moment, past_of_log, WasStated}
+use Rattle.endpoint_laws.specs.Past.{Past, Search, facts_of, ids_in_use, is_in_use, IsClosing, IsSearch, last_moment, past_of_log, WasStated}
 use Rattle.endpoint_model.specs.State.{State, uses, is_used}
 use Rattle.endpoint_model.specs.Log.{StandsFor}
 use Rattle.endpoint_laws.specs.Laws.{IsSetup, AreCalls}
@@ -40,19 +40,27 @@ IsThing Responder NearClose j thing = ⊥
 IsThing Responder FarLinger j thing = ⊥
 IsThing Responder Closed j thing = ⊥
 
--- what is towards a peer is held with it
-abbrev pub IsHeldByLog : Past → ℕ → List ℕ → Aim → Type 0
-IsHeldByLog past near ni (AtPeer peer n) = held peer (facts_of past)
-    ≡ Some (AttemptHeld n near ni)
+-- What is towards a peer is held with it, and was started at this moment; what is towards a name is
+-- a search that began then.
+abbrev pub IsOfAim : Past → ℕ → AttemptState → Aim → Type 0
+IsOfAim past near a (AtPeer peer n) =
+    (held peer (facts_of past) ≡ Some (AttemptHeld n near a.ni)) ×
+    WasStated a.start (Started peer n near a.ni) past
+IsOfAim past near a (ByName name) =
+    IsSearch near (record { name = name; tag = a.tag; ni = a.ni }) a.start past
 
--- and was started at this moment
-abbrev pub WasStartedAs : Past → ℕ → ℕ → List ℕ → Aim → Type 0
-WasStartedAs past start near ni (AtPeer peer n) = WasStated start (Started peer n near ni) past
+-- The attempt or search under this session ID is there as what it aims at.
+abbrev pub AttemptIsHeld : Past → ℕ → AttemptState → Type 0
+AttemptIsHeld past near a = IsOfAim past near a a.aim
 
--- The attempt under this session ID is held as what it aims at, and was started at its moment.
-pub record AttemptIsHeld (past : Past) (near : ℕ) (a : AttemptState) : Type 0 where
-  pub is_held : IsHeldByLog past near a.ni a.aim
-  pub started : WasStartedAs past a.start near a.ni a.aim
+-- A search is there under its session ID.
+pub record SearchIsThere (s : State) (near : ℕ) (which : Search) (at : ℕ) : Type 0 where
+  pub attempt : AttemptState
+  pub there : get s.startup.attempts near ≡ Some attempt
+  pub aim_is : attempt.aim ≡ ByName which.name
+  pub tag_is : attempt.tag ≡ which.tag
+  pub ni_is : attempt.ni ≡ which.ni
+  pub start_is : attempt.start ≡ at
 
 -- An attempt that is held is there under its session ID.
 pub record AttemptIsThere (s : State) (peer : List ℕ) (n near : ℕ) (ni : List ℕ) : Type 0 where
@@ -107,11 +115,13 @@ pub record IsOfTheLog (setup : Setup) (s : State) (now : ℕ) (past : Past) : Ty
   -- the session IDs in use, and how many there are
   pub ids : (near : ℕ) → is_used s near ≡ is_in_use near past
   pub uses_are : uses s ≡ length (ids_in_use past)
-  -- the attempts
+  -- the attempts and searches
   pub attempts : (near : ℕ) (a : AttemptState) → get s.startup.attempts near ≡ Some a →
       AttemptIsHeld past near a
   pub attempts_there : (peer : List ℕ) (n near : ℕ) (ni : List ℕ) →
       held peer (facts_of past) ≡ Some (AttemptHeld n near ni) → AttemptIsThere s peer n near ni
+  pub searches_there : (near : ℕ) (which : Search) (at : ℕ) → IsSearch near which at past →
+      SearchIsThere s near which at
   -- the sessions, with their stages
   pub sessions : (near : ℕ) (row : Row) → get s.sessions near ≡ Some row →
       SessionIsOfTheLog setup past near row.session

@@ -11,8 +11,8 @@ use Rattle.glare_core.specs.declared.facts.Fact.TheVariants.{Started, Born, Open
 use Rattle.glare_core.specs.Standing.{held}
 use Rattle.endpoint_model.specs.declared.entry.Entry.{Entry}
 use Rattle.endpoint_model.specs.declared.entry.Entry.TheVariants.{Fact as FactEntry}
-use Rattle.endpoint_model.specs.Event.{ReceiveCall, receive_in, Answer, Began, Done, NotOpened, Refused, NotAdded, Stopped, OutOfMemory, Event, moment_at}
-use Rattle.endpoint_model.specs.Views.{Sending, fact_in, out_in, closed_in}
+use Rattle.endpoint_model.specs.Event.{SeekCall, ReceiveCall, seek_in, receive_in, Call, Answer, Began, Searching, Done, NotOpened, NotSought, Refused, NotAdded, Stopped, OutOfMemory, Event, moment_at}
+use Rattle.endpoint_model.specs.Views.{Sending, NamedSearch, EndedSearch, fact_in, out_in, closed_in, sought_in, unsought_in}
 
 -- what happened: an event began, or an entry was added in it
 pub data Happening : Type 0 where
@@ -159,29 +159,102 @@ IsClosing near thing at (s ∷ earlier) =
     (Closes near thing (facts_of earlier) (fact_done s.what) × (s.moment ≡ at)) ⊎
     (GoesOn near (closed_done s.what) × IsClosing near thing at earlier)
 
+-- ---- searches
+
+abbrev pub sought_done : Happening → Option NamedSearch
+sought_done (OfEvent event) = None
+sought_done (OfEntry entry) = sought_in entry
+
+abbrev pub unsought_done : Happening → Option EndedSearch
+unsought_done (OfEvent event) = None
+unsought_done (OfEntry entry) = unsought_in entry
+
+-- the call of the last event that began
+abbrev pub call_done : Happening → Option Call → Option Call
+call_done (OfEvent event) before = Some event.call
+call_done (OfEntry entry) before = before
+
+abbrev pub last_call : Past → Option Call
+last_call [] = None
+last_call (s ∷ earlier) = call_done s.what (last_call earlier)
+
+-- the seek that it is
+abbrev pub seek_of : Option Call → Option SeekCall
+seek_of None = None
+seek_of (Some call) = seek_in call
+
+-- what a search looks for, and the tag and the nonce that its seek drew
+pub record Search : Type 0 where
+  pub name : List ℕ
+  pub tag : List ℕ
+  pub ni : List ℕ
+
+-- The call draws this tag and this nonce.
+abbrev pub DrawsFor : Search → Option SeekCall → Type 0
+DrawsFor which None = ⊥
+DrawsFor which (Some seek) = (which.tag ≡ seek.draws.tag) × (which.ni ≡ seek.draws.nonce)
+
+-- The search begins under this session ID, by an event of this call.
+abbrev pub WasSought : ℕ → Search → Option NamedSearch → Option Call → Type 0
+WasSought near which None call = ⊥
+WasSought near which (Some sought) call = (sought.near ≡ near) × (sought.name ≡ which.name) ×
+    DrawsFor which (seek_of call)
+
+-- the session ID of a search that is over, and that of an attempt that starts
+abbrev pub unsought_id : Option EndedSearch → Option ℕ
+unsought_id None = None
+unsought_id (Some ended) = Some ended.near
+
+abbrev pub started_id : Option Fact → Option ℕ
+started_id None = None
+started_id (Some (Started peer n near ni)) = Some near
+started_id (Some (Born j)) = None
+started_id (Some (Opened j)) = None
+started_id (Some (Confirmed peer near)) = None
+started_id (Some (Ended peer near why)) = None
+
+-- A search stands under this session ID, which began at this moment: it was sought, and since then
+-- neither was it over nor did an attempt start under its session ID.
+abbrev pub IsSearch : ℕ → Search → ℕ → Past → Type 0
+IsSearch near which at [] = ⊥
+IsSearch near which at (s ∷ earlier) =
+    (WasSought near which (sought_done s.what) (last_call earlier) × (s.moment ≡ at)) ⊎
+    (GoesOn near (unsought_id (unsought_done s.what)) ×
+    GoesOn near (started_id (fact_done s.what)) × IsSearch near which at earlier)
+
 -- ---- session IDs
 
--- the session IDs in use after a fact
+-- the session IDs without one
+abbrev pub without_id : ℕ → List ℕ → List ℕ
+without_id near ids = filter (λ id. not (id == near)) ids
+
+-- The session IDs in use after a fact. A search that becomes an attempt had its session ID already.
 abbrev pub ids_after : Option Fact → List ℕ → List ℕ
 ids_after None ids = ids
-ids_after (Some (Started peer n near ni)) ids = near ∷ ids
+ids_after (Some (Started peer n near ni)) ids = near ∷ without_id near ids
 ids_after (Some (Born j)) ids = j.near ∷ ids
 ids_after (Some (Opened j)) ids = ids
 ids_after (Some (Confirmed peer near)) ids = ids
 ids_after (Some (Ended peer near why)) ids =
-    if is_close why then ids else filter (λ id. not (id == near)) ids
+    if is_close why then ids else without_id near ids
 
--- and after a closing is over
+-- and after a closing or a search is over
 abbrev pub ids_left : Option ℕ → List ℕ → List ℕ
 ids_left None ids = ids
-ids_left (Some near) ids = filter (λ id. not (id == near)) ids
+ids_left (Some near) ids = without_id near ids
 
--- The session IDs that are in use: those of the things that are held or closing, from their Started
--- or Born until their Ended or Closed.
+-- and after a search begins
+abbrev pub ids_sought : Option NamedSearch → List ℕ → List ℕ
+ids_sought None ids = ids
+ids_sought (Some sought) ids = sought.near ∷ ids
+
+-- The session IDs that are in use: those of searches, and of the things that are held or closing,
+-- from their Sought, Started or Born until their Unsought, Ended or Closed.
 abbrev pub ids_in_use : Past → List ℕ
 ids_in_use [] = []
 ids_in_use (s ∷ earlier) =
-    ids_left (closed_done s.what) (ids_after (fact_done s.what) (ids_in_use earlier))
+    ids_sought (sought_done s.what) (ids_left (unsought_id (unsought_done s.what))
+    (ids_left (closed_done s.what) (ids_after (fact_done s.what) (ids_in_use earlier))))
 
 -- whether a session ID is in use
 abbrev pub is_in_use : ℕ → Past → Bool
@@ -197,8 +270,10 @@ pub record Taken : Type 0 where
 -- A call that found no memory before it took its datagram didn't take it.
 abbrev pub was_gone_through : Answer → Bool
 was_gone_through (Began n) = true
+was_gone_through (Searching near) = true
 was_gone_through Done = true
 was_gone_through (NotOpened refusal) = true
+was_gone_through (NotSought refusal) = true
 was_gone_through (Refused refusal) = true
 was_gone_through (NotAdded refusal) = true
 was_gone_through (Stopped stop) = stop.taken

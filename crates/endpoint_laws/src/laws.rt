@@ -3,6 +3,7 @@
 
 ghost use Rattle.endpoint_laws.specs.Agreed.{EveryLawfulHistoryIsAgreed, EachEndStatesItsLog, EachPrefixIsAMoment, LogsKeepTheSame};
 ghost use Rattle.endpoint_laws.specs.Complete.{AdmissibleKeyingsBear, KeyingsWithoutCauseOpen};
+ghost use Rattle.endpoint_laws.specs.Draws.{WhatIsDrawnOnceIsStatedOnce};
 ghost use Rattle.endpoint_laws.specs.Handed.{EveryMessageIsHandedOver};
 ghost use Rattle.endpoint_laws.specs.Within.{FlowsAreWithin, FlowsHoldFew, NoAckIsOwed};
 ghost use Rattle.endpoint_laws.specs.Laws.{EveryLogIsLawful, TheLedgerIsOfTheLog, UsesAreWithin, RowsAreWithin};
@@ -25,7 +26,7 @@ pub fn state_of_the_log()
     ensures { TheStateIsOfTheLog }
 {}
 
-/// There are never more attempts and sessions than may be.
+/// There are never more attempts, searches and sessions than may be.
 pub fn uses_are_within()
     ensures { UsesAreWithin }
 {}
@@ -33,6 +34,12 @@ pub fn uses_are_within()
 /// There are never more rows of peers than may be.
 pub fn rows_are_within()
     ensures { RowsAreWithin }
+{}
+
+/// Where no nonce is drawn twice in a lawful history, none is stated twice: a search becomes one
+/// attempt at most, and then its nonce is that attempt's.
+pub fn what_is_drawn_once_is_stated_once()
+    ensures { WhatIsDrawnOnceIsStatedOnce }
 {}
 
 /// Each history of ends of one group that is lawful, honest and fresh is agreed: at each moment,

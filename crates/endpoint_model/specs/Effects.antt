@@ -15,6 +15,7 @@ use Rattle.cookies.specs.Cookie.{observed}
 use Rattle.identity.specs.declared.discriminator.Epd.{Epd}
 use Rattle.identity.specs.Discriminators.{discriminator_of}
 use Rattle.identity.specs.Targets.{selects, target_of}
+use Rattle.glare_core.specs.declared.facts.Why.TheVariants.{Cancelled, Expired}
 use Rattle.glare_core.specs.declared.facts.Fact.{Fact}
 use Rattle.glare_core.specs.declared.facts.Fact.TheVariants.{Started, Born, Opened, Confirmed, Ended}
 use Rattle.glare_core.specs.declared.answers.StartRefusal.{StartRefusal}
@@ -25,8 +26,8 @@ use Rattle.startup.specs.declared.answer.Answer.{Answer}
 use Rattle.startup.specs.declared.answer.Keyed.{Keyed}
 use Rattle.startup.specs.declared.answer.Keyed.TheVariants.{Change, Again, Birth}
 use Rattle.startup.specs.declared.answer.Due.{Due}
-use Rattle.startup.specs.declared.answer.Due.TheVariants.{Ended as EndDue, Hello as HelloDue, Keying as KeyingDue}
-use Rattle.startup.specs.Attempts.{begin_spread, after_begin, cancel_fact, after_cancel, after_rhello, rhello_keying, after_cookie_change, cookie_change_keying}
+use Rattle.startup.specs.declared.answer.Due.TheVariants.{Ended as EndDue, Hello as HelloDue, Keying as KeyingDue, Unsought as UnsoughtDue}
+use Rattle.startup.specs.Attempts.{begin_spread, after_begin, seek_spread, after_seek, has_search, after_unseek, cancel_fact, after_cancel, rhello_fact, after_rhello, rhello_keying, after_cookie_change, cookie_change_keying}
 use Rattle.startup.specs.State.{SpreadParts}
 use Rattle.startup.specs.Redirects.{after_redirect, redirect_spread, sent_by_spread}
 use Rattle.startup.specs.Due.{due, after_due}
@@ -38,9 +39,13 @@ use Rattle.endpoint_model.specs.declared.place.Place.{Place}
 use Rattle.endpoint_model.specs.declared.walk.Walk.{Walk}
 use Rattle.endpoint_model.specs.declared.row.Row.{Row}
 use Rattle.endpoint_model.specs.declared.row_due.RowDue.{RowDue}
-use Rattle.endpoint_model.specs.declared.entry.Entry.TheVariants.{Fact as FactEntry, Discard}
+use Rattle.endpoint_model.specs.declared.entry.Entry.TheVariants.{Fact as FactEntry, Sought, Unsought, Discard}
 use Rattle.endpoint_model.specs.declared.answers.OpenRefusal.{OpenRefusal}
 use Rattle.endpoint_model.specs.declared.answers.OpenRefusal.TheVariants.{Candidates, Start, SessionsFull}
+use Rattle.endpoint_model.specs.declared.answers.SeekRefusal.{SeekRefusal}
+use Rattle.endpoint_model.specs.declared.answers.SeekRefusal.TheVariants.{Candidates as TooFewOrMany, SessionsFull as NoPlace}
+use Rattle.session_flows.specs.declared.refusal.CallRefusal.{CallRefusal}
+use Rattle.session_flows.specs.declared.refusal.CallRefusal.TheVariants.{NoAttempt}
 use Rattle.endpoint_model.specs.State.{State, Sessions, Did, current_generation, nothing, after_entries, then_do, fact_entries, with_startup, with_sessions, new_row, free_from, full}
 use Rattle.endpoint_model.specs.Sending.{sent_answer, sent_if, sent_spread, sent_in_session}
 use Rattle.endpoint_model.specs.Introducing.{forwarded_to, redirected_to, redirect_of}
@@ -80,6 +85,41 @@ opening s peer candidates draws =
     (with_startup s (after_begin s.startup peer candidates (free_from s draws.word) draws.nonce
     draws.tag s.moment))
     (begin_spread s.startup peer candidates draws.nonce draws.tag s.moment))
+
+-- ---- searching for an end with a name
+
+-- there are none or more than 16 candidates
+abbrev pub places_refusal : ℕ → Option SeekRefusal
+places_refusal count = where_true ((count == 0) || nat_lt 16 count) (TooFewOrMany count)
+
+abbrev pub no_place : Option ℕ → Option SeekRefusal
+no_place None = None
+no_place (Some limit) = Some (NoPlace limit)
+
+-- why no search begins, but for want of memory
+abbrev pub seek_refusal : State → List AddressParts → Option SeekRefusal
+seek_refusal s candidates = first_that_stands
+    (places_refusal (length candidates) ∷ no_place (full s) ∷ [])
+
+-- a Sought, then a hello to each candidate place
+abbrev pub seeking : State → List ℕ → List AddressParts → Draws → Did
+seeking s name candidates draws =
+    after_entries (Sought (free_from s draws.word) name ∷ [])
+    (sent_spread
+    (with_startup s (after_seek s.startup name candidates (free_from s draws.word) draws.nonce
+    draws.tag s.moment))
+    (seek_spread name candidates draws.nonce draws.tag s.moment))
+
+-- no search has the session ID
+abbrev pub unseek_refusal : State → ℕ → Option CallRefusal
+unseek_refusal s near = where_true (not (has_search s.startup near)) NoAttempt
+
+-- a search is given up
+abbrev pub unseeking : State → ℕ → Did
+unseeking s near = record {
+  state = with_startup s (after_unseek s.startup near);
+  entries = Unsought near Cancelled ∷ [];
+}
 
 -- ---- giving one up
 
@@ -121,6 +161,7 @@ abbrev pub due_done : State → Due → Did
 due_done s (EndDue fact) = record { state = s; entries = FactEntry fact ∷ [] }
 due_done s (HelloDue spread) = sent_spread s spread
 due_done s (KeyingDue answer) = sent_answer s answer
+due_done s (UnsoughtDue near) = record { state = s; entries = Unsought near Expired ∷ [] }
 
 -- what a thing leaves and adds
 abbrev pub item_done : State → Option Item → Did
@@ -205,7 +246,13 @@ opening_done s near from (Some fact) =
 abbrev pub responder_keyed : State → ℕ → AddressParts → List ℕ → Did
 responder_keyed s near from payload = opening_done s near from (opened s.startup near payload)
 
--- ---- chunks that state nothing: hellos, redirects, changes of cookies, and pings
+-- ---- hellos, redirects, changes of cookies, and pings
+
+-- Of these a responder's hello alone states something: where it answers a search, an attempt
+-- starts.
+abbrev pub read_fact : State → Result Chunk ChunkFault → Option Fact
+read_fact s (Ok (RHello tag cookie cert)) = rhello_fact s.startup tag cert
+read_fact s read = None
 
 -- How such a chunk is answered: not at all; by a startup packet, if there is one to send, or by
 -- hellos, if there are some; in the session that it came in, by the bytes of a body; or by such
@@ -252,7 +299,7 @@ hello_reply s epd tag from =
 -- what it leaves before it is answered
 abbrev pub read_left : State → Place → AddressParts → Result Chunk ChunkFault → State
 read_left s place from (Ok (RHello tag cookie cert)) =
-    with_startup s (after_rhello s.startup tag cookie from s.moment)
+    with_startup s (after_rhello s.startup tag cookie cert from s.moment)
 read_left s place from (Ok (Redirect tag list)) =
     with_startup s (after_redirect s.startup tag list from s.moment)
 read_left s place from (Ok (CookieChange old new)) =
@@ -265,16 +312,17 @@ read_reply s place from (Ok (IHello epd tag)) = hello_reply s epd tag from
 read_reply s place from (Ok (FIHello epd reply tag)) =
     InStartup (Some (initiator_hello_answer s.startup tag reply s.moment))
 read_reply s place from (Ok (RHello tag cookie cert)) =
-    InStartup (rhello_keying s.startup tag cookie from)
+    InStartup (rhello_keying s.startup tag cookie cert from)
 read_reply s place from (Ok (Redirect tag list)) = Hellos (redirect_spread s.startup tag list from)
 read_reply s place from (Ok (CookieChange old new)) =
     InStartup (cookie_change_keying s.startup (sid_at place) old new)
 read_reply s place from (Ok (Ping bytes)) = InSession (chunk_bytes (PingReply bytes))
 read_reply s place from read = Silence
 
+-- the fact, if there is one, and then the answer
 abbrev pub read_done : State → Place → AddressParts → Result Chunk ChunkFault → Did
-read_done s place from read =
-    replied (read_left s place from read) place from (read_reply s place from read)
+read_done s place from read = after_entries (fact_entries (read_fact s read))
+    (replied (read_left s place from read) place from (read_reply s place from read))
 
 -- ---- what a chunk does
 

@@ -7,6 +7,7 @@ use Rattle.introducer.specs.declared.refusal.RowRefusal.{RowRefusal}
 use Rattle.endpoint_model.specs.declared.config.Config.{Config}
 use Rattle.endpoint_model.specs.declared.config.Draws.{Draws}
 use Rattle.endpoint_model.specs.declared.answers.OpenRefusal.{OpenRefusal}
+use Rattle.endpoint_model.specs.declared.answers.SeekRefusal.{SeekRefusal}
 use Rattle.session_flows.specs.declared.refusal.CallRefusal.{CallRefusal}
 use Rattle.endpoint_model.specs.declared.answers.Stopped.{Stopped as Stop}
 use Rattle.endpoint_model.specs.declared.entry.Entry.{Entry}
@@ -24,10 +25,12 @@ pub record Setup : Type 0 where
 abbrev pub own_of : Setup → List ℕ
 own_of setup = sha256 setup.cert
 
--- A call; an open names its peer by the fingerprint, and one on flows its session by the session
--- ID.
+-- A call; an open names its peer by the fingerprint, a seek by the name, and one on flows its
+-- session by the session ID.
 pub data Call : Type 0 where
   Open : (peer : List ℕ) → (candidates : List AddressParts) → (draws : Draws) → Call
+  Seek : (name : List ℕ) → (candidates : List AddressParts) → (draws : Draws) → Call
+  Unseek : (near : ℕ) → Call
   Cancel : (n : ℕ) → Call
   Close : (near : ℕ) → Call
   AddRow : (print : List ℕ) → (addresses : List AddressParts) → Call
@@ -36,9 +39,14 @@ pub data Call : Type 0 where
   Receive : (from : AddressParts) → (datagram : List ℕ) → (draws : Draws) → Call
   Tick : (draws : Draws) → Call
 
--- what an open and a receive are given
+-- what an open, a seek and a receive are given
 pub record OpenCall : Type 0 where
   pub peer : List ℕ
+  pub candidates : List AddressParts
+  pub draws : Draws
+
+pub record SeekCall : Type 0 where
+  pub name : List ℕ
   pub candidates : List AddressParts
   pub draws : Draws
 
@@ -52,6 +60,15 @@ abbrev pub open_in : Call → Option OpenCall
 open_in (Open peer candidates draws) =
     Some (record { peer = peer; candidates = candidates; draws = draws })
 open_in call = None
+
+abbrev pub seek_in : Call → Option SeekCall
+seek_in (Seek name candidates draws) =
+    Some (record { name = name; candidates = candidates; draws = draws })
+seek_in call = None
+
+abbrev pub unseek_in : Call → Option ℕ
+unseek_in (Unseek near) = Some near
+unseek_in call = None
 
 abbrev pub cancel_in : Call → Option ℕ
 cancel_in (Cancel n) = Some n
@@ -73,8 +90,10 @@ tick_in call = None
 -- what a call answered
 pub data Answer : Type 0 where
   Began : (n : ℕ) → Answer
+  Searching : (near : ℕ) → Answer
   Done : Answer
   NotOpened : (refusal : OpenRefusal) → Answer
+  NotSought : (refusal : SeekRefusal) → Answer
   Refused : (refusal : CallRefusal) → Answer
   NotAdded : (refusal : RowRefusal) → Answer
   Stopped : (stop : Stop) → Answer

@@ -8,15 +8,17 @@ use Rattle.endpoint_model.specs.declared.config.Draws.{Draws}
 use Rattle.endpoint_model.specs.declared.entry.Entry.{Entry}
 use Rattle.endpoint_model.specs.declared.answers.OpenRefusal.{OpenRefusal}
 use Rattle.endpoint_model.specs.declared.answers.OpenRefusal.TheVariants.{Memory as NoMemoryToOpen}
+use Rattle.endpoint_model.specs.declared.answers.SeekRefusal.{SeekRefusal}
+use Rattle.endpoint_model.specs.declared.answers.SeekRefusal.TheVariants.{Memory as NoMemoryToSeek}
 use Rattle.session_flows.specs.declared.refusal.CallRefusal.{CallRefusal}
 use Rattle.session_flows.specs.declared.refusal.CallRefusal.TheVariants.{NoAttempt, NoSession, Memory as NoMemory}
 use Rattle.endpoint_model.specs.declared.answers.Stopped.{Stopped as Stop}
 use Rattle.introducer.specs.declared.refusal.RowRefusal.{RowRefusal}
 use Rattle.introducer.specs.declared.refusal.RowRefusal.TheVariants.{Memory as NoMemoryForRow}
 use Rattle.introducer.specs.Directory.{row_refusal}
-use Rattle.endpoint_model.specs.Event.{Setup, Call, Open, Cancel, Close, AddRow, Introduce, OnFlows, Receive, Tick, Answer, Began, Done, NotOpened, Refused, NotAdded, Stopped, OutOfMemory, Event}
+use Rattle.endpoint_model.specs.Event.{Setup, Call, Open, Seek, Unseek, Cancel, Close, AddRow, Introduce, OnFlows, Receive, Tick, Answer, Began, Searching, Done, NotOpened, NotSought, Refused, NotAdded, Stopped, OutOfMemory, Event}
 use Rattle.endpoint_model.specs.Added.{Added}
-use Rattle.endpoint_model.specs.State.{State, Did, Does, nothing, fresh, at_moment, Done as DoneIn}
+use Rattle.endpoint_model.specs.State.{State, Did, Does, nothing, fresh, at_moment, free_from, Done as DoneIn}
 use Rattle.endpoint_model.specs.Admission.{Admission, Rejected, Admitted, admission, confirms, confirming}
 use Rattle.endpoint_model.specs.Keying.{chunks_of}
 use Rattle.endpoint_model.specs.Introducing.{with_redirect, introducing}
@@ -25,7 +27,7 @@ use Rattle.endpoint_model.specs.FlowCall.{FlowCall}
 use Rattle.endpoint_model.specs.OnFlows.{call_refusal, flow_called}
 use Rattle.endpoint_model.specs.FlowChunks.{owes_at}
 use Rattle.endpoint_model.specs.declared.place.Place.{Place}
-use Rattle.endpoint_model.specs.Effects.{open_refusal, opening, cancelling, ticks, walked_and_acked, received, part_received, AddsDiscards, discards, first_due}
+use Rattle.endpoint_model.specs.Effects.{open_refusal, opening, seek_refusal, seeking, unseek_refusal, unseeking, cancelling, ticks, walked_and_acked, received, part_received, AddsDiscards, discards, first_due}
 use Rattle.endpoint_model.specs.FlowTimes.{all_late}
 
 -- ---- what a call may answer, add and leave, from a state in which its moment is noted
@@ -34,6 +36,11 @@ use Rattle.endpoint_model.specs.FlowTimes.{all_late}
 abbrev pub not_opened : Option OpenRefusal → OpenRefusal
 not_opened None = NoMemoryToOpen
 not_opened (Some refusal) = refusal
+
+-- the same of a seek
+abbrev pub not_sought : Option SeekRefusal → SeekRefusal
+not_sought None = NoMemoryToSeek
+not_sought (Some refusal) = refusal
 
 -- the same of a row that isn't added
 abbrev pub not_added : Option RowRefusal → RowRefusal
@@ -97,6 +104,15 @@ Answers s (Open peer candidates draws) (Began n) entries t =
     Does (opening s peer candidates draws) t [] entries
 Answers s (Open peer candidates draws) (NotOpened refusal) entries t =
     (refusal ≡ not_opened (open_refusal s peer candidates)) × Does (nothing s) t [] entries
+Answers s (Seek name candidates draws) (Searching near) entries t =
+    (seek_refusal s candidates ≡ None) × (near ≡ free_from s draws.word) ×
+    Does (seeking s name candidates draws) t [] entries
+Answers s (Seek name candidates draws) (NotSought refusal) entries t =
+    (refusal ≡ not_sought (seek_refusal s candidates)) × Does (nothing s) t [] entries
+Answers s (Unseek near) Done entries t = (unseek_refusal s near ≡ None) ×
+    Does (unseeking s near) t [] entries
+Answers s (Unseek near) (Refused refusal) entries t =
+    (refusal ≡ not_called (unseek_refusal s near)) × Does (nothing s) t [] entries
 Answers s (Cancel n) Done entries t = IsSome (cancel_fact s.startup n) ×
     Does (cancelling s n) t [] entries
 Answers s (Cancel n) (Refused refusal) entries t =
@@ -165,9 +181,22 @@ abbrev pub open_event : ℕ → List ℕ → List AddressParts → Draws → Res
 open_event moment peer candidates draws result before after =
     event moment (Open peer candidates draws) (answer_of_open result) before after
 
+abbrev pub answer_of_seek : Result ℕ SeekRefusal → Answer
+answer_of_seek (Ok near) = Searching near
+answer_of_seek (Err refusal) = NotSought refusal
+
+abbrev pub seek_event : ℕ → List ℕ → List AddressParts → Draws → Result ℕ SeekRefusal → List Entry →
+    List Entry → Event
+seek_event moment name candidates draws result before after =
+    event moment (Seek name candidates draws) (answer_of_seek result) before after
+
 abbrev pub answer_of_call : {A : Type 0} → Result A CallRefusal → Answer
 answer_of_call (Ok done) = Done
 answer_of_call (Err refusal) = Refused refusal
+
+abbrev pub unseek_event : ℕ → Result (Unit {0}) CallRefusal → List Entry → List Entry → Event
+unseek_event near result before after =
+    event 0 (Unseek near) (answer_of_call result) before after
 
 abbrev pub cancel_event : ℕ → Result (Unit {0}) CallRefusal → List Entry → List Entry → Event
 cancel_event n result before after = event 0 (Cancel n) (answer_of_call result) before after

@@ -81,11 +81,11 @@ with_sealed s sealed = record s { sealed = sealed }
 
 -- ---- session IDs
 
--- how many attempts and sessions there are
+-- how many attempts, searches and sessions there are
 abbrev pub uses : State → ℕ
 uses s = len s.startup.attempts + len s.sessions
 
--- an attempt or a session has the session ID
+-- an attempt, a search or a session has the session ID
 abbrev pub is_used : State → ℕ → Bool
 is_used s near = contains_key s.startup.attempts near || contains_key s.sessions near
 
@@ -107,7 +107,7 @@ free_among (suc tries) s id = if is_free s id then id else free_among tries s (n
 unfoldable pub free_from : State → ℕ → ℕ
 free_from s word = free_among (uses s + 1) s word
 
--- the limit on attempts and sessions, where there is no place for one more
+-- the limit on attempts, searches and sessions, where there is no place for one more
 abbrev pub full : State → Option ℕ
 full s = if nat_le s.config.max_sessions (uses s) then Some s.config.max_sessions else None
 

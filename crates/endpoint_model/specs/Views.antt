@@ -1,11 +1,13 @@
--- What an entry has for those who ask of one thing alone: a fact, a datagram, or a session that is
--- over. Whoever asks by these isn't touched by entries of other kinds.
+-- What an entry has for those who ask of one thing alone: a fact, a datagram, a session that is
+-- over, or a search that begins or is over. Whoever asks by these isn't touched by entries of other
+-- kinds.
 use Rattle.std.specs.Prelude.{ℕ, List, Option, Some, None}
 use Rattle.rtmfp_forms.specs.Address.{AddressParts}
 use Rattle.crypto_profile.specs.declared.keys.Context.{Context}
 use Rattle.glare_core.specs.declared.facts.Fact.{Fact}
+use Rattle.glare_core.specs.declared.facts.Why.{Why}
 use Rattle.endpoint_model.specs.declared.entry.Entry.{Entry}
-use Rattle.endpoint_model.specs.declared.entry.Entry.TheVariants.{Fact as FactEntry, Closed, Out}
+use Rattle.endpoint_model.specs.declared.entry.Entry.TheVariants.{Fact as FactEntry, Closed, Sought, Unsought, Out}
 
 -- the fact that an entry is
 abbrev pub fact_in : Entry → Option Fact
@@ -28,3 +30,22 @@ out_in entry = None
 abbrev pub closed_in : Entry → Option ℕ
 closed_in (Closed near) = Some near
 closed_in entry = None
+
+-- a search: its session ID, and the name
+pub record NamedSearch : Type 0 where
+  pub near : ℕ
+  pub name : List ℕ
+
+-- the search that began
+abbrev pub sought_in : Entry → Option NamedSearch
+sought_in (Sought near name) = Some (record { near = near; name = name })
+sought_in entry = None
+
+-- a search that is over, and why
+pub record EndedSearch : Type 0 where
+  pub near : ℕ
+  pub why : Why
+
+abbrev pub unsought_in : Entry → Option EndedSearch
+unsought_in (Unsought near why) = Some (record { near = near; why = why })
+unsought_in entry = None

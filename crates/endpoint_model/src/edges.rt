@@ -18,13 +18,14 @@ ghost use Rattle.rtmfp_base.specs.declared.cause.Cause.TheVariants.{NotSelected,
 ghost use Rattle.startup.specs.Redirects.{redirect_answer};
 ghost use Rattle.session_core.specs.Session.{SessionState};
 ghost use Rattle.endpoint_model.specs.declared.answers.OpenRefusal.TheVariants.{Candidates};
+ghost use Rattle.endpoint_model.specs.declared.answers.SeekRefusal.TheVariants as seek;
 ghost use Rattle.endpoint_model.specs.declared.place.Place.{Place};
 ghost use Rattle.endpoint_model.specs.declared.place.Place.TheVariants.{Attempt, Startup};
 ghost use Rattle.endpoint_model.specs.declared.walk.Walk.{Walk};
 ghost use Rattle.endpoint_model.specs.Causes.{chunk_cause};
 ghost use Rattle.endpoint_model.specs.FlowChunks.{data_fault, is_of_flows};
 ghost use Rattle.endpoint_model.specs.Effects.{Introduction, candidates_refusal, introduction};
-ghost use Rattle.endpoint_model.specs.Effects.{replied};
+ghost use Rattle.endpoint_model.specs.Effects.{no_place, places_refusal, replied};
 ghost use Rattle.endpoint_model.specs.InSessions.{sent_home};
 ghost use Rattle.endpoint_model.specs.Introducing.{forwarded_to, hello_cause, introducing};
 ghost use Rattle.endpoint_model.specs.Introducing.{kept_id, redirect_of, redirected_to};
@@ -63,6 +64,16 @@ pub fn an_attempt_has_1_to_16_candidates()
     ensures least { candidates_refusal 1 ≡ None }
     ensures most { candidates_refusal 16 ≡ None }
     ensures more { candidates_refusal 17 ≡ Some (Candidates 17) }
+{}
+
+/// A search has 1 to 16 candidates, and counts as one of the attempts and sessions that may be.
+pub fn a_search_has_1_to_16_candidates()
+    ensures none { places_refusal 0 ≡ Some (seek.Candidates 0) }
+    ensures least { places_refusal 1 ≡ None }
+    ensures most { places_refusal 16 ≡ None }
+    ensures more { places_refusal 17 ≡ Some (seek.Candidates 17) }
+    ensures room { no_place None ≡ None }
+    ensures full { (limit : ℕ) → no_place (Some limit) ≡ Some (seek.SessionsFull limit) }
 {}
 
 /// A hello is forwarded in a session that is kept, and in no attempt and no half-open session; and

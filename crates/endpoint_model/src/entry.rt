@@ -1,7 +1,8 @@
 //! What a call of an end adds to its outbox.
 
 use crypto_profile::Context;
-use glare_core::Fact;
+use glare_core::{Fact, Why};
+use identity::ServiceName;
 use rtmfp_base::{Cause, Message};
 use rtmfp_forms::Address;
 
@@ -14,6 +15,20 @@ pub enum Entry {
     Closed {
         /// Its session ID at this end.
         near: u32,
+    },
+    /// A search for an end with a name began.
+    Sought {
+        /// Its session ID at this end.
+        near: u32,
+        /// The name.
+        name: ServiceName,
+    },
+    /// A search is over, and no attempt came of it.
+    Unsought {
+        /// Its session ID at this end.
+        near: u32,
+        /// Why: it was cancelled, or it expired.
+        why: Why,
     },
     /// A session moved: its datagrams go to this address from now on.
     Moved {

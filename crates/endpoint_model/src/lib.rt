@@ -12,7 +12,7 @@ mod row;
 mod row_due;
 mod walk;
 
-pub use answers::{OpenRefusal, Stopped};
+pub use answers::{OpenRefusal, SeekRefusal, Stopped};
 pub use config::{Config, Draws};
 pub use entry::Entry;
 pub use kinds::{Kind, KindRow, Takers, Way, kind_of};
