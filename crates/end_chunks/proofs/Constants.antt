@@ -16,10 +16,10 @@ use Rattle.crypto_profile.specs.declared.keys.Context.TheVariants.{Startup}
 use Rattle.crypto_profile.specs.Keys.{Keys, keys_of}
 use Rattle.rtmfp_base.specs.declared.cause.Cause.{Cause}
 use Rattle.startup.specs.declared.aim.Aim.{Aim}
-use Rattle.startup.specs.declared.aim.Aim.TheVariants.{AtPeer}
+use Rattle.startup.specs.declared.aim.Aim.TheVariants.{AtPeer, ByName}
 use Rattle.startup.specs.Aims.{end_of_aim}
 use Rattle.startup.specs.State.{AttemptState, StartupState}
-use Rattle.startup.specs.Attempts.{with_ledger, without_attempt_by, after_end_of, after_answer, after_change}
+use Rattle.startup.specs.Attempts.{with_ledger, without_attempt_by, after_end_of, after_answer_as, after_answer, after_change}
 use Rattle.startup.specs.Judging.{after_extension_of}
 use Rattle.startup_packets.specs.Readings.{InitiatorKeying, initiator_keying_in}
 use Rattle.startup.specs.Keyings.{keying_of, after_again_or_birth, after_keyed_with, after_keyed_reading, after_keying, after_opening}
@@ -42,14 +42,19 @@ either false s t u p q = q
 
 ended_as : (s : StartupState) (near : ℕ) (why : Why) (aim : Aim) → IsSameEnd s (without_attempt_by s near (end_of_aim near why aim))
 ended_as s near why (AtPeer peer n) = record { secret_is = refl; own_is = refl }
+ended_as s near why (ByName name) = record { secret_is = refl; own_is = refl }
 
 ended : (s : StartupState) (found : Option (ℕ × AttemptState)) (why : Why) → IsSameEnd s (after_end_of s found why)
 ended s None why = same s
 ended s (Some e) why = ended_as s e.0 why e.1.aim
 
-pub answer_keeps : (s : StartupState) (found : Option (ℕ × AttemptState)) (from : AddressParts) (cookie : List ℕ) (moment : ℕ) → IsSameEnd s (after_answer s found from cookie moment)
-answer_keeps s None from cookie moment = same s
-answer_keeps s (Some e) from cookie moment = record { secret_is = refl; own_is = refl }
+answered_as : (s : StartupState) (print : List ℕ) (e : ℕ × AttemptState) (from : AddressParts) (cookie : List ℕ) (moment : ℕ) (aim : Aim) → IsSameEnd s (after_answer_as s print e from cookie moment aim)
+answered_as s print e from cookie moment (AtPeer peer n) = record { secret_is = refl; own_is = refl }
+answered_as s print e from cookie moment (ByName name) = record { secret_is = refl; own_is = refl }
+
+pub answer_keeps : (s : StartupState) (print : List ℕ) (found : Option (ℕ × AttemptState)) (from : AddressParts) (cookie : List ℕ) (moment : ℕ) → IsSameEnd s (after_answer s print found from cookie moment)
+answer_keeps s print None from cookie moment = same s
+answer_keeps s print (Some e) from cookie moment = answered_as s print e from cookie moment e.1.aim
 
 pub change_keeps : (s : StartupState) (found : Option (ℕ × AttemptState)) (cookie : List ℕ) (moment : ℕ) → IsSameEnd s (after_change s found cookie moment)
 change_keeps s None cookie moment = same s

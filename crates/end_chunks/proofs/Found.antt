@@ -1,23 +1,44 @@
 -- Chunks that speak of an attempt: what they do to the one that was found is what their rules say.
-use Rattle.std.proofs.Common.{ℕ, ◌≡◌, List, length, Option, Some, refl, ap}
+use Rattle.std.proofs.Common.{ℕ, ◌≡◌, List, length, Option, Some, refl, sym, ap, ◌∙◌, subst}
 use Rattle.rtmfp_forms.specs.Address.{AddressParts}
+use Rattle.rtmfp_chunks.specs.Chunk.{RHello}
+use Rattle.glare_core.specs.declared.facts.Fact.{Fact}
+use Rattle.startup.specs.declared.answer.Answer.{Answer}
 use Rattle.startup.specs.declared.leaving.Found.{Found}
+use Rattle.startup.specs.declared.leaving.Greeting.{Greeting}
 use Rattle.startup.specs.State.{AttemptState, SpreadParts, StartupState}
-use Rattle.startup.specs.Attempts.{lowest, has_tag, changed, after_answer, answer_keying, after_rhello, rhello_keying, after_change, change_keying, after_cookie_change, cookie_change_keying}
+use Rattle.startup.specs.Attempts.{lowest, has_tag, changed, answer_fact, after_answer, answer_keying, after_change, change_keying, after_cookie_change, cookie_change_keying}
 use Rattle.startup.specs.Redirects.{sent_by_spread}
-use Rattle.startup.specs.Judging.{IsFound, found_in, ExtensionParts, Extends, extension_spread}
+use Rattle.startup.specs.Judging.{IsFound, IsGreeted, found_in, ExtensionParts, Extends, extension_spread}
 use Rattle.startup.proofs.Choices.{found_is}
-use Rattle.endpoint_model.specs.State.{State, Did, with_startup}
-use Rattle.endpoint_model.specs.Sending.{sent_if}
+use Rattle.endpoint_model.specs.declared.place.Place.{Place}
+use Rattle.endpoint_model.specs.Added.{Added}
+use Rattle.endpoint_model.specs.State.{State, Did, Done, after_entries, fact_entries, with_startup}
+use Rattle.endpoint_model.specs.Sending.{sent_answer, sent_if}
+use Rattle.end_chunks.specs.Judging.{hello_did, view_done}
 
 -- ---- a responder's hello
 
-abbrev pub hello_did : State → Option (ℕ × AttemptState) → AddressParts → List ℕ → Did
-hello_did s chosen from cookie = sent_if (with_startup s (after_answer s.startup chosen from cookie s.moment)) (answer_keying s.startup chosen from cookie)
+-- the hello with this certificate does what the attempt or search does that was found, with its fingerprint
+pub hello_does : (s : State) (place : Place) (from : AddressParts) (tag cookie cert : List ℕ) (greeting : Greeting) → IsGreeted s.startup greeting (lowest (has_tag tag) s.startup.attempts) cert →
+    view_done s place from (RHello tag cookie cert) ≡ hello_did s greeting.print (found_in s.startup greeting.found) from cookie
+hello_does s place from tag cookie cert greeting is =
+    ap (λ (print : List ℕ). hello_did s print (lowest (has_tag tag) s.startup.attempts) from cookie) (sym is.print)
+    ∙ ap (λ (o : Option (ℕ × AttemptState)). hello_did s greeting.print o from cookie) (found_is s.startup greeting.found (lowest (has_tag tag) s.startup.attempts) is.found)
 
-pub hello_does : (s : State) (from : AddressParts) (tag cookie : List ℕ) (found : Found) → IsFound s.startup found (lowest (has_tag tag) s.startup.attempts) →
-    sent_if (with_startup s (after_rhello s.startup tag cookie from s.moment)) (rhello_keying s.startup tag cookie from) ≡ hello_did s (found_in s.startup found) from cookie
-hello_does s from tag cookie found is = ap (λ o. hello_did s o from cookie) (found_is s.startup found (lowest (has_tag tag) s.startup.attempts) is)
+-- what startup told of the one that was chosen, and then its keying, is what the one does that was found
+pub hello_so : (s t : State) (print : List ℕ) (chosen found : Option (ℕ × AttemptState)) (from : AddressParts) (cookie : List ℕ) (fact : Option Fact) (answer : Answer) (new : State) (before after : Added) →
+    chosen ≡ found → fact ≡ answer_fact s.startup print chosen → answer_keying s.startup print chosen from cookie ≡ Some answer →
+    t ≡ with_startup s (after_answer s.startup print chosen from cookie s.moment) →
+    Done (after_entries (fact_entries fact) (sent_answer t answer)) new before after → Done (hello_did s print found from cookie) new before after
+hello_so s t print chosen found from cookie fact answer new before after same fact_is answer_is t_is done =
+    let left : State = with_startup s (after_answer s.startup print chosen from cookie s.moment) in
+    let did : after_entries (fact_entries fact) (sent_answer t answer) ≡ hello_did s print found from cookie =
+    ap (λ (f : Option Fact). after_entries (fact_entries f) (sent_answer t answer)) fact_is
+    ∙ ap (λ (u : State). after_entries (fact_entries (answer_fact s.startup print chosen)) (sent_answer u answer)) t_is
+    ∙ ap (λ (o : Option Answer). after_entries (fact_entries (answer_fact s.startup print chosen)) (sent_if left o)) (sym answer_is)
+    ∙ ap (λ (o : Option (ℕ × AttemptState)). hello_did s print o from cookie) same in
+    subst (λ (d : Did). Done d new before after) did done
 
 -- ---- a change of a cookie
 

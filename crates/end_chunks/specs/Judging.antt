@@ -16,16 +16,17 @@ use Rattle.rtmfp_base.specs.Reasons.{where_true, first_that_stands}
 use Rattle.rtmfp_base.specs.declared.cause.Cause.{Cause}
 use Rattle.rtmfp_base.specs.declared.cause.Cause.TheVariants.{WrongPlace, WrongState}
 use Rattle.startup.specs.State.{AttemptState, peer_of_attempt}
-use Rattle.startup.specs.Attempts.{wide, changed, after_answer, answer_keying, after_change}
-use Rattle.startup.specs.Attempts.{change_keying}
+use Rattle.startup.specs.Attempts.{wide, changed, answer_fact, after_answer, answer_keying}
+use Rattle.startup.specs.Attempts.{after_change, change_keying}
 use Rattle.startup_packets.specs.Readings.{initiator_keying_in, responder_keying_in}
 use Rattle.startup.specs.Keyings.{initiator_hello_answer}
 use Rattle.startup_packets.specs.Read.{initiator_of, responder_of}
-use Rattle.startup.specs.Judging.{judged_initiator, IsFound, found_in, Extends}
+use Rattle.startup.specs.Judging.{judged_initiator, IsFound, IsGreeted, found_in, Extends}
 use Rattle.startup.specs.Judging.{after_extension_of, extension_spread}
 use Rattle.endpoint_model.specs.declared.config.Draws.{Draws}
 use Rattle.endpoint_model.specs.declared.place.Place.{Place}
-use Rattle.endpoint_model.specs.State.{State, Did, nothing, then_do, with_startup, full}
+use Rattle.endpoint_model.specs.State.{State, Did, nothing, after_entries, then_do, fact_entries}
+use Rattle.endpoint_model.specs.State.{with_startup, full}
 use Rattle.endpoint_model.specs.Sending.{sent_answer, sent_if, sent_in_session}
 use Rattle.endpoint_model.specs.Admission.{sid_at}
 use Rattle.endpoint_model.specs.InSessions.{answers_by, close_taken_by, closed, moved_by}
@@ -75,14 +76,21 @@ does_nothing s place from (PingReplyChunk bytes) =
     not (answers_by from bytes (get s.sessions (sid_at place)))
 does_nothing s place from chunk = adds_nothing s from (Ok chunk)
 
+-- What the hello of the end with this fingerprint does to the attempt or search that it answers: a
+-- search starts as an attempt, which is told first, and the keying goes to where the hello came
+-- from.
+abbrev pub hello_did : State → List ℕ → Option (ℕ × AttemptState) → AddressParts → List ℕ → Did
+hello_did s print chosen from cookie = after_entries
+    (fact_entries (answer_fact s.startup print chosen))
+    (sent_if (with_startup s (after_answer s.startup print chosen from cookie s.moment))
+    (answer_keying s.startup print chosen from cookie))
+
 -- what it does
 abbrev pub verdict_did : State → Place → AddressParts → Draws → Verdict → Did
 verdict_did s place from draws (Hello tag to) =
     sent_answer s (initiator_hello_answer s.startup tag.now to s.moment)
-verdict_did s place from draws (ResponderHello found cookie) =
-    sent_if (with_startup s
-    (after_answer s.startup (found_in s.startup found) from cookie.now s.moment))
-    (answer_keying s.startup (found_in s.startup found) from cookie.now)
+verdict_did s place from draws (ResponderHello greeting cookie) =
+    hello_did s greeting.print (found_in s.startup greeting.found) from cookie.now
 verdict_did s place from draws (Introduction epd tag near row) =
     then_do (forwarded s near (chunk_bytes (FIHello epd.now (observed from) tag.now)))
     (λ t. sent_if t (redirect_of tag.now from row))
@@ -109,9 +117,9 @@ verdict_did s place from draws Quiet = nothing s
 -- what was found is so
 abbrev pub IsSo : State → Place → AddressParts → Verdict → Type 0
 IsSo s place from (Hello tag to) = wide tag.now ≡ None
-IsSo s place from (ResponderHello found cookie) =
-    ((chosen : Option (ℕ × AttemptState)) × IsFound s.startup found chosen)
-    × (length cookie.now ≤ 128)
+IsSo s place from (ResponderHello greeting cookie) =
+    ((chosen : Option (ℕ × AttemptState)) × ((cert : List ℕ) ×
+    IsGreeted s.startup greeting chosen cert)) × (length cookie.now ≤ 128)
 IsSo s place from (Introduction epd tag near row) = (wide tag.now ≡ None)
     × ((selected : Epd) × (discriminator_of epd.now ≡ Some selected))
 IsSo s place from (Redirect extension) = Extends s.startup extension

@@ -6,15 +6,14 @@ ghost use Rattle.rtmfp_chunks.specs.Chunk.{chunk_of};
 ghost use Rattle.rtmfp_chunks.specs.Writing.{IsWritable, chunk_bytes};
 ghost use Rattle.rtmfp_packet.specs.Chunks.{shown};
 ghost use Rattle.startup.specs.State.{AttemptState};
-ghost use Rattle.startup.specs.Attempts.{after_answer, after_change, answer_keying};
-ghost use Rattle.startup.specs.Attempts.{change_keying, changed, wide};
+ghost use Rattle.startup.specs.Attempts.{after_change, change_keying, changed, wide};
 ghost use Rattle.startup.specs.Keyings.{initiator_hello_answer};
-ghost use Rattle.startup.specs.Judging.{found_in, IsFound};
+ghost use Rattle.startup.specs.Judging.{found_in, IsFound, IsGreeted};
 ghost use Rattle.endpoint_model.specs.Effects.{IsQuiet, chunk_did, discards_for, walked};
 ghost use Rattle.endpoint_model.specs.Causes.{chunk_cause};
 ghost use Rattle.endpoint_model.specs.Sending.{sent_answer, sent_if, sent_in_session};
 ghost use Rattle.endpoint_model.specs.State.{Done, nothing, with_startup};
-ghost use Rattle.end_chunks.specs.Judging.{IsSo, verdict_did};
+ghost use Rattle.end_chunks.specs.Judging.{IsSo, hello_did, verdict_did};
 
 use crate::closing::take_close;
 use crate::flows::{Untaken, take_read};
@@ -22,13 +21,13 @@ use crate::introducing::{extend, introduce};
 use crate::judging::{Verdict, judge, sid_at};
 use crate::keyings::{initiator_keyed, responder_keyed};
 use crate::moving::take_ping_reply;
-use end_state::{EndState, Outbox, blank};
+use end_state::{EndState, Outbox, blank, fact_entry};
 use endpoint_model::{Draws, Kind, Place, Walk, kind_of};
 use rtmfp_base::Cause;
 use rtmfp_chunks::ChunkView;
 use rtmfp_forms::Address;
 use rtmfp_packet::RawChunk;
-use startup::Found;
+use startup::{Found, Greeting};
 use std::alloc::AllocError;
 
 /// Does what a chunk does that isn't discarded.
@@ -64,7 +63,9 @@ fn apply(
             );
             Ok(())
         }
-        Verdict::ResponderHello { found, cookie } => take_hello(end, *found, cookie, from, out),
+        Verdict::ResponderHello { greeting, cookie } => {
+            take_hello(end, greeting, cookie, from, out)
+        }
         Verdict::CookieChange { found, new } => change_cookie(end, *found, new, out),
         Verdict::InitiatorKeying { fields, hearing } => {
             initiator_keyed(end, fields, hearing, from, draws, out)
@@ -101,31 +102,36 @@ fn answer_hello(
 }
 
 /// Takes a responder's hello with this cookie, which came from an address and answers the attempt
-/// that was found.
+/// or the search that was found. A search starts as an attempt then.
 fn take_hello(
     end: &mut EndState,
-    found: Found,
+    greeting: &Greeting,
     cookie: &[u8],
     from: &Address,
     out: &mut Outbox,
 ) -> Result<(), AllocError>
-    requires found { (chosen : Option (ℕ × AttemptState)) × IsFound end.old.startup found chosen }
+    requires greeted { (chosen : Option (ℕ × AttemptState)) × ((cert : List ℕ) ×
+        IsGreeted end.old.startup greeting.now chosen cert) }
     requires cookie { length cookie.now ≤ 128 }
-    ensures ok { OnOk result
-        (Done (sent_if (with_startup end.old
-        (after_answer end.old.startup (found_in end.old.startup found) from.now cookie.now
-        end.old.moment))
-        (answer_keying end.old.startup (found_in end.old.startup found) from.now cookie.now))
-        end.new out.old out.new) }
+    ensures ok { OnOk result (Done (hello_did end.old greeting.now.print
+        (found_in end.old.startup greeting.now.found) from.now cookie.now) end.new out.old
+        out.new) }
     ensures err { OnErr result (Done (nothing end.old) end.new out.old out.new) }
 {
-    out.make_room(1)?;
+    out.make_room(2)?;
     let blank = blank(end.alloc)?;
-    let answer = end
+    match end
         .startup
-        .apply_responder_hello(found, cookie, from, end.moment);
-    out.add_some(end.seal_answer(blank, &answer));
-    Ok(())
+        .apply_responder_hello(greeting, cookie, from, end.moment)
+    {
+        Ok(told) => {
+            let (fact, answer) = told;
+            out.add_some(fact_entry(fact));
+            out.add_some(end.seal_answer(blank, &answer));
+            Ok(())
+        }
+        Err(_) => Err(AllocError),
+    }
 }
 
 /// Takes a change to this cookie, which is of the attempt that was found.

@@ -31,7 +31,7 @@ use rtmfp_chunks::kinds::FRAGMENT;
 use rtmfp_chunks::{ChunkFault, ChunkView, read_chunk};
 use rtmfp_forms::Address;
 use rtmfp_packet::RawChunk;
-use startup::{Extension, Found, Hearing};
+use startup::{Extension, Found, Greeting, Hearing};
 use startup_packets::{
     InitiatorFields, ResponderFields, read_initiator_keying, read_responder_keying,
 };
@@ -59,9 +59,9 @@ pub(crate) enum Verdict<'a> {
     Redirect {
         extension: Extension,
     },
-    /// The hello of a responder, which has this cookie, and the attempt that it answers.
+    /// The hello of a responder, which has this cookie, and the attempt or search that it answers.
     ResponderHello {
-        found: Found,
+        greeting: Greeting,
         cookie: &'a [u8],
     },
     /// A change of a cookie to this one, and the attempt whose cookie it is.
@@ -224,7 +224,7 @@ fn judge_view<'a>(
         }
         ChunkView::RHello { tag, cookie, cert } => {
             match end.startup.judge_responder_hello(tag, cookie, cert) {
-                Ok(found) => Ok(Verdict::ResponderHello { found, cookie }),
+                Ok(greeting) => Ok(Verdict::ResponderHello { greeting, cookie }),
                 Err(cause) => Err(cause),
             }
         }

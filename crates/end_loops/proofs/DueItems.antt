@@ -9,7 +9,7 @@ use Rattle.startup.specs.declared.attempt.Stage.{Stage}
 use Rattle.startup.specs.declared.attempt.Stage.TheVariants.{Hello, Keying}
 use Rattle.startup.specs.declared.answer.Due.{Due}
 use Rattle.startup.specs.declared.aim.Aim.{Aim}
-use Rattle.startup.specs.declared.aim.Aim.TheVariants.{AtPeer}
+use Rattle.startup.specs.declared.aim.Aim.TheVariants.{AtPeer, ByName}
 use Rattle.startup.specs.State.{AttemptState, StartupState}
 use Rattle.startup.specs.Attempts.{lowest}
 use Rattle.startup.specs.Due.{due, due_end, due_of, due_sends, due_sends_of, is_due, is_over, repeats, repeat_of, repeat_signed}
@@ -56,6 +56,7 @@ sends_signed key cert near a (Keying at cookie) = refl
 -- an end sends none
 sends_end : (near : ℕ) (aim : Aim) → 0 ≡ sends_of (due_end near aim)
 sends_end near (AtPeer peer n) = refl
+sends_end near (ByName name) = refl
 
 sends_by : (s : StartupState) (e : ℕ × AttemptState) (b : Bool) → (if b then 0 else repeats e.1.candidates e.1.stage) ≡ sends_of (if b then due_end e.0 e.1.aim else repeat_of s e.0 e.1)
 sends_by s e true = sends_end e.0 e.1.aim

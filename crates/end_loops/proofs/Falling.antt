@@ -7,7 +7,7 @@ use Rattle.rtmfp_base.proofs.Maps.{get_inserted, insert_twice}
 use Rattle.rtmfp_forms.specs.Address.{AddressParts}
 use Rattle.startup.specs.State.{StartupState}
 use Rattle.startup.specs.declared.answer.Due.{Due}
-use Rattle.startup.specs.declared.answer.Due.TheVariants.{Ended as EndDue, Hello as HelloDue, Keying as KeyingDue}
+use Rattle.startup.specs.declared.answer.Due.TheVariants.{Ended as EndDue, Hello as HelloDue, Keying as KeyingDue, Unsought}
 use Rattle.startup.specs.Due.{after_due, due_count}
 use Rattle.startup.proofs.Falling.{falls_when}
 use Rattle.session_core.specs.declared.stage.SessionDue.{SessionDue}
@@ -63,6 +63,7 @@ each_same plain (first ∷ rest) s =
 
 done_same : (s : State) (due : Due) → IsSame s (due_done s due).state
 done_same s (EndDue fact) = record { startup = refl; moment = refl; sessions = refl }
+done_same s (Unsought near) = record { startup = refl; moment = refl; sessions = refl }
 done_same s (HelloDue spread) = each_same spread.plain spread.to s
 done_same s (KeyingDue answer) = startup_same s answer.to answer.sid answer.plain
 

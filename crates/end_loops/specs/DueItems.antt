@@ -5,7 +5,7 @@ use Rattle.std.specs.FinMap.{get}
 use Rattle.glare_core.specs.declared.facts.Why.{Why}
 use Rattle.startup.specs.declared.answer.Due.{Due}
 use Rattle.startup.specs.declared.answer.Due.TheVariants.{Ended as EndDue, Hello as HelloDue}
-use Rattle.startup.specs.declared.answer.Due.TheVariants.{Keying as KeyingDue}
+use Rattle.startup.specs.declared.answer.Due.TheVariants.{Keying as KeyingDue, Unsought}
 use Rattle.session_core.specs.declared.stage.SessionDue.{SessionDue}
 use Rattle.session_flows.specs.Timing.{overdue_done}
 use Rattle.session_table.specs.FlowTimes.{DataFalls, OverdueWaits}
@@ -50,9 +50,10 @@ row_due_by s near (Abandon flow seq) o = abandoned_by s near flow seq o
 row_due_by s near Data o = data_sent_by s near o
 row_due_by s near Keepalive o = kept_alive_in s near o
 
--- how many datagrams a thing of an attempt sends
+-- how many datagrams a thing of an attempt or a search sends
 abbrev pub sends_of : Due → ℕ
 sends_of (EndDue fact) = 0
+sends_of (Unsought near) = 0
 sends_of (HelloDue spread) = length spread.to
 sends_of (KeyingDue answer) = 1
 

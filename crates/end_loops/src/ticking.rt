@@ -9,6 +9,7 @@ ghost use Rattle.end_loops.specs.DueItems.{ItemFalls, due_item};
 use crate::session_ticking::{due_session, session_due};
 use end_state::{EndState, Outbox, blanks};
 use endpoint_model::{Entry, RowDue};
+use glare_core::Why;
 use rtmfp_base::Memory;
 use startup::Due;
 use std::alloc::AllocError;
@@ -16,7 +17,7 @@ use std::alloc::AllocError;
 /// The first thing that is due.
 #[derive(Clone, Copy, Debug)]
 pub(crate) enum DueItem {
-    /// Something of an attempt, which sends so many datagrams.
+    /// Something of an attempt or a search, which sends so many datagrams.
     Attempt { sends: usize },
     /// Something of the session with this session ID, or of its flows.
     Session { near: u32, due: RowDue },
@@ -28,8 +29,8 @@ pub fn do_due(end: &mut EndState, out: &mut Outbox) -> Result<(), Memory>
     ensures all { OnOk result (first_due end.new ≡ None) }
     ensures left { OnErr result (IsSome (first_due end.new)) }
 {
-    // Each attempt is due once at a moment, and of a session there is less to do each time, so this
-    // ends.
+    // Each attempt or search is due once at a moment, and of a session there is less to do each
+    // time, so this ends.
     while let Some(item) = first_due(end) {
         match do_item(end, item, out) {
             Ok(()) => {}
@@ -39,7 +40,7 @@ pub fn do_due(end: &mut EndState, out: &mut Outbox) -> Result<(), Memory>
     Ok(())
 }
 
-/// The first thing that is due: of attempts, and then of sessions.
+/// The first thing that is due: of attempts and searches, and then of sessions.
 fn first_due(end: &mut EndState) -> Option<DueItem>
     ensures item { result ≡ due_item end.old }
     ensures same { end.new ≡ end.old }
@@ -63,7 +64,7 @@ fn do_item(end: &mut EndState, item: DueItem, out: &mut Outbox) -> Result<(), Al
     }
 }
 
-/// Does the first thing that is due of attempts, which sends so many datagrams.
+/// Does the first thing that is due of attempts and searches, which sends so many datagrams.
 fn attempt_due(end: &mut EndState, sends: usize, out: &mut Outbox) -> Result<(), AllocError>
     requires { due_sends end.old.startup end.old.moment ≡ Some sends }
     ensures ok { OnOk result (Done (item_done end.old
@@ -74,6 +75,10 @@ fn attempt_due(end: &mut EndState, sends: usize, out: &mut Outbox) -> Result<(),
     out.make_room(sends.max(1))?;
     match end.startup.due(end.moment) {
         Some(Due::Ended(fact)) => out.add(Entry::Fact(fact)),
+        Some(Due::Unsought(near)) => out.add(Entry::Unsought {
+            near,
+            why: Why::Expired,
+        }),
         Some(Due::Hello(spread)) => {
             end.send_each(blanks, spread.addresses(), &spread.plain, out);
         }

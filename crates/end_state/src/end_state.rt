@@ -15,10 +15,10 @@ use std::marker::Model;
 /// sessions begin. There is one generation (own).
 pub const CURRENT_GENERATION: u64 = 0;
 
-/// What an end keeps of its attempts and sessions.
+/// What an end keeps of its attempts, searches and sessions.
 ///
 /// Contracts see its limits, the largest moment that it was given, how many startup packets it
-/// sealed, what it keeps of attempts and of sessions, each by their session IDs, whether it
+/// sealed, what it keeps of attempts, searches and sessions, each by their session IDs, whether it
 /// introduces, and its rows of addresses.
 #[derive(Drop)]
 pub struct EndState {

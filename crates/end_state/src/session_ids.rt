@@ -6,7 +6,7 @@ ghost use Rattle.endpoint_model.specs.State.{free_from, full, is_free, is_used, 
 use crate::end_state::EndState;
 
 impl EndState {
-    /// How many attempts and sessions there are.
+    /// How many attempts, searches and sessions there are.
     fn uses(&self) -> usize
         ensures value { result ≡ uses self.now }
         ensures small { result + 1 < 2 ^ 64 }
@@ -14,7 +14,7 @@ impl EndState {
         self.startup.attempts() + self.sessions.count()
     }
 
-    /// The limit on attempts and sessions, where there is no place for one more.
+    /// The limit on attempts, searches and sessions, where there is no place for one more.
     pub fn full(&self) -> Option<u32>
         ensures { result ≡ full self.now }
     {
@@ -25,7 +25,7 @@ impl EndState {
         }
     }
 
-    /// Whether an attempt or a session has this session ID.
+    /// Whether an attempt, a search or a session has this session ID.
     fn is_used(&self, near: u32) -> bool
         ensures { result ≡ is_used self.now near }
     {

@@ -1,15 +1,17 @@
--- Attempts that begin.
-use Rattle.std.proofs.Common.{if◌then◌else◌, ◌^◌, nat_le, is_some, ◌≡◌, ◌≤◌, ◌<◌, ◌+◌, ◌++◌, ◌==◌, ◌&&◌, ◌||◌, not, ℕ, Bool, true, false, List, [], ◌∷◌, length, Option, Some, None, refl, ap, ◌∙◌, subst, arith, length-append}
+-- Attempts and searches that begin.
+use Rattle.std.proofs.Common.{if◌then◌else◌, ◌^◌, nat_le, nat_lt, is_some, ◌≡◌, ◌≤◌, ◌<◌, ◌+◌, ◌++◌, ◌==◌, ◌&&◌, ◌||◌, not, ℕ, Bool, true, false, List, [], ◌∷◌, length, Option, Some, None, refl, ap, ◌∙◌, subst, arith, length-append}
 use Rattle.std.specs.FinMap.{get, contains_key}
 use Rattle.std.specs.List.{fold, list_any}
 use Rattle.std.proofs.lemmas.Bool.Decides.{nat_tests}
-use Rattle.rtmfp_base.specs.Reasons.{first_that_stands}
+use Rattle.rtmfp_base.specs.Reasons.{where_true, first_that_stands}
 use Rattle.glare_core.specs.Calls.{start_refusal}
 use Rattle.startup.specs.Attempts.{joined, distinct_candidates}
 use Rattle.endpoint_model.specs.declared.answers.OpenRefusal.{OpenRefusal}
+use Rattle.endpoint_model.specs.declared.answers.SeekRefusal.{SeekRefusal}
+use Rattle.endpoint_model.specs.declared.answers.SeekRefusal.TheVariants.{Candidates as TooFewOrMany}
 use Rattle.rtmfp_forms.specs.Address.{AddressParts, is_same_place}
 use Rattle.startup.specs.State.{AttemptState}
-use Rattle.endpoint_model.specs.Effects.{candidates_refusal, start_refused, full_refused, open_refusal}
+use Rattle.endpoint_model.specs.Effects.{candidates_refusal, start_refused, full_refused, open_refusal, places_refusal, no_place, seek_refusal}
 use Rattle.endpoint_model.specs.State.{State, uses, is_used, is_free, full, free_from}
 use Rattle.endpoint_model.proofs.Ids.{free_from_is_free}
 
@@ -32,12 +34,28 @@ not_full most count e = decided (nat_le most count) refl e
     decided true is none = absurd (cc)
     decided false is none = grind (arith, nat_tests)
 
-few_used : (s : State) (peer : List ℕ) (candidates : List AddressParts) → s.config.max_sessions ≤ 65536 → open_refusal s peer candidates ≡ None → uses s ≤ 65536
-few_used s peer candidates few none =
-    let left : full s ≡ None = not_refused (full s) (some_place (candidates_refusal (length candidates)) (start_refused (start_refusal s.startup.ledger peer)) (full_refused (full s)) none) in
-    omega (arith, few, not_full s.config.max_sessions (uses s) left)
+-- there is a place for an attempt that isn't refused
+pub place_to_open : (s : State) (peer : List ℕ) (candidates : List AddressParts) → open_refusal s peer candidates ≡ None → full s ≡ None
+place_to_open s peer candidates none =
+    not_refused (full s) (some_place (candidates_refusal (length candidates)) (start_refused (start_refusal s.startup.ledger peer)) (full_refused (full s)) none)
 
--- the session ID that an attempt is given
+-- and for a search
+place_left : (candidates place : Option SeekRefusal) → first_that_stands (candidates ∷ place ∷ []) ≡ None → place ≡ None
+place_left None None e = refl
+place_left None (Some refusal) e = absurd (cc)
+place_left (Some refusal) place e = absurd (cc)
+
+has_place : (limit : Option ℕ) → no_place limit ≡ None → limit ≡ None
+has_place None e = refl
+has_place (Some limit) e = absurd (cc)
+
+pub place_to_seek : (s : State) (candidates : List AddressParts) → seek_refusal s candidates ≡ None → full s ≡ None
+place_to_seek s candidates none = has_place (full s) (place_left (places_refusal (length candidates)) (no_place (full s)) none)
+
+few_used : (s : State) → s.config.max_sessions ≤ 65536 → full s ≡ None → uses s ≤ 65536
+few_used s few left = omega (arith, few, not_full s.config.max_sessions (uses s) left)
+
+-- the session ID that an attempt or a search is given
 pub record IsUnused (s : State) (near : ℕ) : Type 0 where
   pub other : near ≡ 0 → ⊥
   pub none : get s.startup.attempts near ≡ None
@@ -60,9 +78,26 @@ unused s near free = record {
   none = none_there (get s.startup.attempts near) (no_attempt (near == 0) (contains_key s.startup.attempts near) (contains_key s.sessions near) free);
 }
 
-pub unused_from : (s : State) (peer : List ℕ) (candidates : List AddressParts) (word near : ℕ) → s.config.max_sessions ≤ 65536 → word < 2 ^ 32 → open_refusal s peer candidates ≡ None →
-    near ≡ free_from s word → IsUnused s near
-unused_from s peer candidates word near few fits none is = unused s near (ap (is_free s) is ∙ free_from_is_free s word (few_used s peer candidates few none) fits)
+pub unused_from : (s : State) (word near : ℕ) → s.config.max_sessions ≤ 65536 → word < 2 ^ 32 → full s ≡ None → near ≡ free_from s word → IsUnused s near
+unused_from s word near few fits left is = unused s near (ap (is_free s) is ∙ free_from_is_free s word (few_used s few left) fits)
+
+-- ---- how many candidates there are
+
+some_or_many : (count : ℕ) → places_refusal count ≡ None → (1 ≤ count) × (count ≤ 16)
+some_or_many count e = decided (count == 0) (nat_lt 16 count) refl refl e
+  where
+    decided : (none many : Bool) → (count == 0) ≡ none → nat_lt 16 count ≡ many → where_true (none || many) (TooFewOrMany count) ≡ None → (1 ≤ count) × (count ≤ 16)
+    decided true many is more e = absurd (cc)
+    decided false true is more e = absurd (cc)
+    decided false false is more e = (grind (arith, nat_tests), grind (arith, nat_tests))
+
+places_left : (candidates place : Option SeekRefusal) → first_that_stands (candidates ∷ place ∷ []) ≡ None → candidates ≡ None
+places_left None place e = refl
+places_left (Some refusal) place e = absurd (cc)
+
+-- a search that isn't refused has 1 to 16
+pub places_to_seek : (s : State) (candidates : List AddressParts) → seek_refusal s candidates ≡ None → (1 ≤ length candidates) × (length candidates ≤ 16)
+places_to_seek s candidates none = some_or_many (length candidates) (places_left (places_refusal (length candidates)) (no_place (full s)) none)
 
 -- candidates at the same place count once
 

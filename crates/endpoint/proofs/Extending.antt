@@ -14,21 +14,23 @@ use Rattle.endpoint.specs.declared.call.Answered.{Answered}
 use Rattle.endpoint.specs.declared.call.Answered.TheVariants as told
 use Rattle.endpoint_model.specs.declared.answers.OpenRefusal.{OpenRefusal}
 use Rattle.endpoint_model.specs.declared.answers.OpenRefusal.TheVariants.{Memory as NoMemoryToOpen}
+use Rattle.endpoint_model.specs.declared.answers.SeekRefusal.{SeekRefusal}
+use Rattle.endpoint_model.specs.declared.answers.SeekRefusal.TheVariants.{Memory as NoMemoryToSeek}
 use Rattle.endpoint_model.specs.declared.answers.Stopped.{Stopped as Stop}
 use Rattle.endpoint_model.specs.declared.entry.Entry.{Entry}
 use Rattle.endpoint_model.specs.Added.{Added}
-use Rattle.endpoint_model.specs.Event.{Event, Call, Open, Cancel, Close, AddRow, Introduce, OnFlows, Tick, Answer, Done as IsDone, Refused as IsRefused, NotAdded as IsNotAdded}
+use Rattle.endpoint_model.specs.Event.{Event, Call, Open, Seek, Unseek, Cancel, Close, AddRow, Introduce, OnFlows, Tick, Answer, Done as IsDone, Refused as IsRefused, NotAdded as IsNotAdded}
 use Rattle.endpoint_model.specs.Introducing.{with_redirect, introducing}
-use Rattle.endpoint_model.specs.State.{State, Did, Does, Done, nothing, fresh, at_moment}
+use Rattle.endpoint_model.specs.State.{State, Did, Does, Done, nothing, fresh, at_moment, free_from}
 use Rattle.endpoint_model.specs.Admission.{admission}
 use Rattle.endpoint_model.specs.InSessions.{held_row, closing}
 use Rattle.endpoint_model.specs.FlowCall.{FlowCall}
 use Rattle.endpoint_model.specs.OnFlows.{call_refusal, flow_called}
 use Rattle.endpoint_model.specs.FlowTimes.{all_late}
-use Rattle.endpoint_model.specs.Effects.{open_refusal, opening, cancelling, ticks, received, first_due}
-use Rattle.endpoint_model.specs.Log.{Step, Answers, Leads, Extends, IsTaken, StopsSo, not_opened, not_added, not_called, answer_of_open, answer_of_call, answer_of_row, answer_of_tick, event, open_event, cancel_event, close_event, flow_event, row_event, introduce_event, tick_event, receive_event}
+use Rattle.endpoint_model.specs.Effects.{open_refusal, opening, seek_refusal, seeking, unseek_refusal, unseeking, cancelling, ticks, received, first_due}
+use Rattle.endpoint_model.specs.Log.{Step, Answers, Leads, Extends, IsTaken, StopsSo, not_opened, not_sought, not_added, not_called, answer_of_open, answer_of_seek, answer_of_call, answer_of_row, answer_of_tick, event, open_event, seek_event, unseek_event, cancel_event, close_event, flow_event, row_event, introduce_event, tick_event, receive_event}
 use Rattle.endpoint.specs.Calls.{moment_given, answer_of, Gives, Adds, Called, called_event}
-use Rattle.endpoint.specs.Answered.{began, done_as, done, added_row, ticked}
+use Rattle.endpoint.specs.Answered.{began, sought, done_as, done, added_row, ticked}
 
 -- ---- a call and its event
 
@@ -135,6 +137,53 @@ opened s t moment peer candidates draws (Err refusal) before after number ok ref
   );
   numbered = tt;
   added = adds (nothing (at_moment s moment)) t before after err;
+}
+
+pub searched : (s t : State) (moment : ℕ) (name : List ℕ) (candidates : List AddressParts) (draws : Draws) (r : Result ℕ SeekRefusal) (before after : Added) →
+    IfOk r (λ near. near ≡ free_from (at_moment s moment) draws.word) →
+    OnOk r (Done (seeking (at_moment s moment) name candidates draws) t before after) →
+    IfSome (seek_refusal (at_moment s moment) candidates) (λ refusal. r ≡ Err refusal) →
+    IfNone (seek_refusal (at_moment s moment) candidates) (IfErr r (λ refusal. refusal ≡ NoMemoryToSeek)) →
+    OnErr r (Done (nothing (at_moment s moment)) t before after) →
+    Called s moment (Seek name candidates draws) (sought r) t before after
+searched s t moment name candidates draws (Ok near) before after near_is ok refused memory err =
+    let d : Did = seeking (at_moment s moment) name candidates draws in
+    record {
+      entries = d.entries;
+      answers = (none_by (seek_refusal (at_moment s moment) candidates) near refused, near_is, does d t before after ok);
+      numbered = tt;
+      added = adds d t before after ok;
+    }
+searched s t moment name candidates draws (Err refusal) before after near_is ok refused memory err = record {
+  entries = [];
+  answers = (
+    why_by ℕ (seek_refusal (at_moment s moment) candidates) NoMemoryToSeek refusal not_sought refl (λ x. refl) refused memory,
+    does (nothing (at_moment s moment)) t before after err,
+  );
+  numbered = tt;
+  added = adds (nothing (at_moment s moment)) t before after err;
+}
+
+pub unsought : (s t : State) (moment near : ℕ) (r : Result (Unit {0}) CallRefusal) (before after : Added) →
+    OnOk r (Done (unseeking s near) t before after) →
+    IfSome (unseek_refusal s near) (λ refusal. r ≡ Err refusal) →
+    IfNone (unseek_refusal s near) (IfErr r (λ refusal. refusal ≡ NoMemory)) →
+    OnErr r (Done (nothing s) t before after) →
+    Called s moment (Unseek near) (done r) t before after
+unsought s t moment near (Ok x) before after ok refused memory err = record {
+  entries = (unseeking s near).entries;
+  answers = unnoted s t (Unseek near) IsDone (unseeking s near).entries (none_by (unseek_refusal s near) x refused, does (unseeking s near) t before after ok);
+  numbered = tt;
+  added = adds (unseeking s near) t before after ok;
+}
+unsought s t moment near (Err refusal) before after ok refused memory err = record {
+  entries = [];
+  answers = unnoted s t (Unseek near) (IsRefused refusal) [] (
+    why_by (Unit {0}) (unseek_refusal s near) NoMemory refusal not_called refl (λ x. refl) refused memory,
+    does (nothing s) t before after err,
+  );
+  numbered = tt;
+  added = adds (nothing s) t before after err;
 }
 
 pub cancelled : (s t : State) (moment n : ℕ) (r : Result (Unit {0}) CallRefusal) (before after : Added) →
@@ -250,6 +299,10 @@ pub answer_of_began : (r : Result ℕ OpenRefusal) → answer_of (began r) ≡ a
 answer_of_began (Ok n) = refl
 answer_of_began (Err refusal) = refl
 
+answer_of_sought : (r : Result ℕ SeekRefusal) → answer_of (sought r) ≡ answer_of_seek r
+answer_of_sought (Ok near) = refl
+answer_of_sought (Err refusal) = refl
+
 pub answer_of_done : {A : Type 0} (answer : A → Answered) (r : Result A CallRefusal) → ((x : A) → answer_of (answer x) ≡ IsDone) → answer_of (done_as answer r) ≡ answer_of_call r
 answer_of_done answer (Ok x) is = is x
 answer_of_done answer (Err refusal) is = refl
@@ -268,6 +321,14 @@ pub open_stands : (s t : State) (moment : ℕ) (peer : List ℕ) (candidates : L
     Called s moment (Open peer candidates draws) (began r) t before after → Extends s t (open_event moment peer candidates draws r before.entries after.entries)
 open_stands s t moment peer candidates draws r before after did =
     method_extends s t moment (Open peer candidates draws) (began r) before after (answer_of_open r) (answer_of_began r) did
+
+pub seek_stands : (s t : State) (moment : ℕ) (name : List ℕ) (candidates : List AddressParts) (draws : Draws) (r : Result ℕ SeekRefusal) (before after : Added) →
+    Called s moment (Seek name candidates draws) (sought r) t before after → Extends s t (seek_event moment name candidates draws r before.entries after.entries)
+seek_stands s t moment name candidates draws r before after did =
+    method_extends s t moment (Seek name candidates draws) (sought r) before after (answer_of_seek r) (answer_of_sought r) did
+
+pub unseek_stands : (s t : State) (near : ℕ) (r : Result (Unit {0}) CallRefusal) (before after : Added) → Called s 0 (Unseek near) (done r) t before after → Extends s t (unseek_event near r before.entries after.entries)
+unseek_stands s t near r before after did = method_extends s t 0 (Unseek near) (done r) before after (answer_of_call r) (answer_of_done (λ _. told.Done) r (λ x. refl)) did
 
 pub cancel_stands : (s t : State) (n : ℕ) (r : Result (Unit {0}) CallRefusal) (before after : Added) → Called s 0 (Cancel n) (done r) t before after → Extends s t (cancel_event n r before.entries after.entries)
 cancel_stands s t n r before after did = method_extends s t 0 (Cancel n) (done r) before after (answer_of_call r) (answer_of_done (λ _. told.Done) r (λ x. refl)) did

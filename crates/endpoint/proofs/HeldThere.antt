@@ -18,9 +18,10 @@ use Rattle.endpoint_model.specs.declared.config.Config.{Config}
 use Rattle.endpoint_model.specs.State.{State, uses}
 use Rattle.endpoint_laws.specs.Past.{Past, facts_of, past_of, last_moment}
 use Rattle.startup.specs.declared.aim.Aim.{Aim}
-use Rattle.startup.specs.declared.aim.Aim.TheVariants.{AtPeer}
+use Rattle.startup.specs.declared.aim.Aim.TheVariants.{AtPeer, ByName}
 use Rattle.startup.specs.Aims.{IsHeldAs}
-use Rattle.endpoint_laws.specs.OfTheLog.{IsHeldByLog, IsThing, SessionStands, IsClosingStage, IsOfTheLog, TheStateIsOfTheLog}
+use Rattle.startup.specs.State.{AttemptState}
+use Rattle.endpoint_laws.specs.OfTheLog.{IsOfAim, IsThing, SessionStands, IsClosingStage, IsOfTheLog, TheStateIsOfTheLog}
 use Rattle.endpoint_laws.specs.Within.{FlowsAreWithin, FlowsHoldFew, NoAckIsOwed}
 use Rattle.endpoint_laws.proofs.Logged.{tied_to_log}
 use Rattle.endpoint.specs.Reached.{IsReached}
@@ -121,12 +122,13 @@ module _ (law : TheStateIsOfTheLog) (s : State) (is : IsReached s) where
         is = found.is;
       }
 
-  attempt_held : (near : ℕ) (ni : List ℕ) (aim : Aim) → IsHeldByLog past near ni aim → IsHeldAs s.startup.ledger near ni aim
-  attempt_held near ni (AtPeer peer n) is = of_log.held_is peer ∙ is
+  attempt_held : (near : ℕ) (a : AttemptState) (aim : Aim) → IsOfAim past near a aim → IsHeldAs s.startup.ledger near a.ni aim
+  attempt_held near a (AtPeer peer n) is = of_log.held_is peer ∙ is.0
+  attempt_held near a (ByName name) is = tt
 
   pub held_there : HoldsWhatIsThere s
   held_there = record {
-    attempts = λ near a e. attempt_held near a.ni a.aim (of_log.attempts near a e).is_held;
+    attempts = λ near a e. attempt_held near a a.aim (of_log.attempts near a e);
     attempts_there = λ peer n near ni e. of_log.attempts_there peer n near ni (sym (of_log.held_is peer) ∙ e);
     sessions = λ near row e. stands_so near row.session (of_log.sessions near row e).stands;
     sessions_there = session_there;

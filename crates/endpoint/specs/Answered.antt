@@ -4,12 +4,17 @@ use Rattle.rtmfp_base.specs.declared.memory.Memory.{Memory}
 use Rattle.introducer.specs.declared.refusal.RowRefusal.{RowRefusal}
 use Rattle.session_flows.specs.declared.refusal.CallRefusal.{CallRefusal}
 use Rattle.endpoint_model.specs.declared.answers.OpenRefusal.{OpenRefusal}
+use Rattle.endpoint_model.specs.declared.answers.SeekRefusal.{SeekRefusal}
 use Rattle.endpoint.specs.declared.call.Answered.{Answered}
 use Rattle.endpoint.specs.declared.call.Answered.TheVariants as told
 
 abbrev pub began : Result ℕ OpenRefusal → Answered
 began (Ok n) = told.Began n
 began (Err refusal) = told.NotOpened refusal
+
+abbrev pub sought : Result ℕ SeekRefusal → Answered
+sought (Ok near) = told.Searching near
+sought (Err refusal) = told.NotSought refusal
 
 -- a call with the refusals of calls, by what it answers where it is done
 abbrev pub done_as : {A : Type 0} → (A → Answered) → Result A CallRefusal → Answered

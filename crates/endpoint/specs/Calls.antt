@@ -10,13 +10,15 @@ use Rattle.endpoint_model.specs.declared.entry.Entry.{Entry}
 use Rattle.endpoint_model.specs.declared.entry.Entry.TheVariants as entry
 use Rattle.endpoint_model.specs.Added.{Added}
 use Rattle.endpoint_model.specs.FlowCall.{FlowCall, OpenFlow, Queue, Abandon, Finish}
-use Rattle.endpoint_model.specs.Event.{Call, Open, Cancel, Close, AddRow, Introduce, OnFlows, Receive, Tick, Answer, Began, Done, NotOpened, Refused, NotAdded, OutOfMemory, Event}
+use Rattle.endpoint_model.specs.Event.{Call, Open, Seek, Unseek, Cancel, Close, AddRow, Introduce, OnFlows, Receive, Tick, Answer, Began, Searching, Done, NotOpened, NotSought, Refused, NotAdded, OutOfMemory, Event}
 use Rattle.endpoint_model.specs.State.{State, at_moment}
 use Rattle.endpoint_model.specs.Log.{Answers, event}
 
 -- the call, with its draws
 abbrev pub call_of : EndCall → Draws → Call
 call_of (given.Open print candidates) draws = Open print.now candidates.now draws
+call_of (given.Seek name candidates) draws = Seek name.now candidates.now draws
+call_of (given.Unseek near) draws = Unseek near
 call_of (given.Cancel n) draws = Cancel n
 call_of (given.Close near) draws = Close near
 call_of (given.OpenFlow near priority metadata answers) draws =
@@ -32,6 +34,7 @@ call_of given.Tick draws = Tick draws
 -- its moment, or 0 where it is given none
 abbrev pub moment_given : Call → ℕ → ℕ
 moment_given (Open peer candidates draws) moment = moment
+moment_given (Seek name candidates draws) moment = moment
 moment_given (Close near) moment = moment
 moment_given (Receive from datagram draws) moment = moment
 moment_given (Tick draws) moment = moment
@@ -40,10 +43,12 @@ moment_given call moment = 0
 -- its answer, in which a log has no number of a flow or a message, since the entry has it
 abbrev pub answer_of : Answered → Answer
 answer_of (told.Began n) = Began n
+answer_of (told.Searching near) = Searching near
 answer_of (told.FlowOpened flow) = Done
 answer_of (told.Queued seq) = Done
 answer_of told.Done = Done
 answer_of (told.NotOpened refusal) = NotOpened refusal
+answer_of (told.NotSought refusal) = NotSought refusal
 answer_of (told.Refused refusal) = Refused refusal
 answer_of (told.NotAdded refusal) = NotAdded refusal
 answer_of told.OutOfMemory = OutOfMemory

@@ -32,7 +32,7 @@ pub record SessionIsThere (s : State) (peer : List ℕ) (thing : Held) : Type 0 
 -- What is held with the peers names just the attempts and the sessions that are there.
 pub record HoldsWhatIsThere (s : State) : Type 0 where
   -- each attempt is held as what it aims at, under its near ID and its nonce: with its peer, under its
-  -- number
+  -- number; a search is held with no peer
   pub attempts : (near : ℕ) (a : AttemptState) → get s.startup.attempts near ≡ Some a →
       IsHeldAs s.startup.ledger near a.ni a.aim
   pub attempts_there : (peer : List ℕ) (n near : ℕ) (ni : List ℕ) →
@@ -44,7 +44,7 @@ pub record HoldsWhatIsThere (s : State) : Type 0 where
   pub sessions_there : (peer : List ℕ) (thing : Held) →
       held_with s.startup.ledger peer ≡ Some thing → IsSession thing →
       SessionIsThere s peer thing
-  -- each session stands under its near ID, and no attempt and session have one
+  -- each session stands under its near ID, and no attempt or search has one that a session has
   pub ids : (near : ℕ) (row : Row) → get s.sessions near ≡ Some row →
       row.session.joined.near ≡ near
   pub apart : (near : ℕ) (a : AttemptState) → get s.startup.attempts near ≡ Some a →

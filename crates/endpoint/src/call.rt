@@ -1,7 +1,8 @@
 //! The calls of an end as values, and what they answer.
 
-use endpoint_model::{CallRefusal, OpenRefusal};
+use endpoint_model::{CallRefusal, OpenRefusal, SeekRefusal};
 use flow_send::MessageOptions;
+use identity::ServiceName;
 use introducer::RowRefusal;
 use rtmfp_forms::Address;
 
@@ -14,6 +15,16 @@ pub enum EndCall<'a> {
         print: &'a [u8; 32],
         /// The places where the end may be.
         candidates: &'a [Address],
+    },
+    /// A search begins for an end whose certificate has this name.
+    Seek {
+        name: &'a ServiceName,
+        /// The places where such an end may be.
+        candidates: &'a [Address],
+    },
+    /// The search with this session ID is given up.
+    Unseek {
+        near: u32,
     },
     /// The attempt with this number is given up.
     Cancel {
@@ -66,6 +77,8 @@ pub enum EndCall<'a> {
 pub enum Answered {
     /// An attempt began, with this number.
     Began(u64),
+    /// A search began, with this session ID.
+    Searching(u32),
     /// A flow was opened, with this ID.
     FlowOpened(u64),
     /// A message was queued; the number of its first fragment.
@@ -73,6 +86,7 @@ pub enum Answered {
     /// A call was done that gives no number.
     Done,
     NotOpened(OpenRefusal),
+    NotSought(SeekRefusal),
     Refused(CallRefusal),
     NotAdded(RowRefusal),
     /// A tick found no memory for all that is due.

@@ -3,20 +3,21 @@
 ghost use Rattle.std.specs.Prelude.{◌≡◌};
 ghost use Rattle.endpoint.specs.Calls.{Called, call_of, called_event};
 ghost use Rattle.endpoint_model.specs.Log.{Extends};
-ghost use Rattle.endpoint.specs.Answered.{added_row, began, done, flow_opened, queued, ticked};
+ghost use Rattle.endpoint.specs.Answered.{added_row, began, done, flow_opened, queued, sought};
+ghost use Rattle.endpoint.specs.Answered.{ticked};
 
 use crate::call::{Answered, EndCall};
 use crate::endpoint::Endpoint;
 use end_state::Outbox;
-use endpoint_model::{CallRefusal, Draws, OpenRefusal};
+use endpoint_model::{CallRefusal, Draws, OpenRefusal, SeekRefusal};
 use identity::Epd;
 use introducer::RowRefusal;
 use rtmfp_base::Memory;
 
 impl Endpoint {
-    /// Makes a call, as the method of its name does. The moment is noted by an open, a close and a
-    /// tick alone, the draws are those of an open and a tick, and the outbox is that of all but a row
-    /// and an introduction.
+    /// Makes a call, as the method of its name does. The moment is noted by an open, a seek, a
+    /// close and a tick alone, the draws are those of an open, a seek and a tick, and the outbox is
+    /// that of all but a row and an introduction.
     pub fn call(
         &mut self,
         call: &EndCall<'_>,
@@ -44,6 +45,10 @@ impl Endpoint {
             EndCall::Open { print, candidates } => {
                 began(self.open(&Epd { print: **print }, candidates, moment, draws, out))
             }
+            EndCall::Seek { name, candidates } => {
+                sought(self.seek(name, candidates, moment, draws, out))
+            }
+            EndCall::Unseek { near } => done(self.unseek(*near, out)),
             EndCall::Cancel { n } => done(self.cancel(*n, out)),
             EndCall::Close { near } => done(self.close(*near, moment, out)),
             EndCall::OpenFlow {
@@ -77,6 +82,16 @@ fn began(answer: Result<u64, OpenRefusal>) -> Answered
     match answer {
         Ok(n) => Answered::Began(n),
         Err(refusal) => Answered::NotOpened(refusal),
+    }
+}
+
+/// What a seek answered.
+fn sought(answer: Result<u32, SeekRefusal>) -> Answered
+    ensures { result ≡ sought answer }
+{
+    match answer {
+        Ok(near) => Answered::Searching(near),
+        Err(refusal) => Answered::NotSought(refusal),
     }
 }
 

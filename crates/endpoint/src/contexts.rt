@@ -12,8 +12,8 @@ use endpoint_model::Row;
 
 impl Endpoint {
     /// The context of a datagram's session ID at this end, where the datagram opens in it: startup
-    /// for session ID 0 and that of an attempt, and a session's own, towards this end. None exactly
-    /// where it opens in none.
+    /// for session ID 0 and that of an attempt or a search, and a session's own, towards this end.
+    /// None exactly where it opens in none.
     ///
     /// A datagram whose number was taken before opens, too. It takes no memory, and changes
     /// nothing.

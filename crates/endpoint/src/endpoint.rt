@@ -11,10 +11,10 @@ use identity::Certificate;
 use std::alloc::Global;
 use std::marker::Model;
 
-/// One end: what it keeps of its attempts and sessions.
+/// One end: what it keeps of its attempts, searches and sessions.
 ///
 /// Contracts see its limits, the largest moment that it was given, how many startup packets it
-/// sealed, what it keeps of attempts and of sessions, each by their session IDs, whether it
+/// sealed, what it keeps of attempts, searches and sessions, each by their session IDs, whether it
 /// introduces, and its rows of addresses.
 #[derive(Drop)]
 pub struct Endpoint {

@@ -11,8 +11,8 @@ use crate::endpoint::Endpoint;
 use crate::laws;
 
 impl Endpoint {
-    /// There are never more attempts and sessions than may be, those that are closing among them,
-    /// and never more rows of peers.
+    /// There are never more attempts, searches and sessions than may be, those that are closing
+    /// among them, and never more rows of peers.
     pub fn stays_within(&self)
         ensures sessions { uses self.now ≤ self.now.config.max_sessions }
         ensures peers { row_count self.now.startup.ledger ≤ self.now.config.max_peers }
@@ -22,7 +22,7 @@ impl Endpoint {
 
     /// What is held with the peers names just the attempts and the sessions that are there: each
     /// attempt is held under its number, its near ID and its nonce, each session as what it is by
-    /// its role and its stage, and one that is closing not at all.
+    /// its role and its stage, and one that is closing not at all. A search is held with no peer.
     pub fn holds_what_is_there(&self)
         ensures { HoldsWhatIsThere self.now }
     {

@@ -13,13 +13,14 @@ mod introducing;
 mod kinds;
 pub mod laws;
 mod receiving;
+mod searches;
 pub mod sizes;
 mod ticking;
 
 pub use call::{Answered, EndCall};
 pub use end_state::Outbox;
 pub use endpoint::Endpoint;
-pub use endpoint_model::{CallRefusal, Config, Draws, Entry, OpenRefusal, Stopped};
+pub use endpoint_model::{CallRefusal, Config, Draws, Entry, OpenRefusal, SeekRefusal, Stopped};
 pub use flow_send::{MessageOptions, QueueRefusal};
 pub use introducer::RowRefusal;
 pub use kinds::{Kinds, outgoing_kinds};

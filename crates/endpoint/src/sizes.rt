@@ -2,9 +2,11 @@
 //! types say.
 
 ghost use Rattle.std.specs.Prelude.{◌≡◌, ◌<◌, ◌^◌, length};
+ghost use Rattle.identity.specs.ServiceNames.{IsServiceName};
 ghost use Rattle.endpoint_laws.specs.Laws.{AreBytes};
 
 use endpoint_model::Draws;
+use identity::ServiceName;
 
 /// The bytes of a datagram are bytes.
 pub fn are_bytes(datagram: &[u8])
@@ -15,6 +17,13 @@ pub fn are_bytes(datagram: &[u8])
 pub fn are_thirty_two(bytes: &[u8; 32])
     ensures { length bytes.now ≡ 32 }
 {}
+
+/// A name has the form of one.
+pub fn is_service_name(name: &ServiceName)
+    ensures { IsServiceName name.now }
+{
+    let _bytes = name.bytes();
+}
 
 /// Draws have their sizes.
 pub fn are_sized(draws: &Draws)

@@ -14,11 +14,11 @@ use rtmfp_base::Memory;
 
 impl Endpoint {
     /// Does all that is due. First, in each held session, the numbers of its flows are lost whose
-    /// resend time has passed. Then attempts that weren't answered in time end, and hellos and
-    /// keyings go out again, by rising session IDs. Then, by rising session IDs too, sessions end
-    /// that weren't confirmed in time or took nothing for long, closings are over or send their
-    /// close again, messages are abandoned, flow data goes out, and keepalives do (RFC 7016
-    /// sections 3.5.5 and 3.6.2; the times are own).
+    /// resend time has passed. Then attempts and searches that weren't answered in time end, and
+    /// hellos and keyings go out again, by rising session IDs. Then, by rising session IDs too,
+    /// sessions end that weren't confirmed in time or took nothing for long, closings are over or
+    /// send their close again, messages are abandoned, flow data goes out, and keepalives do (RFC
+    /// 7016 sections 3.5.5 and 3.6.2; the times are own).
     ///
     /// For want of memory it does a part of it: what it did stands, and the first thing that found
     /// none, and what comes after it, is still due. To mark lost numbers takes none.

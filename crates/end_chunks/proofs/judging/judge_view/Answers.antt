@@ -2,7 +2,7 @@ use Rattle.std.proofs.Common.{rules, subst, ap, ◌∙◌}
 use Rattle.rtmfp_chunks.specs.Chunk.{chunk_of}
 use Rattle.rtmfp_chunks.specs.declared.view.ChunkView.{ChunkView}
 use Rattle.startup.specs.Attempts.{lowest, has_tag, changed}
-use Rattle.startup.specs.Judging.{IsFound}
+use Rattle.startup.specs.Judging.{IsFound, IsGreeted}
 use Rattle.endpoint_model.specs.Admission.{sid_at}
 use Rattle.endpoint_model.specs.State.{State}
 use Rattle.end_chunks.specs.Judging.{view_done}
@@ -17,11 +17,13 @@ pub returns-in-Ok-clause-ok : goal.returns-in-Ok-clause-ok
 returns-in-Ok-clause-ok c =
     let s : State = c.args.end.now in
     let tag = c.in-RHello.tag.now in
-    let at : IsFound s.startup c.in-Ok.found (lowest (has_tag tag) s.startup.attempts) =
-    subst (λ (t : State). IsFound t.startup c.in-Ok.found (lowest (has_tag tag) t.startup.attempts)) c.end.view_is c.in-Ok.ensures.found in
+    let cert = c.in-RHello.cert.now in
+    let greeting = c.in-Ok.greeting in
+    let at : IsGreeted s.startup greeting (lowest (has_tag tag) s.startup.attempts) cert =
+    subst (λ (t : State). IsGreeted t.startup greeting (lowest (has_tag tag) t.startup.attempts) cert) c.end.view_is c.in-Ok.ensures.greeted in
     record {
-      so = ((lowest (has_tag tag) s.startup.attempts, at), c.in-Ok.ensures.cookie);
-      does_so = λ draws. ap (λ (v : ChunkView). view_done s c.args.place c.args.from.now (chunk_of v)) c.in-RHello.is ∙ hello_does s c.args.from.now tag c.in-RHello.cookie.now c.in-Ok.found at;
+      so = ((lowest (has_tag tag) s.startup.attempts, (cert, at)), c.in-Ok.ensures.cookie);
+      does_so = λ draws. ap (λ (v : ChunkView). view_done s c.args.place c.args.from.now (chunk_of v)) c.in-RHello.is ∙ hello_does s c.args.place c.args.from.now tag c.in-RHello.cookie.now cert greeting at;
     }
 
 pub returns-in-Ok-judge_cookie_change-clause-ok : goal.returns-in-Ok-judge_cookie_change-clause-ok

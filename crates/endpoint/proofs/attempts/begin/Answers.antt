@@ -3,19 +3,21 @@ use Rattle.std.proofs.lemmas.Grind.{common_steps}
 use Rattle.std.specs.FinMap.{get}
 use Rattle.startup.specs.State.{SpreadParts}
 use Rattle.endpoint_model.specs.State.{State}
-use Rattle.endpoint.proofs.Begun.{unused_from, few_places}
+use Rattle.endpoint.proofs.Begun.{place_to_open, unused_from, few_places}
 use Rattle.endpoint.proofs.attempts.begin.Goals as goal
 
 pub begin-requires-clause-near : goal.begin-requires-clause-near
 begin-requires-clause-near c =
-    (unused_from c.args.end.now c.args.epd.now.print c.args.candidates.now c.args.draws.now.word c.free_from-near.result
-    (subst (λ (s : State). s.config.max_sessions ≤ 65536) c.end.view_is c.end.invariant.few) (omega arith) c.requires c.free_from-near.ensures).other
+    (unused_from c.args.end.now c.args.draws.now.word c.free_from-near.result
+    (subst (λ (s : State). s.config.max_sessions ≤ 65536) c.end.view_is c.end.invariant.few) (omega arith)
+    (place_to_open c.args.end.now c.args.epd.now.print c.args.candidates.now c.requires) c.free_from-near.ensures).other
 
 pub begin-requires-clause-free : goal.begin-requires-clause-free
 begin-requires-clause-free c =
     ap (λ (s : State). get s.startup.attempts c.free_from-near.result) c.end.view_is
-    ∙ (unused_from c.args.end.now c.args.epd.now.print c.args.candidates.now c.args.draws.now.word c.free_from-near.result
-    (subst (λ (s : State). s.config.max_sessions ≤ 65536) c.end.view_is c.end.invariant.few) (omega arith) c.requires c.free_from-near.ensures).none
+    ∙ (unused_from c.args.end.now c.args.draws.now.word c.free_from-near.result
+    (subst (λ (s : State). s.config.max_sessions ≤ 65536) c.end.view_is c.end.invariant.few) (omega arith)
+    (place_to_open c.args.end.now c.args.epd.now.print c.args.candidates.now c.requires) c.free_from-near.ensures).none
 
 pub send_each-requires-clause-enough : goal.send_each-requires-clause-enough
 send_each-requires-clause-enough c =

@@ -3,7 +3,7 @@ use Rattle.endpoint_model.specs.declared.entry.Entry.TheVariants as entry
 use Rattle.endpoint_model.specs.FlowCall.{Queue}
 use Rattle.endpoint_model.specs.OnFlows.{flow_called}
 use Rattle.endpoint.specs.declared.call.Answered.TheVariants as told
-use Rattle.endpoint.proofs.Extending.{opened, on_flows}
+use Rattle.endpoint.proofs.Extending.{opened, searched, on_flows}
 use Rattle.endpoint.proofs.endpoint.Endpoint.make.Goals as goal
 
 pub returns-in-Open : goal.returns-in-Open
@@ -11,6 +11,12 @@ returns-in-Open c =
     rw (c.in-Open.is, c.began.ensures)
     (opened c.args.self.now c.open.new.self c.args.moment c.in-Open.print.now c.in-Open.candidates.now c.args.draws.now c.open.result c.args.out.now c.open.new.out
     c.open.ensures.number c.open.ensures.ok c.open.ensures.refused c.open.ensures.memory c.open.ensures.err)
+
+pub returns-in-Seek : goal.returns-in-Seek
+returns-in-Seek c =
+    rw (c.in-Seek.is, c.sought.ensures)
+    (searched c.args.self.now c.seek.new.self c.args.moment c.in-Seek.name.now c.in-Seek.candidates.now c.args.draws.now c.seek.result c.args.out.now c.seek.new.out
+    c.seek.ensures.near c.seek.ensures.ok c.seek.ensures.refused c.seek.ensures.memory c.seek.ensures.err)
 
 pub returns-in-Queue : goal.returns-in-Queue
 returns-in-Queue c =
