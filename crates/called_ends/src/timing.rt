@@ -6,7 +6,7 @@ mod side;
 
 use crate::timing::calls::Kind::{
     Birth, Cancel, Change, Close, Confirm, Discard, Empty, EndAll, ExpireAll, Flow, Forget, Hello,
-    LoseAll, Open, Ping, Queue, Send, SendAll, Tick, Unknown,
+    LoseAll, Open, Ping, Queue, Seek, Send, SendAll, Tick, Unknown, Unseek,
 };
 use crate::timing::calls::{Batch, Kind};
 use crate::timing::side::{Side, Taken};
@@ -20,6 +20,9 @@ const OF_SESSIONS: &[Kind] = &[Ping, Discard, Tick, Birth, Close, Forget];
 
 /// Those that are timed with many attempts.
 const OF_ATTEMPTS: &[Kind] = &[Open, Hello, Empty, Change, Unknown, Tick, Cancel];
+
+/// Those that are timed with many searches.
+const OF_SEARCHES: &[Kind] = &[Seek, Hello, Tick, Unseek];
 
 /// Those that are timed with many sessions that have a sending flow.
 const OF_SENDING: &[Kind] = &[Send, Queue, SendAll, LoseAll];
@@ -49,7 +52,7 @@ impl Job {
         match kind {
             Tick => self.batch(kind, 1, TICKS),
             Birth => self.batch(kind, further, self.count),
-            Open => self.batch(kind, further, self.count),
+            Open | Seek => self.batch(kind, further, self.count),
             Hello => self.batch(kind, further, self.count),
             Queue => self.batch(kind, 1, self.size),
             SendAll | LoseAll | ExpireAll | EndAll => self.batch(kind, 1, 1),
@@ -72,7 +75,14 @@ fn number(line: &str, index: usize) -> u32 {
 pub(crate) fn is_timed(line: &str) -> bool {
     matches!(
         word(line, 0),
-        "sessions" | "attempts" | "alike" | "sending" | "expiring" | "ending"
+        "sessions"
+            | "attempts"
+            | "alike"
+            | "searches"
+            | "sending"
+            | "expiring"
+            | "seeking"
+            | "ending"
     )
 }
 
@@ -105,6 +115,8 @@ fn do_job(rt: &HostRuntime, word: &str, job: Job) -> Option<()> {
         "sessions" => run(rt, &mut side, job, &[Birth, Confirm], OF_SESSIONS),
         "sending" => run(rt, &mut side, job, &[Birth, Confirm, Flow], OF_SENDING),
         "expiring" => run(rt, &mut side, job, &[Open], &[ExpireAll]),
+        "searches" => run(rt, &mut side, job, &[Seek], OF_SEARCHES),
+        "seeking" => run(rt, &mut side, job, &[Seek], &[ExpireAll]),
         "ending" => run(rt, &mut side, job, &[Birth], &[EndAll]),
         _ => run(rt, &mut side, job, &[Open, Hello], OF_ATTEMPTS),
     }

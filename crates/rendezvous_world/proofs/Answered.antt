@@ -9,27 +9,29 @@ use Rattle.endpoint_model.specs.declared.config.Draws.{Draws}
 use Rattle.endpoint_model.specs.declared.entry.Entry.{Entry}
 use Rattle.endpoint_model.specs.declared.answers.OpenRefusal.{OpenRefusal}
 use Rattle.endpoint_model.specs.declared.answers.OpenRefusal.TheVariants.{Candidates, Memory as NoMemoryToOpen}
+use Rattle.endpoint_model.specs.declared.answers.SeekRefusal.{SeekRefusal}
+use Rattle.endpoint_model.specs.declared.answers.SeekRefusal.TheVariants.{Candidates as WrongCount, Memory as NoMemoryToSeek}
 use Rattle.session_flows.specs.declared.refusal.CallRefusal.{CallRefusal}
 use Rattle.session_flows.specs.declared.refusal.CallRefusal.TheVariants.{NoSession, Memory as NoMemoryToCall}
 use Rattle.introducer.specs.declared.refusal.RowRefusal.{RowRefusal}
 use Rattle.introducer.specs.declared.refusal.RowRefusal.TheVariants.{Memory as NoMemoryForRow}
 use Rattle.endpoint_model.specs.declared.answers.Stopped.{Stopped as Stop}
-use Rattle.endpoint_model.specs.Event.{Call, Receive, Answer, Began, Done, NotOpened, Refused as RefusedCall, NotAdded, OutOfMemory, Event}
+use Rattle.endpoint_model.specs.Event.{Call, Receive, Answer, Began, Searching, Done, NotOpened, NotSought, Refused as RefusedCall, NotAdded, OutOfMemory, Event}
 use Rattle.endpoint_model.specs.State.{State, at_moment, full}
 use Rattle.endpoint_model.specs.InSessions.{held_row}
-use Rattle.endpoint_model.specs.Effects.{candidates_refusal, start_refused, full_refused}
-use Rattle.endpoint_model.specs.Log.{Answers, Step as StepOf, not_opened}
+use Rattle.endpoint_model.specs.Effects.{candidates_refusal, start_refused, full_refused, places_refusal, no_place}
+use Rattle.endpoint_model.specs.Log.{Answers, Step as StepOf, not_opened, not_sought}
 use Rattle.endpoint.specs.declared.call.Answered.{Answered}
 use Rattle.endpoint.specs.Calls.{moment_given as given_to, answer_of as told_by, Called}
 use Rattle.rendezvous_world.specs.declared.journal.Refused.{Refused}
-use Rattle.rendezvous_world.specs.declared.journal.Refused.TheVariants.{Open as OpenRefused, Call as CallRefused, Row as RowRefused}
+use Rattle.rendezvous_world.specs.declared.journal.Refused.TheVariants.{Open as OpenRefused, Seek as SeekRefused, Call as CallRefused, Row as RowRefused}
 use Rattle.rendezvous_world.specs.declared.step.Step.{Step}
 use Rattle.rendezvous_world.specs.declared.step.DeedCall.{DeedCall}
 use Rattle.rendezvous_world.specs.declared.step.Source.{Source}
 use Rattle.rendezvous_world.specs.declared.step.Source.TheVariants.{Delivered, Turned, Injected, Sealed}
-use Rattle.rendezvous_world.specs.Deed.{StepCall, Opens, Cancels, Closes, CallsFlows, Introduces, Redirects, Ticks, Deed, Calls, deed_of}
+use Rattle.rendezvous_world.specs.Deed.{StepCall, Opens, Seeks, Unseeks, Cancels, Closes, CallsFlows, Introduces, Redirects, Ticks, Deed, Calls, deed_of}
 use Rattle.rendezvous_world.specs.Draws.{draws_of}
-use Rattle.rendezvous_world.specs.Calls.{made, moment_in, number_started, answer_in, answer_to_datagram, IsDoneOrRefused, MayAnswer, LeavesUndone}
+use Rattle.rendezvous_world.specs.Calls.{made, moment_in, number_started, near_sought, answer_in, answer_to_datagram, IsDoneOrRefused, MayAnswer, LeavesUndone}
 use Rattle.rendezvous_world.specs.History.{call_by, moment_given, answer_by}
 use Rattle.rendezvous_world.specs.Stepping.{HasAnswer, HasItsAnswer}
 use Rattle.rendezvous_world.specs.Entering.{bringing, made_by, IsCallBy, IsCallOf, peer_by, event_by, refused_in, stopped_in, FoundNone, IsUndoneIn, IsUndone}
@@ -39,6 +41,8 @@ use Rattle.rendezvous_world.specs.Entering.{bringing, made_by, IsCallBy, IsCallO
 -- the moment that it is given
 moment_same : (call : StepCall) (print : List ℕ) (draws : Draws) (moment : ℕ) → given_to (made call print draws) moment ≡ moment_in moment call
 moment_same (Opens peer list) print draws moment = refl
+moment_same (Seeks name list) print draws moment = refl
+moment_same (Unseeks near) print draws moment = refl
 moment_same (Cancels n) print draws moment = refl
 moment_same (Closes near) print draws moment = refl
 moment_same (CallsFlows near call) print draws moment = refl
@@ -52,6 +56,12 @@ fits : (call : StepCall) (print : List ℕ) (draws : Draws) (s t : State) (answe
 fits (Opens peer list) print draws s t (Began n) entries h = ap Began h.1 ∙ ap (λ (es : List Entry). Began (number_started es)) (sym h.2.entries)
 fits (Opens peer list) print draws s t (NotOpened refusal) entries h = refl
 fits (Opens peer list) print draws s t answer entries h = absurd h
+fits (Seeks name list) print draws s t (Searching near) entries h = ap Searching h.1 ∙ ap (λ (es : List Entry). Searching (near_sought es)) (sym h.2.entries)
+fits (Seeks name list) print draws s t (NotSought refusal) entries h = refl
+fits (Seeks name list) print draws s t answer entries h = absurd h
+fits (Unseeks near) print draws s t Done entries h = refl
+fits (Unseeks near) print draws s t (RefusedCall refusal) entries h = refl
+fits (Unseeks near) print draws s t answer entries h = absurd h
 fits (Cancels n) print draws s t Done entries h = refl
 fits (Cancels n) print draws s t (RefusedCall refusal) entries h = refl
 fits (Cancels n) print draws s t answer entries h = absurd h
@@ -71,16 +81,19 @@ fits Ticks print draws s t OutOfMemory entries h = refl
 fits Ticks print draws s t answer entries h = absurd h
 
 no_refusal : IsDoneOrRefused None
-no_refusal = record { opened = λ e. absurd (cc); called = λ e. absurd (cc); added = λ e. absurd (cc) }
+no_refusal = record { opened = λ e. absurd (cc); sought = λ e. absurd (cc); called = λ e. absurd (cc); added = λ e. absurd (cc) }
 
 not_opened_for : (refusal : OpenRefusal) → (refusal ≡ NoMemoryToOpen → ⊥) → IsDoneOrRefused (Some (OpenRefused refusal))
-not_opened_for refusal other = record { opened = λ e. other (cc); called = λ e. absurd (cc); added = λ e. absurd (cc) }
+not_opened_for refusal other = record { opened = λ e. other (cc); sought = λ e. absurd (cc); called = λ e. absurd (cc); added = λ e. absurd (cc) }
+
+not_sought_for : (refusal : SeekRefusal) → (refusal ≡ NoMemoryToSeek → ⊥) → IsDoneOrRefused (Some (SeekRefused refusal))
+not_sought_for refusal other = record { opened = λ e. absurd (cc); sought = λ e. other (cc); called = λ e. absurd (cc); added = λ e. absurd (cc) }
 
 not_called_for : (refusal : CallRefusal) → (refusal ≡ NoMemoryToCall → ⊥) → IsDoneOrRefused (Some (CallRefused refusal))
-not_called_for refusal other = record { opened = λ e. absurd (cc); called = λ e. other (cc); added = λ e. absurd (cc) }
+not_called_for refusal other = record { opened = λ e. absurd (cc); sought = λ e. absurd (cc); called = λ e. other (cc); added = λ e. absurd (cc) }
 
 not_added_for : (refusal : RowRefusal) → (refusal ≡ NoMemoryForRow → ⊥) → IsDoneOrRefused (Some (RowRefused refusal))
-not_added_for refusal other = record { opened = λ e. absurd (cc); called = λ e. absurd (cc); added = λ e. other (cc) }
+not_added_for refusal other = record { opened = λ e. absurd (cc); sought = λ e. absurd (cc); called = λ e. absurd (cc); added = λ e. other (cc) }
 
 -- where it wasn't refused for want of memory a line can tell it
 may : (call : StepCall) (print : List ℕ) (draws : Draws) (s t : State) (answer : Answer) (entries : List Entry) → Answers s (made call print draws) answer entries t → (FoundNone answer → ⊥) →
@@ -88,6 +101,12 @@ may : (call : StepCall) (print : List ℕ) (draws : Draws) (s t : State) (answer
 may (Opens peer list) print draws s t (Began n) entries h other = (refl, no_refusal)
 may (Opens peer list) print draws s t (NotOpened refusal) entries h other = (refl, not_opened_for refusal other)
 may (Opens peer list) print draws s t answer entries h other = absurd h
+may (Seeks name list) print draws s t (Searching near) entries h other = (refl, no_refusal)
+may (Seeks name list) print draws s t (NotSought refusal) entries h other = (refl, not_sought_for refusal other)
+may (Seeks name list) print draws s t answer entries h other = absurd h
+may (Unseeks near) print draws s t Done entries h other = (refl, no_refusal)
+may (Unseeks near) print draws s t (RefusedCall refusal) entries h other = (refl, not_called_for refusal other)
+may (Unseeks near) print draws s t answer entries h other = absurd h
 may (Cancels n) print draws s t Done entries h other = (refl, no_refusal)
 may (Cancels n) print draws s t (RefusedCall refusal) entries h other = (refl, not_called_for refusal other)
 may (Cancels n) print draws s t answer entries h other = absurd h
@@ -124,17 +143,34 @@ never_memory : (b : Bool) (refusal : OpenRefusal) → (refusal ≡ NoMemoryToOpe
 never_memory true refusal other e = other (cc)
 never_memory false refusal other e = absurd (cc)
 
+no_other_search : (places : Option SeekRefusal) (limit : Option ℕ) → (places ≡ Some NoMemoryToSeek → ⊥) →
+    NoMemoryToSeek ≡ not_sought (first_that_stands (places ∷ no_place limit ∷ [])) → first_that_stands (places ∷ no_place limit ∷ []) ≡ None
+no_other_search None None other e = refl
+no_other_search None (Some limit) other e = absurd (cc)
+no_other_search (Some refusal) limit other e = absurd (other (ap (λ (x : SeekRefusal). Some x) (sym e)))
+
+never_for_search : (b : Bool) (refusal : SeekRefusal) → (refusal ≡ NoMemoryToSeek → ⊥) → where_true b refusal ≡ Some NoMemoryToSeek → ⊥
+never_for_search true refusal other e = other (cc)
+never_for_search false refusal other e = absurd (cc)
+
 held_there : {A : Type 0} (o : Option A) → IfNone o (◌≡◌ {A = CallRefusal} NoMemoryToCall NoSession) → IsSome o
 held_there None e = absurd (cc)
 held_there (Some x) e = refl
 
--- what it leaves; an open and a close have noted the moment
+-- what it leaves; an open, a seek and a close have noted the moment
 left : (call : StepCall) (print : List ℕ) (draws : Draws) (moment : ℕ) (s t : State) (answer : Answer) (entries : List Entry) → Answers (at_moment s (moment_in moment call)) (made call print draws) answer entries t → FoundNone answer →
     LeavesUndone print moment call s t
 left (Opens peer list) print draws moment s t (NotOpened refusal) entries h none =
     (no_other (candidates_refusal (length list)) (start_refusal s.startup.ledger print) (full s) (never_memory ((length list == 0) || nat_lt 16 (length list)) (Candidates (length list)) (λ e. absurd (cc))) (sym none ∙ h.0), h.1.state)
 left (Opens peer list) print draws moment s t (Began n) entries h none = absurd none
 left (Opens peer list) print draws moment s t answer entries h none = absurd h
+left (Seeks name list) print draws moment s t (NotSought refusal) entries h none =
+    (no_other_search (places_refusal (length list)) (full s) (never_for_search ((length list == 0) || nat_lt 16 (length list)) (WrongCount (length list)) (λ e. absurd (cc))) (sym none ∙ h.0), h.1.state)
+left (Seeks name list) print draws moment s t (Searching near) entries h none = absurd none
+left (Seeks name list) print draws moment s t answer entries h none = absurd h
+left (Unseeks near) print draws moment s t (RefusedCall refusal) entries h none = h.1.state ∙ at_zero s
+left (Unseeks near) print draws moment s t Done entries h none = absurd none
+left (Unseeks near) print draws moment s t answer entries h none = absurd h
 left (Cancels n) print draws moment s t (RefusedCall refusal) entries h none = h.2.state ∙ at_zero s
 left (Cancels n) print draws moment s t Done entries h none = absurd none
 left (Cancels n) print draws moment s t answer entries h none = absurd h
@@ -218,7 +254,7 @@ called_left s t end line moment by print step answered before after done none = 
 
 -- the call names the end that the deed names
 pub call_is : (end : ℕ) (by : DeedCall) (peer : Option ℕ) (deed : Deed) → IsCallBy end by deed → peer ≡ peer_by by → IsCallOf end peer deed
-call_is end by peer (Calls who call) is same = (is.0, is.1.peer ∙ sym same)
+call_is end by peer (Calls who call) is same = (is.0, is.1.peer ∙ sym same, is.1.sized)
 call_is end by peer deed is same = absurd is
 
 -- ---- a datagram

@@ -12,23 +12,23 @@ use Rattle.rtmfp_base.specs.Reasons.{where_true, first_that_stands}
 use Rattle.glare_core.specs.Steps.{Among}
 use Rattle.glare_core.specs.Told.{AllDifferent}
 use Rattle.endpoint_model.specs.declared.config.Draws.{Draws}
-use Rattle.endpoint_model.specs.declared.entry.Entry.{Entry}
-use Rattle.endpoint_model.specs.Event.{Setup, own_of, Receive, Event, moment_at}
-use Rattle.endpoint_laws.specs.Past.{facts_of, begun, with_event}
-use Rattle.endpoint_model.specs.State.{State, at_moment}
+use Rattle.endpoint_model.specs.Event.{Setup, own_of, Receive, Event}
+use Rattle.endpoint_laws.specs.Past.{past_of_log}
+use Rattle.endpoint_model.specs.State.{State}
 use Rattle.endpoint_laws.specs.OpensIn.{opens_in}
-use Rattle.endpoint_laws.specs.Lawful.{nonces_of}
+use Rattle.endpoint_laws.specs.Draws.{draws_of as draws_of_past, drawn_in}
 use Rattle.endpoint_model.specs.Log.{Step as StepOf}
 use Rattle.endpoint_laws.specs.Laws.{AreBytes, IsCall, AreCalls}
-use Rattle.endpoint_laws.specs.History.{Happened, History, log_of, past_at, IsHonestCall, IsHonest, WasSent, nonces_in}
+use Rattle.endpoint_laws.specs.History.{Happened, History, log_of, past_at, IsHonestCall, IsHonest, WasSent}
 use Rattle.endpoint_laws.proofs.Opened.{opens_in_found}
 use Rattle.endpoint.proofs.Reaching.{calls_more}
 use Rattle.rendezvous_world.specs.declared.journal.JournalLine.{JournalLine}
 use Rattle.rendezvous_world.specs.declared.step.Step.{Step}
 use Rattle.rendezvous_world.specs.declared.step.StepFault.{StepFault}
 use Rattle.rendezvous_world.specs.declared.step.StepFault.TheVariants.{NoEnd, NoDatagram, BadStep, Forged}
-use Rattle.rendezvous_world.specs.Deed.{Opens, Closes, Ticks, Deed, Calls, Brings, deed_of, end_of}
+use Rattle.rendezvous_world.specs.Deed.{Opens, Seeks, Closes, Ticks, Deed, Calls, Brings, deed_of, end_of}
 use Rattle.rendezvous_world.specs.Calls.{peer_in}
+use Rattle.rendezvous_world.specs.Entering.{IsSizedDeed}
 use Rattle.rendezvous_world.specs.Seen.{EndSeen, Seen, print_at, setup_at}
 use Rattle.rendezvous_world.specs.Draws.{two_numbers, draws_of}
 use Rattle.rendezvous_world.specs.Sent.{sent_in}
@@ -38,7 +38,7 @@ use Rattle.rendezvous_world.specs.Sound.{AreBelow, StandsUpTo}
 use Rattle.rendezvous_world.specs.Stepping.{in_state, with_state, called_by, HasItsAnswer, IsAnswered, IsLineOf, Called}
 use Rattle.rendezvous_world.specs.Faults.{is_missing, lacks_peer, lacks_end_in, lacks_end, lacks_datagram, is_bad, is_forged_by, is_forged_in, is_forged, step_fault}
 use Rattle.rendezvous_world.specs.Kept.{IsGiven, name_of, print_of, IsNamed, HasPeerIn, HasPeer, IsLineIn, IsOfLine, IsWorld}
-use Rattle.endpoint_laws.proofs.Drawn.{Once, MayDraw, answers_draw, nonces_none, nonces_once}
+use Rattle.endpoint_laws.proofs.Drawn.{OneDraw, MayDraw, event_draws}
 use Rattle.rendezvous_world.proofs.Ends.{tested, setup_is, below_length, setups_stay, length-with_state, changed_end, other_end, was_there, apart_with_state}
 use Rattle.rendezvous_world.proofs.Told.{SameSetups, same_happened, same_lines, one_more_line, all_more, rise_more, of_line_stays, of_line_new, number_below, log_same, log_other, honest_same}
 use Rattle.rendezvous_world.proofs.Forging.{was_sent}
@@ -101,30 +101,27 @@ two_apart a b small_a small_b same =
     sym (from_be_bytes-to_be_bytes_8 a wide_a) ∙ ap (from_be_bytes w64) bytes ∙ from_be_bytes-to_be_bytes_8 b wide_b
 
 -- what a call is given has its sizes
-is_call : (print : List ℕ) (number : ℕ) (bytes : List ℕ) (deed : Deed) → length print ≡ 32 → number < 2 ^ 32 → AreBytes bytes → IsCall (call_by print number bytes deed)
-is_call print number bytes (Calls end (Opens peer list)) wide small are = (wide, length-two 0 number, small, length-two 2 number)
-is_call print number bytes (Brings end from source) wide small are = (are, length-two 0 number, small, length-two 1 number)
-is_call print number bytes deed wide small are = tt
+is_call : (print : List ℕ) (number : ℕ) (bytes : List ℕ) (deed : Deed) → length print ≡ 32 → number < 2 ^ 32 → AreBytes bytes → IsSizedDeed deed → IsCall (call_by print number bytes deed)
+is_call print number bytes (Calls end (Opens peer list)) wide small are sized = (wide, length-two 0 number, small, length-two 2 number)
+is_call print number bytes (Calls end (Seeks name list)) wide small are sized = (sized, length-two 0 number, small, length-two 2 number)
+is_call print number bytes (Brings end from source) wide small are sized = (are, length-two 0 number, small, length-two 1 number)
+is_call print number bytes deed wide small are sized = tt
 
 -- it is given the moment of its line, or none
 given_from : (print : List ℕ) (number : ℕ) (bytes : List ℕ) (last moment : ℕ) (deed : Deed) → last ≤ moment → IsGivenFrom last (moment_given moment deed) (call_by print number bytes deed)
 given_from print number bytes last moment (Calls end (Opens peer list)) le = le
+given_from print number bytes last moment (Calls end (Seeks name list)) le = le
 given_from print number bytes last moment (Calls end (Closes near)) le = le
 given_from print number bytes last moment (Calls end Ticks) le = le
 given_from print number bytes last moment (Calls end call) le = tt
 given_from print number bytes last moment deed le = le
 
 -- what it draws is the nonce of its line
-draws_line : (print : List ℕ) (number : ℕ) (bytes : List ℕ) (deed : Deed) (entries : List Entry) → MayDraw (call_by print number bytes deed) entries → Once (two_numbers 0 number) entries
-draws_line print number bytes (Calls end (Opens peer list)) entries h = h
-draws_line print number bytes (Brings end from source) entries h = h
-draws_line print number bytes deed entries h = inl h
-
--- the nonces of an event
-nonces_of_event : (e : Event) (nonce : List ℕ) → Once nonce e.entries →
-    (nonces_of (facts_of (with_event (moment_at 0 e) e [])) ≡ []) ⊎ (nonces_of (facts_of (with_event (moment_at 0 e) e [])) ≡ nonce ∷ [])
-nonces_of_event e nonce (inl none) = inl (nonces_none (moment_at 0 e) e.entries (begun (moment_at 0 e) e ∷ []) none)
-nonces_of_event e nonce (inr one) = inr (nonces_once (moment_at 0 e) e.entries (begun (moment_at 0 e) e ∷ []) nonce refl one)
+draws_line : (print : List ℕ) (number : ℕ) (bytes : List ℕ) (deed : Deed) (nonces : List (List ℕ)) → MayDraw (call_by print number bytes deed) nonces → OneDraw (two_numbers 0 number) nonces
+draws_line print number bytes (Calls end (Opens peer list)) nonces h = h
+draws_line print number bytes (Calls end (Seeks name list)) nonces h = h
+draws_line print number bytes (Brings end from source) nonces h = h
+draws_line print number bytes deed nonces h = inl h
 
 -- ---- honest
 
@@ -148,6 +145,7 @@ module _ (w : Seen) (is : IsWorld w) where
       IsHonestCall (setup_at w.ends (end_of deed)) (past_at (end_of deed) (history_of w)) (history_of w) (call_by print number (bytes_or_none (datagram_in (sent_in w.lines) deed)) deed)
   honest_deed print number end (Brings who from source) there unforged = honest_datagram who end (datagram_had (sent_in w.lines) source) from (draws_of number) there unforged
   honest_deed print number end (Calls who (Opens peer list)) there unforged = tt
+  honest_deed print number end (Calls who (Seeks name list)) there unforged = tt
   honest_deed print number end deed there unforged = tt
 
 -- ---- the world after a line
@@ -161,6 +159,7 @@ pub record IsNext (w : Seen) (line : JournalLine) (end : EndSeen) (state : State
   pub below : AreBelow w.lines line.line
   pub small : line.line < 2 ^ 32
   pub bytes : AreBytes (bytes_or_none line.datagram)
+  pub sized : IsSizedDeed (deed_of line.step)
   pub peer : HasPeer (length w.ends) line.step
   pub moment : line.moment ≡ w.moment
   pub answer : IsAnswered line
@@ -228,7 +227,7 @@ module _ (w : Seen) (line : JournalLine) (end : EndSeen) (state : State) (is : I
   calls_now who = elim (tested line.end who) [
     | inl hit ↦
         subst (λ (log : List Event). AreCalls log) (sym (log_same who h (history_of w) hit.0))
-        (calls_more (log_of who (history_of w)) h.event (is.calls who) (is_call (print_at w.ends who_named) line.line (bytes_or_none line.datagram) (deed_of line.step) (length-sha256 (setup_at w.ends who_named).cert) next.small next.bytes))
+        (calls_more (log_of who (history_of w)) h.event (is.calls who) (is_call (print_at w.ends who_named) line.line (bytes_or_none line.datagram) (deed_of line.step) (length-sha256 (setup_at w.ends who_named).cert) next.small next.bytes next.sized))
     | inr miss ↦ subst (λ (log : List Event). AreCalls log) (sym (log_other who h (history_of w) miss.0)) (is.calls who)
   ]
 
@@ -248,10 +247,10 @@ module _ (w : Seen) (line : JournalLine) (end : EndSeen) (state : State) (is : I
   abbrev Fresh : List (List ℕ) → Type 0
   Fresh nonces = AllDifferent nonces × ((x : List ℕ) → Among x nonces → IsOfLine x (w.lines ++ line ∷ []))
 
-  fresh_before : Fresh (nonces_in (history_of w))
+  fresh_before : Fresh (drawn_in (history_of w))
   fresh_before = (is.nonces, λ x among. of_line_stays x w.lines line (is.drawn x among))
 
-  not_before : Among nonce (nonces_in (history_of w)) → ⊥
+  not_before : Among nonce (drawn_in (history_of w)) → ⊥
   not_before among =
       let of_line : IsOfLine nonce w.lines = is.drawn nonce among in
       let lt : of_line.number < line.line = number_below w.lines of_line.number line.line next.below of_line.there in
@@ -259,19 +258,18 @@ module _ (w : Seen) (line : JournalLine) (end : EndSeen) (state : State) (is : I
       let same : line.line ≡ of_line.number = two_apart line.line of_line.number small (omega arith) of_line.is in
       omega arith
 
-  fresh_after : (nonces : List (List ℕ)) → (nonces ≡ []) ⊎ (nonces ≡ nonce ∷ []) → Fresh (nonces ++ nonces_in (history_of w))
-  fresh_after nonces (inl none) = subst (λ (l : List (List ℕ)). Fresh (l ++ nonces_in (history_of w))) (sym none) fresh_before
-  fresh_after nonces (inr one) = subst (λ (l : List (List ℕ)). Fresh (l ++ nonces_in (history_of w))) (sym one) ((not_before, fresh_before.0), all)
+  fresh_after : (nonces : List (List ℕ)) → OneDraw nonce nonces → Fresh (nonces ++ drawn_in (history_of w))
+  fresh_after nonces (inl none) = subst (λ (l : List (List ℕ)). Fresh (l ++ drawn_in (history_of w))) (sym none) fresh_before
+  fresh_after nonces (inr one) = subst (λ (l : List (List ℕ)). Fresh (l ++ drawn_in (history_of w))) (sym one) ((not_before, fresh_before.0), all)
     where
-      all : (x : List ℕ) → Among x (nonce ∷ nonces_in (history_of w)) → IsOfLine x (w.lines ++ line ∷ [])
+      all : (x : List ℕ) → Among x (nonce ∷ drawn_in (history_of w)) → IsOfLine x (w.lines ++ line ∷ [])
       all x (inl same) = of_line_new x w.lines line same
       all x (inr before) = fresh_before.1 x before
 
-  fresh_now : Fresh (nonces_in (h ∷ history_of w))
+  fresh_now : Fresh (drawn_in (h ∷ history_of w))
   fresh_now =
-      fresh_after (nonces_of (facts_of (with_event (moment_at 0 h.event) h.event [])))
-      (nonces_of_event h.event nonce
-      (draws_line (print_at w.ends who_named) line.line (bytes_or_none line.datagram) (deed_of line.step) line.out.entries (answers_draw (at_moment end.state h.event.moment) state h.event.call h.event.answer h.event.entries next.event)))
+      fresh_after (draws_of_past (past_of_log (h.event ∷ [])))
+      (draws_line (print_at w.ends who_named) line.line (bytes_or_none line.datagram) (deed_of line.step) (draws_of_past (past_of_log (h.event ∷ []))) (event_draws end.state state h.event next.event))
 
   pub grown_is_world : IsWorld (grown w line state)
   grown_is_world = record {
@@ -284,8 +282,8 @@ module _ (w : Seen) (line : JournalLine) (end : EndSeen) (state : State) (is : I
     rise = rise_more w.lines line is.rise next.below;
     answers = all_more IsAnswered w.lines line is.answers next.answer;
     honest = subst (λ (x : History). IsHonest (setup_at later) x) (sym is_grown) honest_now;
-    nonces = subst (λ (x : History). AllDifferent (nonces_in x)) (sym is_grown) fresh_now.0;
-    drawn = subst (λ (x : History). (y : List ℕ) → Among y (nonces_in x) → IsOfLine y (w.lines ++ line ∷ [])) (sym is_grown) fresh_now.1;
+    nonces = subst (λ (x : History). AllDifferent (drawn_in x)) (sym is_grown) fresh_now.0;
+    drawn = subst (λ (x : History). (y : List ℕ) → Among y (drawn_in x) → IsOfLine y (w.lines ++ line ∷ [])) (sym is_grown) fresh_now.1;
   }
 
 -- ---- steps
@@ -298,13 +296,14 @@ seen_is t moment ends lines em ee el =
 
 -- a step that isn't refused and calls an end
 pub called_may : (w : Seen) (number : ℕ) (step : Step) (line : JournalLine) (t : Seen) → IsWorld w → AreBelow w.lines number → number < 2 ^ 32 → MayStep w step → Called w number step line t →
-    AreBytes (bytes_or_none line.datagram) → IsWorld t
-called_may w number step line t is below small may called bytes =
+    AreBytes (bytes_or_none line.datagram) → IsSizedDeed (deed_of step) → IsWorld t
+called_may w number step line t is below small may called bytes sized =
     let of_step : IsLineOf w number step line = called.is_line in
     let next : IsNext w line called.end called.state = record {
       below = subst (λ (n : ℕ). AreBelow w.lines n) (sym of_step.line) below;
       small = subst (λ (n : ℕ). n < 2 ^ 32) (sym of_step.line) small;
       bytes = bytes;
+      sized = subst (λ (s : Step). IsSizedDeed (deed_of s)) (sym of_step.step) sized;
       peer = subst (λ (s : Step). HasPeer (length w.ends) s) (sym of_step.step) (has_peer w (deed_of step) may.ends);
       moment = of_step.moment;
       answer = subst (λ (s : Step). HasItsAnswer s line.refused line.stopped) (sym of_step.step) of_step.answer;
@@ -324,5 +323,5 @@ called_may w number step line t is below small may called bytes =
         (honest_deed w is (print_at w.ends (peer_of (deed_of step))) line.line called.end (deed_of step) there may.unforged)))
 
 pub called_is_world : (w : Seen) (number : ℕ) (step : Step) (line : JournalLine) (t : Seen) → IsWorld w → AreBelow w.lines number → number < 2 ^ 32 → step_fault w step ≡ None → Called w number step line t →
-    AreBytes (bytes_or_none line.datagram) → IsWorld t
-called_is_world w number step line t is below small none called bytes = called_may w number step line t is below small (may_step w step none) called bytes
+    AreBytes (bytes_or_none line.datagram) → IsSizedDeed (deed_of step) → IsWorld t
+called_is_world w number step line t is below small none called bytes sized = called_may w number step line t is below small (may_step w step none) called bytes sized

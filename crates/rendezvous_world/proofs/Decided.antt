@@ -8,27 +8,29 @@ use Rattle.endpoint_model.specs.declared.config.Draws.{Draws}
 use Rattle.endpoint_model.specs.declared.entry.Entry.{Entry}
 use Rattle.endpoint_model.specs.declared.answers.OpenRefusal.{OpenRefusal}
 use Rattle.endpoint_model.specs.declared.answers.OpenRefusal.TheVariants.{Memory as NoMemoryToOpen}
+use Rattle.endpoint_model.specs.declared.answers.SeekRefusal.{SeekRefusal}
+use Rattle.endpoint_model.specs.declared.answers.SeekRefusal.TheVariants.{Memory as NoMemoryToSeek}
 use Rattle.session_flows.specs.declared.refusal.CallRefusal.{CallRefusal}
 use Rattle.session_flows.specs.declared.refusal.CallRefusal.TheVariants.{NoAttempt, NoSession, Memory as NoMemoryToCall}
 use Rattle.endpoint_model.specs.declared.answers.Stopped.{Stopped as Stop}
-use Rattle.endpoint_model.specs.Event.{Call, Open as OpenCall, Cancel as CancelCall, Close as CloseCall, AddRow, Introduce as IntroduceCall, OnFlows, Receive, Tick as TickCall, Answer, Began, Done, NotOpened, Refused as RefusedCall, NotAdded, Stopped, OutOfMemory, Event}
+use Rattle.endpoint_model.specs.Event.{Call, Open as OpenCall, Seek as SeekCall, Unseek as UnseekCall, Cancel as CancelCall, Close as CloseCall, AddRow, Introduce as IntroduceCall, OnFlows, Receive, Tick as TickCall, Answer, Began, Searching, Done, NotOpened, NotSought, Refused as RefusedCall, NotAdded, Stopped, OutOfMemory, Event}
 use Rattle.endpoint_model.specs.State.{State, Did, Does, after_entries, at_moment, nothing, then_do}
 use Rattle.endpoint_model.specs.Admission.{admission}
 use Rattle.endpoint_model.specs.InSessions.{held_row, closing}
 use Rattle.endpoint_model.specs.FlowCall.{FlowCall}
 use Rattle.endpoint_model.specs.OnFlows.{flow_called}
 use Rattle.endpoint_model.specs.FlowTimes.{all_late}
-use Rattle.endpoint_model.specs.Effects.{cancelling, opening, received, tick_once, ticks, first_due, item_done}
+use Rattle.endpoint_model.specs.Effects.{cancelling, opening, seeking, unseeking, received, tick_once, ticks, first_due, item_done}
 use Rattle.endpoint_model.specs.Introducing.{with_redirect, introducing}
 use Rattle.introducer.specs.declared.refusal.RowRefusal.{RowRefusal}
 use Rattle.introducer.specs.declared.refusal.RowRefusal.TheVariants.{Memory as NoMemoryForRow}
-use Rattle.endpoint_model.specs.Log.{Answers, Step as StepOf, not_opened, not_added, not_called}
+use Rattle.endpoint_model.specs.Log.{Answers, Step as StepOf, not_opened, not_sought, not_added, not_called}
 use Rattle.rendezvous_world.specs.declared.journal.JournalLine.{JournalLine}
 use Rattle.rendezvous_world.specs.declared.journal.Refused.{Refused}
-use Rattle.rendezvous_world.specs.declared.journal.Refused.TheVariants.{Open as OpenRefused, Call as CallRefused, Row as RowRefused}
+use Rattle.rendezvous_world.specs.declared.journal.Refused.TheVariants.{Open as OpenRefused, Seek as SeekRefused, Call as CallRefused, Row as RowRefused}
 use Rattle.rendezvous_world.specs.declared.step.Step.{Step}
-use Rattle.rendezvous_world.specs.Deed.{Opens, Introduces, Ticks, Deed, NewEnd, NewMoment, Calls, Brings, deed_of}
-use Rattle.rendezvous_world.specs.Calls.{answer_to_call, answer_to_datagram, answer_to_open, answer_to_tick, IsDoneOrRefused}
+use Rattle.rendezvous_world.specs.Deed.{Opens, Seeks, Introduces, Ticks, Deed, NewEnd, NewMoment, Calls, Brings, deed_of}
+use Rattle.rendezvous_world.specs.Calls.{answer_to_call, answer_to_datagram, answer_to_open, answer_to_seek, answer_to_tick, IsDoneOrRefused}
 use Rattle.rendezvous_world.specs.Seen.{EndSeen, Seen}
 use Rattle.rendezvous_world.specs.Same.{AreSameWorlds, without_room}
 use Rattle.rendezvous_world.specs.Sent.{Sent, sent_among, sent_in}
@@ -60,6 +62,8 @@ abbrev pub IsWhole : Answer → Type 0
 IsWhole (Began n) = Unit {0}
 IsWhole Done = Unit {0}
 IsWhole (NotOpened refusal) = refusal ≢ NoMemoryToOpen
+IsWhole (Searching near) = Unit {0}
+IsWhole (NotSought refusal) = refusal ≢ NoMemoryToSeek
 IsWhole (RefusedCall refusal) = refusal ≢ NoMemoryToCall
 IsWhole (NotAdded refusal) = refusal ≢ NoMemoryForRow
 IsWhole (Stopped stop) = ⊥
@@ -88,6 +92,28 @@ one_open s peer candidates draws (NotOpened refusal) (NotOpened other) xs ys t r
     same_did (NotOpened refusal) (NotOpened other) (nothing s) (nothing s) xs ys t r (ap NotOpened (h.0 ∙ sym k.0)) refl h.1 k.1
 one_open s peer candidates draws (NotOpened refusal) other xs ys t r p q h k = absurd k
 one_open s peer candidates draws answer other xs ys t r p q h k = absurd h
+
+one_seek : (s : State) (name : List ℕ) (candidates : List AddressParts) (draws : Draws) (a b : Answer) (xs ys : List Entry) (t r : State) → IsWhole a → IsWhole b →
+    Answers s (SeekCall name candidates draws) a xs t → Answers s (SeekCall name candidates draws) b ys r → SameAnswer a b xs ys t r
+one_seek s name candidates draws (Searching near) (Searching other) xs ys t r p q h k =
+    same_did (Searching near) (Searching other) (seeking s name candidates draws) (seeking s name candidates draws) xs ys t r (ap Searching (h.1 ∙ sym k.1)) refl h.2 k.2
+one_seek s name candidates draws (Searching near) (NotSought refusal) xs ys t r p q h k = absurd (q (k.0 ∙ ap not_sought h.0))
+one_seek s name candidates draws (Searching near) other xs ys t r p q h k = absurd k
+one_seek s name candidates draws (NotSought refusal) (Searching near) xs ys t r p q h k = absurd (p (h.0 ∙ ap not_sought k.0))
+one_seek s name candidates draws (NotSought refusal) (NotSought other) xs ys t r p q h k =
+    same_did (NotSought refusal) (NotSought other) (nothing s) (nothing s) xs ys t r (ap NotSought (h.0 ∙ sym k.0)) refl h.1 k.1
+one_seek s name candidates draws (NotSought refusal) other xs ys t r p q h k = absurd k
+one_seek s name candidates draws answer other xs ys t r p q h k = absurd h
+
+one_unseek : (s : State) (near : ℕ) (a b : Answer) (xs ys : List Entry) (t r : State) → IsWhole a → IsWhole b → Answers s (UnseekCall near) a xs t → Answers s (UnseekCall near) b ys r → SameAnswer a b xs ys t r
+one_unseek s near Done Done xs ys t r p q h k = same_did Done Done (unseeking s near) (unseeking s near) xs ys t r refl refl h.1 k.1
+one_unseek s near Done (RefusedCall refusal) xs ys t r p q h k = absurd (q (k.0 ∙ ap not_called h.0))
+one_unseek s near Done other xs ys t r p q h k = absurd k
+one_unseek s near (RefusedCall refusal) Done xs ys t r p q h k = absurd (p (h.0 ∙ ap not_called k.0))
+one_unseek s near (RefusedCall refusal) (RefusedCall other) xs ys t r p q h k =
+    same_did (RefusedCall refusal) (RefusedCall other) (nothing s) (nothing s) xs ys t r (ap RefusedCall (h.0 ∙ sym k.0)) refl h.1 k.1
+one_unseek s near (RefusedCall refusal) other xs ys t r p q h k = absurd k
+one_unseek s near answer other xs ys t r p q h k = absurd h
 
 -- a cancel or a close that isn't refused for want of memory is refused since there is none
 only_without : {A : Type 0} (o : Option A) (refusal without : CallRefusal) → IfNone o (refusal ≡ without) → IfSome o (λ x. refusal ≡ NoMemoryToCall) → refusal ≢ NoMemoryToCall → refusal ≡ without
@@ -171,6 +197,8 @@ one_tick s draws answer other xs ys t r p q h k = absurd h
 
 one_call : (s : State) (call : Call) (a b : Answer) (xs ys : List Entry) (t r : State) → IsWhole a → IsWhole b → Answers s call a xs t → Answers s call b ys r → SameAnswer a b xs ys t r
 one_call s (OpenCall peer candidates draws) a b xs ys t r p q h k = one_open s peer candidates draws a b xs ys t r p q h k
+one_call s (SeekCall name candidates draws) a b xs ys t r p q h k = one_seek s name candidates draws a b xs ys t r p q h k
+one_call s (UnseekCall near) a b xs ys t r p q h k = one_unseek s near a b xs ys t r p q h k
 one_call s (CancelCall n) a b xs ys t r p q h k = one_cancel s n a b xs ys t r p q h k
 one_call s (CloseCall near) a b xs ys t r p q h k = one_close s near a b xs ys t r p q h k
 one_call s (AddRow print addresses) a b xs ys t r p q h k = one_row s print addresses a b xs ys t r p q h k
@@ -185,14 +213,23 @@ one_call s (TickCall draws) a b xs ys t r p q h k = one_tick s draws a b xs ys t
 called_whole : (refused : Option Refused) → IsDoneOrRefused refused → IsWhole (answer_to_call refused)
 called_whole None h = tt
 called_whole (Some (OpenRefused refusal)) h = λ e. h.opened (ap (λ (x : OpenRefusal). Some (OpenRefused x)) e)
+called_whole (Some (SeekRefused refusal)) h = λ e. h.sought (ap (λ (x : SeekRefusal). Some (SeekRefused x)) e)
 called_whole (Some (CallRefused refusal)) h = λ e. h.called (ap (λ (x : CallRefusal). Some (CallRefused x)) e)
 called_whole (Some (RowRefused refusal)) h = λ e. h.added (ap (λ (x : RowRefusal). Some (RowRefused x)) e)
 
 opened_whole : (refused : Option Refused) (entries : List Entry) → IsDoneOrRefused refused → IsWhole (answer_to_open refused entries)
 opened_whole None entries h = tt
 opened_whole (Some (OpenRefused refusal)) entries h = λ e. h.opened (ap (λ (x : OpenRefusal). Some (OpenRefused x)) e)
+opened_whole (Some (SeekRefused refusal)) entries h = λ e. h.sought (ap (λ (x : SeekRefusal). Some (SeekRefused x)) e)
 opened_whole (Some (CallRefused refusal)) entries h = λ e. h.called (ap (λ (x : CallRefusal). Some (CallRefused x)) e)
 opened_whole (Some (RowRefused refusal)) entries h = λ e. h.added (ap (λ (x : RowRefusal). Some (RowRefused x)) e)
+
+sought_whole : (refused : Option Refused) (entries : List Entry) → IsDoneOrRefused refused → IsWhole (answer_to_seek refused entries)
+sought_whole None entries h = tt
+sought_whole (Some (OpenRefused refusal)) entries h = λ e. h.opened (ap (λ (x : OpenRefusal). Some (OpenRefused x)) e)
+sought_whole (Some (SeekRefused refusal)) entries h = λ e. h.sought (ap (λ (x : SeekRefusal). Some (SeekRefused x)) e)
+sought_whole (Some (CallRefused refusal)) entries h = λ e. h.called (ap (λ (x : CallRefusal). Some (CallRefused x)) e)
+sought_whole (Some (RowRefused refusal)) entries h = λ e. h.added (ap (λ (x : RowRefusal). Some (RowRefused x)) e)
 
 ticked_whole : (stopped : Option Stop) → is_some stopped ≡ false → IsWhole (answer_to_tick stopped)
 ticked_whole None none = tt
@@ -204,6 +241,7 @@ brought_whole (Some stop) none = absurd (cc)
 
 whole : (deed : Deed) (refused : Option Refused) (stopped : Option Stop) (entries : List Entry) → HasAnswer deed refused stopped → is_some stopped ≡ false → IsWhole (answer_by deed refused stopped entries)
 whole (Calls end (Opens peer list)) refused stopped entries h none = opened_whole refused entries h.1
+whole (Calls end (Seeks name list)) refused stopped entries h none = sought_whole refused entries h.1
 whole (Calls end Introduces) refused stopped entries h none = tt
 whole (Calls end Ticks) refused stopped entries h none = ticked_whole stopped none
 whole (Calls end call) refused stopped entries h none = called_whole refused h.1
@@ -214,18 +252,28 @@ whole deed refused stopped entries h none = absurd h
 called_for : (refused : Option Refused) → refused_in (answer_to_call refused) ≡ refused
 called_for None = refl
 called_for (Some (OpenRefused refusal)) = refl
+called_for (Some (SeekRefused refusal)) = refl
 called_for (Some (CallRefused refusal)) = refl
 called_for (Some (RowRefused refusal)) = refl
 
 opened_for : (refused : Option Refused) (entries : List Entry) → refused_in (answer_to_open refused entries) ≡ refused
 opened_for None entries = refl
 opened_for (Some (OpenRefused refusal)) entries = refl
+opened_for (Some (SeekRefused refusal)) entries = refl
 opened_for (Some (CallRefused refusal)) entries = refl
 opened_for (Some (RowRefused refusal)) entries = refl
+
+sought_for : (refused : Option Refused) (entries : List Entry) → refused_in (answer_to_seek refused entries) ≡ refused
+sought_for None entries = refl
+sought_for (Some (OpenRefused refusal)) entries = refl
+sought_for (Some (SeekRefused refusal)) entries = refl
+sought_for (Some (CallRefused refusal)) entries = refl
+sought_for (Some (RowRefused refusal)) entries = refl
 
 -- two answers that are the same were refused for the same
 one_refusal : (deed : Deed) (a b : Option Refused) (p q : Option Stop) (xs ys : List Entry) → HasAnswer deed a p → HasAnswer deed b q → answer_by deed a p xs ≡ answer_by deed b q ys → a ≡ b
 one_refusal (Calls end (Opens peer list)) a b p q xs ys h k e = sym (opened_for a xs) ∙ ap refused_in e ∙ opened_for b ys
+one_refusal (Calls end (Seeks name list)) a b p q xs ys h k e = sym (sought_for a xs) ∙ ap refused_in e ∙ sought_for b ys
 one_refusal (Calls end Introduces) a b p q xs ys h k e = h.0 ∙ sym k.0
 one_refusal (Calls end Ticks) a b p q xs ys h k e = h.0 ∙ sym k.0
 one_refusal (Calls end call) a b p q xs ys h k e = sym (called_for a) ∙ ap refused_in e ∙ called_for b

@@ -16,7 +16,7 @@ use Rattle.rendezvous_world.specs.declared.journal.Refused.{Refused}
 use Rattle.rendezvous_world.specs.declared.step.StepFault.TheVariants.{Memory}
 use Rattle.rendezvous_world.specs.declared.step.Step.{Step}
 use Rattle.rendezvous_world.specs.declared.step.Step.TheVariants.{Inject}
-use Rattle.rendezvous_world.specs.Deed.{StepCall, Opens, Closes, Introduces, Ticks, Deed, Calls, deed_of}
+use Rattle.rendezvous_world.specs.Deed.{StepCall, Opens, Seeks, Closes, Introduces, Ticks, Deed, Calls, deed_of}
 use Rattle.rendezvous_world.specs.Calls.{peer_in, IsAllowed, LeavesUndone}
 use Rattle.rendezvous_world.specs.Seen.{EndSeen, Seen, print_at}
 use Rattle.rendezvous_world.specs.Line.{IsWith}
@@ -89,6 +89,7 @@ is_with sent datagram _ is = tt
 undone_call : (print named : List ℕ) (moment : ℕ) (call : StepCall) (old new : State) → print ≡ named → LeavesUndone print moment call old new →
     (new ≡ old) ⊎ (IsAllowed named old call × (new ≡ at_moment old moment))
 undone_call print named moment (Opens peer list) old new p h = inr (subst (λ (x : List ℕ). open_refusal old x list ≡ None) p h.0, h.1)
+undone_call print named moment (Seeks name list) old new p h = inr h
 undone_call print named moment (Closes near) old new p h = inr h
 undone_call print named moment Introduces old new p h = absurd h
 undone_call print named moment Ticks old new p h = absurd h
@@ -184,7 +185,7 @@ module _ (moment : ℕ) (ends : List EndKept) (named : List Named) (lines : List
       fits = omega (arith, kept.fits, fits, length-append lines (the_line ∷ []));
       keys = subst (λ (sent : List Sent). AreKeys keyed sent) (sym (sent_in-both lines (the_line ∷ []))) (keys_grow keyed (sent_in lines) (sent_in (the_line ∷ [])) kept.keys);
       world = called_is_world (world_seen moment ends lines) number step the_line (world_seen moment after (lines ++ the_line ∷ [])) kept.world entering.above entering.fits entering.fine called
-          (subst (λ (bs : List ℕ). AreBytes bs) entering.bytes entering.are_bytes);
+          (subst (λ (bs : List ℕ). AreBytes bs) entering.bytes entering.are_bytes) entering.sized;
     }
 
     pub entered_as : (is_stopped : Bool) → is_stopped ≡ is_some stopped → IsEntered (world_seen moment ends lines) number step (answered is_stopped) (world_seen moment after (lines ++ the_line ∷ []))

@@ -61,6 +61,7 @@ module _ (w : Seen) (number end : ℕ) (from : AddressParts) (bytes : List ℕ) 
     calls = tt;
     called = refl;
     peer = refl;
+    sized = tt;
     datagram = ap (λ (b : List ℕ). Some b) is;
     short = small;
     forged = ap (λ (b : List ℕ). is_forged_by w end (Some b)) is;

@@ -15,9 +15,11 @@ use Rattle.rendezvous_world.specs.Faults.{is_bad_in, step_fault}
 use Rattle.rendezvous_world.specs.Sound.{AreBelow}
 use Rattle.endpoint_model.specs.State.{at_moment}
 use Rattle.rendezvous_world.specs.Stepping.{with_state, called_by, HasAnswer, Called, SteppedAs, Stepped, StoppedIn, Noted}
+use Rattle.rendezvous_world.specs.Entering.{IsSizedDeed}
 use Rattle.rendezvous_world.specs.Kept.{IsWorld}
 use Rattle.rendezvous_world.specs.Laws.{IsSizedIn, IsSized, EveryStepKeepsAWorld}
 use Rattle.rendezvous_world.proofs.Keeping.{with_moment_is_world, with_end_is_world}
+use Rattle.rendezvous_world.proofs.Refusing.{no_bytes}
 use Rattle.rendezvous_world.proofs.Told.{all_more, below_more}
 use Rattle.rendezvous_world.proofs.Noting.{noted_is_world}
 use Rattle.rendezvous_world.proofs.Calling.{may_step, seen_is, called_is_world}
@@ -26,30 +28,35 @@ not_back : (last moment : ℕ) → nat_lt moment last ≡ false → last ≤ mom
 not_back last moment e = grind (arith, nat_tests)
 
 module _ (w : Seen) (number : ℕ) (t : Seen) (is : IsWorld w) (below : AreBelow w.lines number) (small : number < 2 ^ 32) where
-  by_line : (step : Step) (line : JournalLine) → step_fault w step ≡ None → AreBytes (bytes_or_none (datagram_of (sent_in w.lines) step)) → Called w number step line t → IsWorld t
-  by_line step line none bytes called =
-      called_is_world w number step line t is below small none called (subst (λ (o : Option (List ℕ)). AreBytes (bytes_or_none o)) (sym called.is_line.datagram) bytes)
+  by_line : (step : Step) (line : JournalLine) → step_fault w step ≡ None → AreBytes (bytes_or_none (datagram_of (sent_in w.lines) step)) → IsSizedDeed (deed_of step) → Called w number step line t → IsWorld t
+  by_line step line none bytes sized called =
+      called_is_world w number step line t is below small none called (subst (λ (o : Option (List ℕ)). AreBytes (bytes_or_none o)) (sym called.is_line.datagram) bytes) sized
 
   -- the step was done
   done_as : (step : Step) (deed : Deed) → IsSizedIn w deed → is_bad_in w deed ≡ false →
-      ((line : JournalLine) → AreBytes (bytes_or_none (datagram_in (sent_in w.lines) deed)) → Called w number step line t → IsWorld t) → SteppedAs w number step deed t → IsWorld t
+      ((line : JournalLine) → AreBytes (bytes_or_none (datagram_in (sent_in w.lines) deed)) → IsSizedDeed deed → Called w number step line t → IsWorld t) → SteppedAs w number step deed t → IsWorld t
   done_as step (NewEnd name max_peers max_sessions cert) sized fine by h = subst (λ (x : Seen). IsWorld x) (sym h) (with_end_is_world w name cert max_peers max_sessions is sized fine)
   done_as step (NewMoment moment) sized fine by h = subst (λ (x : Seen). IsWorld x) (sym h) (with_moment_is_world w moment (not_back w.moment moment fine) is)
-  done_as step (Calls end call) sized fine by h = by h.0 sized h.2
-  done_as step (Brings end from source) sized fine by h = by h.0 sized h.2
+  done_as step (Calls end call) sized fine by h = by h.0 no_bytes sized h.2
+  done_as step (Brings end from source) sized fine by h = by h.0 sized tt h.2
 
   done : (step : Step) → IsSized w step → step_fault w step ≡ None → Stepped w number step t → IsWorld t
-  done step sized none h = done_as step (deed_of step) sized (may_step w step none).fine (λ line bytes called. by_line step line none bytes called) h
+  done step sized none h = done_as step (deed_of step) sized (may_step w step none).fine (λ line bytes named called. by_line step line none bytes named called) h
 
   -- it found no memory, and its line is there
   sized_bytes : (deed : Deed) (refused : Option Refused) (stopped : Option Stop) → HasAnswer deed refused stopped → IsSizedIn w deed → AreBytes (bytes_or_none (datagram_in (sent_in w.lines) deed))
   sized_bytes (NewEnd name max_peers max_sessions cert) refused stopped answer sized = absurd answer
+  sized_bytes (Calls end call) refused stopped answer sized = no_bytes
   sized_bytes deed refused stopped answer sized = sized
 
-  halted : (step : Step) → IsSized w step → step_fault w step ≡ None → StoppedIn w number step t → IsWorld t
-  halted step sized none h = by_line step h.line none (sized_bytes (deed_of step) h.line.refused h.line.stopped h.called.is_line.answer sized) h.called
+  sized_call : (deed : Deed) → IsSizedIn w deed → IsSizedDeed deed
+  sized_call (Calls end call) sized = sized
+  sized_call deed sized = tt
 
--- it was an open or a close that found no memory
+  halted : (step : Step) → IsSized w step → step_fault w step ≡ None → StoppedIn w number step t → IsWorld t
+  halted step sized none h = by_line step h.line none (sized_bytes (deed_of step) h.line.refused h.line.stopped h.called.is_line.answer sized) (sized_call (deed_of step) sized) h.called
+
+-- it was an open, a seek or a close that found no memory
 pub noted_keeps : (w : Seen) (step : Step) (t : Seen) → IsWorld w → Noted w step t → IsWorld t
 noted_keeps w step t is h =
     subst (λ (x : Seen). IsWorld x) (sym (seen_is t w.moment (with_state w.ends (called_by step) (at_moment h.end.state w.moment)) w.lines h.moment h.ends h.lines)) (noted_is_world w (called_by step) h.end is h.is_end)

@@ -13,7 +13,8 @@ use Rattle.glare_core.specs.Told.{AllDifferent}
 use Rattle.endpoint_model.specs.Event.{Event, own_of}
 use Rattle.endpoint_model.specs.State.{fresh}
 use Rattle.endpoint_laws.specs.Laws.{AreCalls}
-use Rattle.endpoint_laws.specs.History.{History, log_of, IsHonest, TakesPart, nonces_in}
+use Rattle.endpoint_laws.specs.Draws.{drawn_in}
+use Rattle.endpoint_laws.specs.History.{History, log_of, IsHonest, TakesPart}
 use Rattle.rendezvous_world.specs.declared.journal.JournalLine.{JournalLine}
 use Rattle.rendezvous_world.specs.declared.step.Step.TheVariants.{End}
 use Rattle.rendezvous_world.specs.Deed.{Deed, Calls, deed_of}
@@ -152,8 +153,8 @@ module _ (w : Seen) (is : IsWorld w) (new : EndSeen) (given : IsGiven new.setup)
     answers = is.answers;
     honest = subst (λ (h : History). IsHonest (setup_at (w.ends ++ new ∷ [])) h) (sym same_history)
         (honest_same (setup_at w.ends) (setup_at (w.ends ++ new ∷ [])) (history_of w) (λ who h. stay who (takes_part who h)) is.honest);
-    nonces = subst (λ (h : History). AllDifferent (nonces_in h)) (sym same_history) is.nonces;
-    drawn = subst (λ (h : History). (nonce : List ℕ) → Among nonce (nonces_in h) → IsOfLine nonce w.lines) (sym same_history) is.drawn;
+    nonces = subst (λ (h : History). AllDifferent (drawn_in h)) (sym same_history) is.nonces;
+    drawn = subst (λ (h : History). (nonce : List ℕ) → Among nonce (drawn_in h) → IsOfLine nonce w.lines) (sym same_history) is.drawn;
   }
 
 -- a new end whose step isn't bad

@@ -3,9 +3,9 @@ use Rattle.std.proofs.Common.{◌≡◌, ℕ, ◌≤◌, max, List, [], ◌∷�
 use Rattle.std.specs.List.{AllByRecursion}
 use Rattle.glare_core.specs.Steps.{Among}
 use Rattle.glare_core.specs.Told.{AllDifferent}
-use Rattle.startup.specs.Attempts.{after_cancel}
+use Rattle.startup.specs.Attempts.{after_cancel, after_unseek}
 use Rattle.endpoint_model.specs.declared.entry.Entry.{Entry}
-use Rattle.endpoint_model.specs.Event.{Setup, own_of, Call, Open, Cancel, Close, AddRow, Introduce, OnFlows, Receive, Tick, Answer, Done, Refused, NotAdded, Event}
+use Rattle.endpoint_model.specs.Event.{Setup, own_of, Call, Open, Seek, Unseek, Cancel, Close, AddRow, Introduce, OnFlows, Receive, Tick, Answer, Done, Refused, NotAdded, Event}
 use Rattle.endpoint_model.specs.declared.row.Row.{Row}
 use Rattle.endpoint_model.specs.State.{State, Did, at_moment, with_startup}
 use Rattle.endpoint_model.specs.InSessions.{held_row}
@@ -15,7 +15,8 @@ use Rattle.endpoint_model.specs.Introducing.{with_redirect, introducing}
 use Rattle.endpoint_laws.specs.OpensIn.{opens_in}
 use Rattle.endpoint_model.specs.Log.{StandsFor, Answers, Step as StepOf}
 use Rattle.endpoint_laws.specs.Laws.{AreCalls}
-use Rattle.endpoint_laws.specs.History.{History, log_of, IsHonest, nonces_in}
+use Rattle.endpoint_laws.specs.Draws.{drawn_in}
+use Rattle.endpoint_laws.specs.History.{History, log_of, IsHonest}
 use Rattle.endpoint.proofs.Extending.{extends}
 use Rattle.rendezvous_world.specs.Seen.{EndSeen, Seen, setup_at}
 use Rattle.rendezvous_world.specs.History.{history_of}
@@ -79,6 +80,7 @@ flow_noted s noted near call (Some row) = refl
 -- The call is given a moment that isn't before this one, or none.
 abbrev pub IsGivenFrom : ℕ → ℕ → Call → Type 0
 IsGivenFrom last moment (Open peer candidates draws) = last ≤ moment
+IsGivenFrom last moment (Seek name candidates draws) = last ≤ moment
 IsGivenFrom last moment (Close near) = last ≤ moment
 IsGivenFrom last moment (Receive from datagram draws) = last ≤ moment
 IsGivenFrom last moment (Tick draws) = last ≤ moment
@@ -87,6 +89,7 @@ IsGivenFrom last moment call = Unit {0}
 -- it is given none
 abbrev IsUntimed : Call → Type 0
 IsUntimed (Open peer candidates draws) = ⊥
+IsUntimed (Seek name candidates draws) = ⊥
 IsUntimed (Close near) = ⊥
 IsUntimed (Receive from datagram draws) = ⊥
 IsUntimed (Tick draws) = ⊥
@@ -100,9 +103,13 @@ record IsLeft (s : State) (noted : ℕ) (call : Call) (answer : Answer) (entries
 
 unmoved : (s : State) (noted : ℕ) (call : Call) (answer : Answer) (entries : List Entry) (t : State) → IsUntimed call → Answers (at_moment s noted) call answer entries t → IsLeft s noted call answer entries t
 unmoved s noted (Open peer candidates draws) answer entries t untimed h = absurd untimed
+unmoved s noted (Seek name candidates draws) answer entries t untimed h = absurd untimed
 unmoved s noted (Close near) answer entries t untimed h = absurd untimed
 unmoved s noted (Receive from datagram draws) answer entries t untimed h = absurd untimed
 unmoved s noted (Tick draws) answer entries t untimed h = absurd untimed
+unmoved s noted (Unseek near) Done entries t untimed h =
+    record { after = with_startup s (after_unseek s.startup near); answers = (h.0, record { state = refl; entries = h.1.entries }); state = h.1.state }
+unmoved s noted (Unseek near) (Refused refusal) entries t untimed h = record { after = s; answers = (h.0, record { state = refl; entries = h.1.entries }); state = h.1.state }
 unmoved s noted (Cancel n) Done entries t untimed h =
     record { after = with_startup s (after_cancel s.startup n); answers = (h.0, record { state = refl; entries = h.1.entries }); state = h.1.state }
 unmoved s noted (Cancel n) (Refused refusal) entries t untimed h = record { after = s; answers = (h.0, h.1, record { state = refl; entries = h.2.entries }); state = h.2.state }
@@ -141,6 +148,7 @@ module _ (last : ℕ) (setup : Setup) (log : List Event) (s t : State) (moment :
 
   stands_by : (call : Call) (answer : Answer) → IsGivenFrom last moment call → Answers (at_moment s moment) call answer entries t → StandsUpTo last setup (log ++ event_with call answer ∷ []) t
   stands_by (Open peer candidates draws) answer from step = timed (Open peer candidates draws) answer from step
+  stands_by (Seek name candidates draws) answer from step = timed (Seek name candidates draws) answer from step
   stands_by (Close near) answer from step = timed (Close near) answer from step
   stands_by (Receive address datagram draws) answer from step = timed (Receive address datagram draws) answer from step
   stands_by (Tick draws) answer from step = timed (Tick draws) answer from step
@@ -200,6 +208,6 @@ module _ (w : Seen) (who_noted : ℕ) (end : EndSeen) (is : IsWorld w) (there : 
     answers = is.answers;
     honest = subst (λ (h : History). IsHonest (setup_at later) h) (sym same_history)
         (honest_same (setup_at w.ends) (setup_at later) (history_of w) (λ who part. setups_stay w.ends who_noted noting who) is.honest);
-    nonces = subst (λ (h : History). AllDifferent (nonces_in h)) (sym same_history) is.nonces;
-    drawn = subst (λ (h : History). (nonce : List ℕ) → Among nonce (nonces_in h) → IsOfLine nonce w.lines) (sym same_history) is.drawn;
+    nonces = subst (λ (h : History). AllDifferent (drawn_in h)) (sym same_history) is.nonces;
+    drawn = subst (λ (h : History). (nonce : List ℕ) → Among nonce (drawn_in h) → IsOfLine nonce w.lines) (sym same_history) is.drawn;
   }

@@ -22,7 +22,7 @@ use Rattle.rendezvous_world.specs.Stepping.{Called, SteppedAs, Stepped}
 use Rattle.rendezvous_world.specs.Sound.{AreBelow}
 use Rattle.rendezvous_world.specs.Inside.{named_of}
 use Rattle.rtmfp_text.specs.Names.{is_like as is_like_named}
-use Rattle.rendezvous_world.specs.Entering.{CallsAnEnd, IsCallOf, IsEntering, IsEntered, IsBringing, IsDone}
+use Rattle.rendezvous_world.specs.Entering.{CallsAnEnd, IsCallOf, IsSizedDeed, IsEntering, IsEntered, IsBringing, IsDone}
 
 -- ---- the first reason
 
@@ -99,7 +99,7 @@ entered_done w number step r t calls e h = record {
 pub there_is : (w : Seen) (end : ℕ) → is_missing w end ≡ false → end < length w.ends
 there_is w end e = grind (arith, nat_tests)
 
-no_bytes : AreBytes []
+pub no_bytes : AreBytes []
 no_bytes k d lt = absurd (omega arith)
 
 -- what is so of a call of this end, which names this other, if any
@@ -107,6 +107,7 @@ record IsPlain (w : Seen) (end : ℕ) (peer : Option ℕ) (deed : Deed) : Type 0
   calls : IsCalling deed
   called : end_of deed ≡ end
   named : peer_of deed ≡ peer_or end peer
+  sized : IsSizedDeed deed
   datagram : None ≡ datagram_in (sent_in w.lines) deed
   lacks : lacks_end_in w deed ≡ (lacks_peer w peer || is_missing w end)
   full : lacks_datagram_in w deed ≡ false
@@ -118,6 +119,7 @@ plain w end peer (Calls who call) is = record {
   calls = tt;
   called = is.0;
   named = ap (λ (k : ℕ). peer_or k (peer_in call)) is.0 ∙ ap (λ (o : Option ℕ). peer_or end o) is.1;
+  sized = is.2;
   datagram = refl;
   lacks = ap (λ (k : ℕ). lacks_peer w (peer_in call) || is_missing w k) is.0 ∙ ap (λ (o : Option ℕ). lacks_peer w o || is_missing w end) is.1;
   full = refl;
@@ -152,6 +154,7 @@ entering_call w number end peer step above fits is there =
       bytes = refl;
       short = omega arith;
       are_bytes = no_bytes;
+      sized = p.sized;
       fine = fault_left w number step (p.lacks ∙ there) p.full p.fine ∙ ap (λ (x : Bool). where_true x Forged) p.unforged;
     }
 
@@ -171,6 +174,7 @@ entering_bringing w number end step bytes copy b fine are same =
       bytes = refl;
       short = b.short;
       are_bytes = are;
+      sized = b.sized;
       fine = b.fault ∙ ap (λ (x : Bool). where_true x Forged) fine;
     })
 

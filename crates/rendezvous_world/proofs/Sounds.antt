@@ -3,6 +3,7 @@ use Rattle.std.proofs.Common.{◌≡◌, ℕ, ◌<◌, List, [], length, inl, in
 use Rattle.endpoint_model.specs.Event.{Setup, Event, own_of}
 use Rattle.endpoint_laws.specs.Lawful.{IsLawful}
 use Rattle.endpoint_laws.specs.History.{log_of, AreLawful, IsFresh, TakesPart}
+use Rattle.endpoint_laws.proofs.DrawnOnce.{what_is_drawn_once}
 use Rattle.endpoint_laws.proofs.Logged.{every_log_is_lawful}
 use Rattle.rendezvous_world.specs.Seen.{Seen, setup_at}
 use Rattle.rendezvous_world.specs.History.{history_of}
@@ -30,7 +31,7 @@ module _ (w : Seen) (is : IsWorld w) where
 
   fresh : IsFresh (setup_at w.ends) (history_of w)
   fresh = record {
-    nonces = is.nonces;
+    nonces = what_is_drawn_once (setup_at w.ends) (history_of w) lawful is.nonces;
     prints = λ a b ha hb same.
         (let x = is_there w.ends a (takes_part a ha) in
         let y = is_there w.ends b (takes_part b hb) in

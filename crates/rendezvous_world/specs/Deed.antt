@@ -4,11 +4,13 @@ use Rattle.std.specs.Prelude.{ℕ, List}
 use Rattle.rtmfp_forms.specs.Address.{AddressParts}
 use Rattle.endpoint_model.specs.FlowCall.{FlowCall, OpenFlow, Queue as QueueCall, Abandon as AbandonCall, Finish as FinishCall}
 use Rattle.rendezvous_world.specs.declared.step.Step.{Step}
-use Rattle.rendezvous_world.specs.declared.step.Step.TheVariants.{End, At, Introduce, Redirect, Open, Cancel, Close, Flow, Queue, Abandon, Finish, Deliver, Bent, Inject, Forge, Tick}
+use Rattle.rendezvous_world.specs.declared.step.Step.TheVariants.{End, At, Introduce, Redirect, Open, Seek, Unseek, Cancel, Close, Flow, Queue, Abandon, Finish, Deliver, Bent, Inject, Forge, Tick}
 
 -- A call that an end makes; an open and a row name another end by its number.
 pub data StepCall : Type 0 where
   Opens : (peer : ℕ) → (list : List AddressParts) → StepCall
+  Seeks : (name : List ℕ) → (list : List AddressParts) → StepCall
+  Unseeks : (near : ℕ) → StepCall
   Cancels : (n : ℕ) → StepCall
   Closes : (near : ℕ) → StepCall
   CallsFlows : (near : ℕ) → (call : FlowCall) → StepCall
@@ -34,6 +36,8 @@ abbrev pub deed_of : Step → Deed
 deed_of (End name max_peers max_sessions cert) = NewEnd name max_peers max_sessions cert
 deed_of (At moment) = NewMoment moment
 deed_of (Open end peer list) = Calls end (Opens peer list)
+deed_of (Seek end name list) = Calls end (Seeks name list)
+deed_of (Unseek end near) = Calls end (Unseeks near)
 deed_of (Cancel end n) = Calls end (Cancels n)
 deed_of (Close end near) = Calls end (Closes near)
 deed_of (Flow end near priority metadata answers) =

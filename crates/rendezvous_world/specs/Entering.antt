@@ -6,16 +6,17 @@ use Rattle.endpoint_laws.specs.Laws.{AreBytes}
 use Rattle.endpoint_model.specs.State.{State}
 use Rattle.endpoint_model.specs.declared.config.Draws.{Draws}
 use Rattle.endpoint_model.specs.declared.answers.OpenRefusal.TheVariants.{Memory as NoMemoryToOpen}
+use Rattle.endpoint_model.specs.declared.answers.SeekRefusal.TheVariants.{Memory as NoMemoryToSeek}
 use Rattle.session_flows.specs.declared.refusal.CallRefusal.TheVariants.{Memory as NoMemoryToCall}
 use Rattle.introducer.specs.declared.refusal.RowRefusal.TheVariants.{Memory as NoMemoryForRow}
-use Rattle.endpoint_model.specs.Event.{Call, Open as OpenCall, AddRow, Answer, NotOpened, Refused as RefusedCall, NotAdded, Stopped, OutOfMemory, Event}
+use Rattle.endpoint_model.specs.Event.{Call, Open as OpenCall, AddRow, Answer, NotOpened, NotSought, Refused as RefusedCall, NotAdded, Stopped, OutOfMemory, Event}
 use Rattle.endpoint_model.specs.Log.{not_taken}
 use Rattle.endpoint.specs.Calls.{call_of}
 use Rattle.rendezvous_world.specs.declared.bringing.Fetched.{Fetched}
 use Rattle.rendezvous_world.specs.declared.bringing.Fetched.TheVariants.{Missing, Forged as IsForged, Sent as IsSent}
 use Rattle.rendezvous_world.specs.declared.journal.JournalLine.{JournalLine}
 use Rattle.rendezvous_world.specs.declared.journal.Refused.{Refused}
-use Rattle.rendezvous_world.specs.declared.journal.Refused.TheVariants.{Open as OpenRefused, Call as CallRefused, Row as RowRefused}
+use Rattle.rendezvous_world.specs.declared.journal.Refused.TheVariants.{Open as OpenRefused, Seek as SeekRefused, Call as CallRefused, Row as RowRefused}
 use Rattle.rendezvous_world.specs.declared.step.Step.{Step}
 use Rattle.rendezvous_world.specs.declared.step.Step.TheVariants.{End, At, Deliver, Bent, Inject, Forge}
 use Rattle.rendezvous_world.specs.declared.step.Deed.{Deed as DeedTaken}
@@ -28,7 +29,7 @@ use Rattle.rendezvous_world.specs.declared.step.StepFault.{StepFault}
 use Rattle.rendezvous_world.specs.declared.step.StepFault.TheVariants.{Forged, Memory}
 use Rattle.rtmfp_forms.specs.Address.{AddressParts}
 use Rattle.rendezvous_world.specs.Deed.{StepCall, Deed, Calls, deed_of, IsCalling}
-use Rattle.rendezvous_world.specs.Calls.{made, peer_in, LeavesUndone}
+use Rattle.rendezvous_world.specs.Calls.{made, peer_in, IsSizedCall, LeavesUndone}
 use Rattle.rendezvous_world.specs.Seen.{Seen}
 use Rattle.rendezvous_world.specs.Sent.{Sent, sent_in}
 use Rattle.rendezvous_world.specs.Datagrams.{datagram_of}
@@ -44,9 +45,9 @@ use Rattle.rendezvous_world.specs.Sound.{AreBelow}
 abbrev pub CallsAnEnd : Step → Type 0
 CallsAnEnd step = IsCalling (deed_of step)
 
--- The deed is a call of this end, which names this other, if any.
+-- The deed is a call of this end, which names this other, if any, and is given what has its sizes.
 abbrev pub IsCallOf : ℕ → Option ℕ → Deed → Type 0
-IsCallOf end peer (Calls who call) = (who ≡ end) × (peer_in call ≡ peer)
+IsCallOf end peer (Calls who call) = (who ≡ end) × (peer_in call ≡ peer) × IsSizedCall call
 IsCallOf end peer deed = ⊥
 
 -- the call as an end is called with it, by the fingerprint of the end that it names, and by its
@@ -62,9 +63,10 @@ peer_by (OpenBy peer list) = Some peer
 peer_by (AddRowBy peer list) = Some peer
 peer_by (PlainBy call) = None
 
--- This is the call that a step makes.
+-- This is the call that a step makes, given what has its sizes.
 pub record IsMadeBy (by : DeedCall) (call : StepCall) : Type 0 where
   pub peer : peer_in call ≡ peer_by by
+  pub sized : IsSizedCall call
   pub same : (print : List ℕ) (draws : Draws) → made call print draws ≡ made_by by print draws
 
 abbrev pub IsCallBy : ℕ → DeedCall → Deed → Type 0
@@ -77,6 +79,11 @@ bringing end from (DeliveredBy number) = Deliver number end from
 bringing end from (TurnedBy number place) = Bent number place end from
 bringing end from (InjectedBy bytes) = Inject end from bytes.now
 bringing end from (SealedBy plain) = Forge end from plain.now
+
+-- A call is given what has its sizes; of another deed it says nothing.
+abbrev pub IsSizedDeed : Deed → Type 0
+IsSizedDeed (Calls end call) = IsSizedCall call
+IsSizedDeed deed = Unit {0}
 
 -- This is the deed of a step.
 abbrev pub IsDeed : Step → DeedTaken → Type 0
@@ -108,6 +115,7 @@ IsUndone print moment step old new = IsUndoneIn print moment (deed_of step) old 
 -- why a call was refused
 abbrev pub refused_in : Answer → Option Refused
 refused_in (NotOpened refusal) = Some (OpenRefused refusal)
+refused_in (NotSought refusal) = Some (SeekRefused refusal)
 refused_in (RefusedCall refusal) = Some (CallRefused refusal)
 refused_in (NotAdded refusal) = Some (RowRefused refusal)
 refused_in answer = None
@@ -121,6 +129,7 @@ stopped_in answer = None
 -- It was refused for want of memory.
 abbrev pub FoundNone : Answer → Type 0
 FoundNone (NotOpened refusal) = refusal ≡ NoMemoryToOpen
+FoundNone (NotSought refusal) = refusal ≡ NoMemoryToSeek
 FoundNone (RefusedCall refusal) = refusal ≡ NoMemoryToCall
 FoundNone (NotAdded refusal) = refusal ≡ NoMemoryForRow
 FoundNone answer = ⊥
@@ -140,6 +149,7 @@ pub record IsEntering (w : Seen) (number end : ℕ) (step : Step) (brought : Opt
   pub bytes : taken ≡ bytes_or_none brought
   pub short : length taken ≤ 2048
   pub are_bytes : AreBytes taken
+  pub sized : IsSizedDeed (deed_of step)
   pub fine : step_fault w step ≡ None
 
 -- What it leaves.
@@ -164,6 +174,7 @@ pub record IsBringing (w : Seen) (number end : ℕ) (step : Step) (bytes : List 
   pub calls : CallsAnEnd step
   pub called : called_by step ≡ end
   pub peer : peer_of (deed_of step) ≡ end
+  pub sized : IsSizedDeed (deed_of step)
   pub datagram : datagram_of (sent_in w.lines) step ≡ Some bytes
   pub short : length bytes ≤ 2048
   pub forged : is_forged w step ≡ is_forged_by w end (Some bytes)

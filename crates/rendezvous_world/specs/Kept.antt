@@ -5,7 +5,8 @@ use Rattle.glare_core.specs.Steps.{Among}
 use Rattle.glare_core.specs.Told.{AllDifferent}
 use Rattle.endpoint_model.specs.Event.{Setup, own_of}
 use Rattle.endpoint_laws.specs.Laws.{IsSetup, AreCalls}
-use Rattle.endpoint_laws.specs.History.{log_of, IsHonest, nonces_in}
+use Rattle.endpoint_laws.specs.Draws.{drawn_in}
+use Rattle.endpoint_laws.specs.History.{log_of, IsHonest}
 use Rattle.rendezvous_world.specs.declared.journal.JournalLine.{JournalLine}
 use Rattle.rendezvous_world.specs.declared.step.Step.{Step}
 use Rattle.rendezvous_world.specs.Deed.{Deed, Calls, deed_of}
@@ -81,6 +82,6 @@ pub record IsWorld (w : Seen) : Type 0 where
   -- each line tells what its step can answer
   pub answers : AllByRecursion IsAnswered w.lines
   pub honest : IsHonest (setup_at w.ends) (history_of w)
-  -- the nonces are those of lines, none of which gave two
-  pub nonces : AllDifferent (nonces_in (history_of w))
-  pub drawn : (nonce : List ℕ) → Among nonce (nonces_in (history_of w)) → IsOfLine nonce w.lines
+  -- the nonces that calls drew are those of lines, none of which gave two
+  pub nonces : AllDifferent (drawn_in (history_of w))
+  pub drawn : (nonce : List ℕ) → Among nonce (drawn_in (history_of w)) → IsOfLine nonce w.lines

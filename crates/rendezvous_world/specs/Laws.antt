@@ -9,7 +9,9 @@ use Rattle.endpoint_laws.specs.Laws.{AreBytes}
 use Rattle.endpoint_laws.specs.Agreed.{IsAgreed}
 use Rattle.rendezvous_world.specs.declared.journal.JournalLine.{JournalLine}
 use Rattle.rendezvous_world.specs.declared.step.Step.{Step}
-use Rattle.rendezvous_world.specs.Deed.{Deed, NewEnd, deed_of}
+use Rattle.rendezvous_world.specs.Deed.{Deed, NewEnd, Calls, deed_of}
+use Rattle.rendezvous_world.specs.Calls.{IsSizedCall}
+use Rattle.rendezvous_world.specs.Entering.{IsSizedDeed}
 use Rattle.rendezvous_world.specs.Seen.{EndSeen, Seen, setup_at}
 use Rattle.rendezvous_world.specs.Sent.{sent_in}
 use Rattle.rendezvous_world.specs.Datagrams.{datagram_in}
@@ -40,7 +42,8 @@ abbrev pub EveryCallKeepsAWorld : Type 0
 EveryCallKeepsAWorld =
     (w : Seen) (number : ℕ) (step : Step) (line : JournalLine) (t : Seen) → IsWorld w →
     AreBelow w.lines number → number < 2 ^ 32 → step_fault w step ≡ None →
-    Called w number step line t → AreBytes (bytes_or_none line.datagram) → IsWorld t
+    Called w number step line t → AreBytes (bytes_or_none line.datagram) →
+    IsSizedDeed (deed_of step) → IsWorld t
 
 -- A datagram for which a step is refused as forged would break that the history is honest: taken
 -- next by that end, with whatever values, it wasn't sent in the context in which it opens.
@@ -58,9 +61,11 @@ EveryForgedDatagramIsDishonest =
 abbrev pub empty_world : Seen
 empty_world = record { moment = 0; ends = []; lines = [] }
 
--- A new end is given a certificate, and the datagram that a step brings is bytes.
+-- A new end is given a certificate, a search is for the name of a service, and the datagram that a
+-- step brings is bytes.
 abbrev pub IsSizedIn : Seen → Deed → Type 0
 IsSizedIn w (NewEnd name max_peers max_sessions cert) = IsCertificate cert
+IsSizedIn w (Calls end call) = IsSizedCall call
 IsSizedIn w deed = AreBytes (bytes_or_none (datagram_in (sent_in w.lines) deed))
 
 abbrev pub IsSized : Seen → Step → Type 0

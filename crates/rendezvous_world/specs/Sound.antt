@@ -14,7 +14,7 @@ use Rattle.rendezvous_world.specs.Stepping.{IsAnswered}
 -- An end stands for a log but for the moment that it keeps, which may be raised to one up to this
 -- moment.
 --
--- An end keeps the largest moment that it was given, of a refused call too. An open or a close
+-- An end keeps the largest moment that it was given, of a refused call too. An open, a seek or a close
 -- that finds no memory has no line in the journal, so the end may keep a later moment than its log
 -- tells. It keeps nothing else of that call, and the next call that is given a moment, which is no
 -- earlier, makes the end keep what its log tells.

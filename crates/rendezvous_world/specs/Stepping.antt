@@ -99,7 +99,8 @@ pub record StoppedIn (w : Seen) (number : ℕ) (step : Step) (t : Seen) : Type 0
   pub stopped : is_some line.stopped ≡ true
   pub called : Called w number step line t
 
--- The deed is an open or a close, which nothing but want of memory refuses at an end in this state.
+-- The deed is an open, a seek or a close, which nothing but want of memory refuses at an end in this
+-- state.
 abbrev pub AllowsIn : List EndSeen → State → Deed → Type 0
 AllowsIn ends s (Calls end call) = IsAllowed (print_at ends (peer_or end (peer_in call))) s call
 AllowsIn ends s deed = ⊥
@@ -107,8 +108,8 @@ AllowsIn ends s deed = ⊥
 abbrev pub Allows : List EndSeen → State → Step → Type 0
 Allows ends s step = AllowsIn ends s (deed_of step)
 
--- An open or a close found no memory: all is as before, but that the end that was called keeps the
--- moment of the world, where it kept an earlier one.
+-- An open, a seek or a close found no memory: all is as before, but that the end that was called keeps
+-- the moment of the world, where it kept an earlier one.
 pub record Noted (w : Seen) (step : Step) (t : Seen) : Type 0 where
   pub end : EndSeen
   pub is_end : slice_get w.ends (called_by step) ≡ Some end

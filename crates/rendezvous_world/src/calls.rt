@@ -13,7 +13,8 @@ use crate::draws::draws_of;
 use crate::journal::{LineAnswer, Refused};
 use crate::step::{Deed, DeedCall, Step};
 use endpoint::{
-    Answered, CallRefusal, Draws, EndCall, Endpoint, OpenRefusal, Outbox, RowRefusal, Stopped,
+    Answered, CallRefusal, Draws, EndCall, Endpoint, OpenRefusal, Outbox, RowRefusal, SeekRefusal,
+    Stopped,
 };
 use rtmfp_forms::Address;
 
@@ -22,7 +23,7 @@ use rtmfp_forms::Address;
 pub(crate) struct Outcome {
     pub(crate) answer: LineAnswer,
     /// It was refused for want of memory: it added nothing, and the end is as before, but that an
-    /// open or a close has noted the moment.
+    /// open, a seek or a close has noted the moment.
     pub(crate) undone: bool,
 }
 
@@ -102,6 +103,7 @@ fn kept_of(answered: &Answered) -> LineAnswer
 {
     match answered {
         Answered::NotOpened(refusal) => LineAnswer::Refused(Refused::Open(*refusal)),
+        Answered::NotSought(refusal) => LineAnswer::Refused(Refused::Seek(*refusal)),
         Answered::Refused(refusal) => LineAnswer::Refused(Refused::Call(*refusal)),
         Answered::NotAdded(refusal) => LineAnswer::Refused(Refused::Row(*refusal)),
         Answered::OutOfMemory => LineAnswer::Stopped(Stopped {
@@ -109,6 +111,7 @@ fn kept_of(answered: &Answered) -> LineAnswer
             chunks: 0,
         }),
         Answered::Began(_) => LineAnswer::Done,
+        Answered::Searching(_) => LineAnswer::Done,
         Answered::FlowOpened(_) => LineAnswer::Done,
         Answered::Queued(_) => LineAnswer::Done,
         Answered::Done => LineAnswer::Done,
@@ -122,6 +125,7 @@ fn found_none(answered: &Answered) -> bool
 {
     match answered {
         Answered::NotOpened(OpenRefusal::Memory) => true,
+        Answered::NotSought(SeekRefusal::Memory) => true,
         Answered::Refused(CallRefusal::Memory) => true,
         Answered::NotAdded(RowRefusal::Memory) => true,
         _ => false,

@@ -5,7 +5,7 @@ ghost use Rattle.rendezvous_world.specs.Line.{stopped_kept};
 
 use crate::kept::KeptStep;
 use crate::step::Step;
-use endpoint::{CallRefusal, OpenRefusal, Outbox, RowRefusal, Stopped};
+use endpoint::{CallRefusal, OpenRefusal, Outbox, RowRefusal, SeekRefusal, Stopped};
 use rtmfp_base::{Memory, Message};
 use std::alloc::Global;
 use std::marker::Model;
@@ -15,6 +15,7 @@ use std::marker::Model;
 #[derive(Clone, Copy, Debug, PartialEq, Eq)]
 pub enum Refused {
     Open(OpenRefusal),
+    Seek(SeekRefusal),
     Call(CallRefusal),
     Row(RowRefusal),
 }

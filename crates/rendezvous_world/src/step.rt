@@ -1,10 +1,11 @@
 //! The steps of a script, what each does, and why one is refused.
 
 ghost use Rattle.std.specs.Prelude.{◌≡◌, IfOk};
-ghost use Rattle.rendezvous_world.specs.Entering.{IsDeed, peer_by};
+ghost use Rattle.rendezvous_world.specs.Deed.{Seeks};
+ghost use Rattle.rendezvous_world.specs.Entering.{IsDeed, IsMadeBy, peer_by};
 
 use endpoint::{EndCall, MessageOptions};
-use identity::Certificate;
+use identity::{Certificate, ServiceName};
 use rtmfp_base::{Memory, Message};
 use rtmfp_forms::Address;
 use rtmfp_text::Name;
@@ -73,6 +74,17 @@ pub enum Step {
         end: usize,
         peer: usize,
         list: Addresses,
+    },
+    /// An end searches for one with this name, with these candidate addresses.
+    Seek {
+        end: usize,
+        name: ServiceName,
+        list: Addresses,
+    },
+    /// An end gives up its search with this session ID.
+    Unseek {
+        end: usize,
+        near: u32,
     },
     /// An end gives up its attempt with this number.
     Cancel {
@@ -207,6 +219,16 @@ pub(crate) enum Deed<'a> {
     Bring(usize, &'a Address, Source<'a>),
 }
 
+/// A search for an end with this name.
+fn seek<'a>(name: &'a ServiceName, list: &'a Addresses) -> DeedCall<'a>
+    ensures { IsMadeBy result (Seeks name.now list.now) }
+{
+    // Read for the prover alone, which finds here what a name keeps.
+    let _bytes = name.bytes();
+    let candidates = list.as_slice();
+    DeedCall::Plain(EndCall::Seek { name, candidates })
+}
+
 impl Step {
     /// The same step again.
     pub(crate) fn again(&self, alloc: Global) -> Result<Step, Memory>
@@ -229,6 +251,15 @@ impl Step {
                 end: *end,
                 peer: *peer,
                 list: list.copy(alloc)?,
+            },
+            Step::Seek { end, name, list } => Step::Seek {
+                end: *end,
+                name: *name,
+                list: list.copy(alloc)?,
+            },
+            Step::Unseek { end, near } => Step::Unseek {
+                end: *end,
+                near: *near,
             },
             Step::Cancel { end, n } => Step::Cancel { end: *end, n: *n },
             Step::Close { end, near } => Step::Close {
@@ -332,6 +363,11 @@ impl Step {
             },
             Step::At { moment } => Deed::NewMoment(*moment),
             Step::Open { end, peer, list } => Deed::Call(*end, DeedCall::Open(*peer, list)),
+            Step::Seek { end, name, list } => Deed::Call(*end, seek(name, list)),
+            Step::Unseek { end, near } => Deed::Call(
+                *end,
+                DeedCall::Plain(EndCall::Unseek { near: *near }),
+            ),
             Step::Cancel { end, n } => Deed::Call(*end, DeedCall::Plain(EndCall::Cancel { n: *n })),
             Step::Close { end, near } => Deed::Call(
                 *end,

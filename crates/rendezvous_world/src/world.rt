@@ -95,8 +95,8 @@ impl World {
     /// which it is refused, in their order; a call that an end refuses is none.
     ///
     /// Where no memory is found, all is as before. But a datagram or a tick that had begun has its
-    /// line in the journal, with what it added, and an end that was to open an attempt or to close
-    /// a session keeps the moment.
+    /// line in the journal, with what it added, and an end that was to open an attempt, to begin a
+    /// search or to close a session keeps the moment.
     pub fn step(&mut self, line: u64, step: &Step) -> Result<(), StepFault>
         requires above { AreBelow self.old.lines line }
         requires fits { line < 2 ^ 32 }

@@ -5,7 +5,7 @@ use Rattle.rtmfp_forms.specs.Address.{AddressParts}
 use Rattle.rtmfp_host.specs.Drawing.{next_block}
 use Rattle.rtmfp_host.specs.declared.link.Given.TheVariants.{Datagram, Quiet}
 use Rattle.endpoint_model.specs.declared.config.Draws.{Draws}
-use Rattle.endpoint_model.specs.Event.{Call, Open, OnFlows, Receive, Tick, Event}
+use Rattle.endpoint_model.specs.Event.{Call, OnFlows, Receive, Tick, Event}
 use Rattle.endpoint_model.specs.FlowCall.{FlowCall}
 use Rattle.rtmfp_host.specs.declared.link.LinkCall.{LinkCall}
 use Rattle.rtmfp_host.specs.declared.link.LinkCall.TheVariants.{Bind}
@@ -14,7 +14,7 @@ use Rattle.rtmfp_words.specs.declared.opening_words.OpeningWords.{OpeningWords}
 use Rattle.rtmfp_node.specs.declared.served.Served.TheVariants.{EntropyFault}
 use Rattle.rtmfp_node.specs.Outside.{Told}
 use Rattle.rtmfp_node.specs.Whole.{CutAtStart}
-use Rattle.rtmfp_node.specs.Events.{AreMessages, AreOpened, AreTurnEvents, IsFlowCall, draws_of, opened_in, opens_flow, queues}
+use Rattle.rtmfp_node.specs.Events.{AreMessages, AreOpened, AreTurnEvents, IsFlowCall, draws_of, opened_in, opening_call, opens_flow, queues}
 use Rattle.rtmfp_node.specs.Calls.{calls_in, first_added, message_calls, opening_calls}
 
 calls_more : (es fs : List Event) → calls_in (es ++ fs) ≡ calls_in es ++ calls_in fs
@@ -51,7 +51,7 @@ openings_called [] moment blocks log h = ap calls_in h
 openings_called (o ∷ os) moment blocks log h =
     ap calls_in h.2
     ∙ ap (λ (c : Call). c ∷ calls_in h.1) (ap (λ (k : Event). k.call) h.3.3)
-    ∙ ap (λ (xs : List Call). Open o.print (o.at ∷ []) (draws_of (next_block blocks)) ∷ xs) (openings_called os moment (drop 1 blocks) h.1 h.4)
+    ∙ ap (λ (xs : List Call). opening_call o.whom o.at (draws_of (next_block blocks)) ∷ xs) (openings_called os moment (drop 1 blocks) h.1 h.4)
 
 -- ---- a fault of the random source at the start
 

@@ -66,7 +66,7 @@ pub opens_none : (moment : ℕ) (b : Option (List (List ℕ))) (s : State) (a : 
 opens_none moment b s a m = record { log = []; opened = (refl, refl); acts = in_none 0 s a m }
 
 pub opens_next : (os : List OpeningWords) (i : ℕ) (o : OpeningWords) (moment : ℕ) (b c d : Option (List (List ℕ))) (block : List ℕ) (s t u : State) (x y z : List Entry) (m n k : Noted) → i < length os →
-    o ≡ get_or os i o → OpensAll (take i os) moment b c s t x y m n → Drew c d block → DidOpen o moment (draws_of block) t u y z n k → OpensAll (take (i + 1) os) moment b d s u x z m k
+    o ≡ get_or os i o → OpensAll (take i os) moment b c s t x y m n → Drew c d block → DidOpen o.whom o.at moment (draws_of block) t u y z n k → OpensAll (take (i + 1) os) moment b d s u x z m k
 opens_next os i o moment b c d block s t u x y z m n k within is opens drew did =
     let more : take (i + 1) os ≡ take i os ++ o ∷ [] = ap (λ k. take k os) (add-one i) ∙ take-suc os i o within ∙ ap (λ x. take i os ++ x ∷ []) (sym is) in
     subst (λ xs. OpensAll xs moment b d s u x z m k) (sym more) (record {

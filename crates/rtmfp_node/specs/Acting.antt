@@ -1,5 +1,6 @@
 -- What the parts of a turn do.
 use Rattle.std.specs.Prelude.{◌≡◌, ◌⊎◌, ℕ, ◌+◌, ◌<◌, List, [], ◌∷◌, ◌++◌, drop, length, take, Option, Some, None}
+use Rattle.rtmfp_forms.specs.Address.{AddressParts}
 use Rattle.rtmfp_host.specs.Faults.{Rose}
 use Rattle.rtmfp_host.specs.Linking.{Line}
 use Rattle.rtmfp_host.specs.Writing.{Appends}
@@ -16,11 +17,12 @@ use Rattle.endpoint_laws.specs.Laws.{AreCalls}
 use Rattle.rtmfp_report.specs.EntryText.{entries_text, sent_after}
 use Rattle.rtmfp_words.specs.Node.{Serving}
 use Rattle.rtmfp_words.specs.declared.opening_words.OpeningWords.{OpeningWords}
+use Rattle.rtmfp_words.specs.declared.opening_words.Whom.{Whom}
 use Rattle.rtmfp_node.specs.declared.served.Served.{Served}
 use Rattle.rtmfp_node.specs.declared.served.Served.TheVariants.{Done, Memory, LinkFault, SinkFault, EntropyFault}
 use Rattle.rtmfp_node.specs.Outside.{Outside, Told, Leaves, Stays}
 use Rattle.rtmfp_node.specs.Report.{events_text, self_name, unsent_text}
-use Rattle.rtmfp_node.specs.Events.{AreMessages, AreSendCalls, AreTurnEvents, ExtendsBy, IsFlowCall, IsOpened, draws_of, entries_of}
+use Rattle.rtmfp_node.specs.Events.{AreMessages, AreSendCalls, AreTurnEvents, ExtendsBy, IsCalled, IsFlowCall, IsOpened, draws_of, entries_of}
 use Rattle.rtmfp_node.specs.Turn.{AreSends, Turn, TurnZero, Turns, outs_in}
 use Rattle.rtmfp_node.specs.Cut.{AreFirstSends, CutAtZero, CutBy, IsPart, LinesSoFar}
 
@@ -106,11 +108,11 @@ AreOpenedBy (opening ∷ openings) moment before after log =
     Drew before middle block × IsOpened opening moment (draws_of block) e × (log ≡ e ∷ later) ×
     AreOpenedBy openings moment middle after later
 
--- an opening that was begun or refused
-pub record DidOpen (opening : OpeningWords) (moment : ℕ) (draws : Draws) (s t : State)
+-- an opening that was begun or refused, by whom it calls and where
+pub record DidOpen (whom : Whom) (at : AddressParts) (moment : ℕ) (draws : Draws) (s t : State)
     (before after : List Entry) (m n : Noted) : Type 0 where
   pub event : Event
-  pub opened : IsOpened opening moment draws event
+  pub opened : IsCalled whom at moment draws event
   pub acts : ActsIn 0 s t before after m n (event ∷ [])
 
 -- all of them

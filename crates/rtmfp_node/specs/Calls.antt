@@ -2,9 +2,9 @@
 use Rattle.std.specs.Prelude.{ℕ, List, [], ◌∷◌, ◌++◌, drop}
 use Rattle.rtmfp_host.specs.Drawing.{next_block}
 use Rattle.endpoint_model.specs.declared.entry.Entry.{Entry}
-use Rattle.endpoint_model.specs.Event.{Call, Open, OnFlows, Event}
+use Rattle.endpoint_model.specs.Event.{Call, OnFlows, Event}
 use Rattle.rtmfp_words.specs.declared.opening_words.OpeningWords.{OpeningWords}
-use Rattle.rtmfp_node.specs.Events.{draws_of, opens_flow, queues}
+use Rattle.rtmfp_node.specs.Events.{draws_of, opening_call, opens_flow, queues}
 
 -- the calls of these events
 abbrev pub calls_in : List Event → List Call
@@ -26,5 +26,5 @@ message_calls message (near ∷ nears) =
 abbrev pub opening_calls : List OpeningWords → List (List ℕ) → List Call
 opening_calls [] blocks = []
 opening_calls (opening ∷ openings) blocks =
-    Open opening.print (opening.at ∷ []) (draws_of (next_block blocks))
+    opening_call opening.whom opening.at (draws_of (next_block blocks))
     ∷ opening_calls openings (drop 1 blocks)

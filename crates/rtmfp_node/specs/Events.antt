@@ -3,19 +3,23 @@ use Rattle.std.specs.Prelude.{◌≡◌, ℕ, List, [], ◌∷◌, ◌++◌, dro
 use Rattle.std.specs.Int.{w32, from_be_bytes}
 use Rattle.glare_core.specs.declared.facts.Fact.{Fact}
 use Rattle.glare_core.specs.declared.facts.Fact.TheVariants.{Started, Born, Opened, Confirmed, Ended}
+use Rattle.rtmfp_forms.specs.Address.{AddressParts}
 use Rattle.rtmfp_host.specs.Drawing.{next_block}
 use Rattle.rtmfp_host.specs.declared.link.Given.{Given}
 use Rattle.rtmfp_host.specs.declared.link.Given.TheVariants.{Datagram, Quiet}
 use Rattle.endpoint_model.specs.declared.config.Draws.{Draws}
 use Rattle.endpoint_model.specs.declared.entry.Entry.{Entry}
 use Rattle.endpoint_model.specs.declared.answers.OpenRefusal.TheVariants.{Candidates, Start, SessionsFull, Memory as NoMemoryToOpen}
+use Rattle.endpoint_model.specs.declared.answers.SeekRefusal.TheVariants.{Candidates as WrongCount, SessionsFull as NoRoom, Memory as NoMemoryToSeek}
 use Rattle.session_flows.specs.declared.refusal.CallRefusal.TheVariants.{NoAttempt, NoSession, NoFlow, FlowsFull, WideMetadata, Queue as NoPlace, NotQueued, Finished, Memory as NoMemory}
-use Rattle.endpoint_model.specs.Event.{Setup, Call, Open, Receive, Tick, OnFlows, Answer, Began, Done, NotOpened, Refused, NotAdded, Stopped, OutOfMemory, Event}
+use Rattle.endpoint_model.specs.Event.{Setup, Call, Open, Seek, Receive, Tick, OnFlows, Answer, Began, Searching, Done, NotOpened, NotSought, Refused, NotAdded, Stopped, OutOfMemory, Event}
 use Rattle.endpoint_model.specs.FlowCall.{FlowCall, OpenFlow, Queue}
 use Rattle.endpoint_model.specs.State.{State}
 use Rattle.endpoint_model.specs.Log.{StandsFor}
 use Rattle.endpoint_model.specs.Views.{fact_in}
 use Rattle.rtmfp_words.specs.declared.opening_words.OpeningWords.{OpeningWords}
+use Rattle.rtmfp_words.specs.declared.opening_words.Whom.{Whom}
+use Rattle.rtmfp_words.specs.declared.opening_words.Whom.TheVariants.{Print, Name}
 
 -- ---- draws
 
@@ -49,6 +53,9 @@ IsSettled (NotOpened NoMemoryToOpen) = ⊥
 IsSettled (NotOpened (Candidates count)) = Unit {0}
 IsSettled (NotOpened (Start refusal)) = Unit {0}
 IsSettled (NotOpened (SessionsFull count)) = Unit {0}
+IsSettled (NotSought NoMemoryToSeek) = ⊥
+IsSettled (NotSought (WrongCount count)) = Unit {0}
+IsSettled (NotSought (NoRoom count)) = Unit {0}
 IsSettled (Refused NoMemory) = ⊥
 IsSettled (Refused NoAttempt) = Unit {0}
 IsSettled (Refused NoSession) = Unit {0}
@@ -59,6 +66,7 @@ IsSettled (Refused (NoPlace refusal)) = Unit {0}
 IsSettled (Refused NotQueued) = Unit {0}
 IsSettled (Refused Finished) = Unit {0}
 IsSettled (Began n) = Unit {0}
+IsSettled (Searching near) = Unit {0}
 IsSettled Done = Unit {0}
 IsSettled (NotAdded refusal) = ⊥
 IsSettled (Stopped stop) = ⊥
@@ -66,10 +74,19 @@ IsSettled OutOfMemory = ⊥
 
 -- ---- turn 0
 
--- an opening, begun or refused: its only candidate is its address
+-- the call of an opening: an open towards an end, or a search for a service; its only candidate is
+-- its address
+abbrev pub opening_call : Whom → AddressParts → Draws → Call
+opening_call (Print print) at draws = Open print (at ∷ []) draws
+opening_call (Name name) at draws = Seek name (at ∷ []) draws
+
+-- the event of such a call, done or refused
+abbrev pub IsCalled : Whom → AddressParts → ℕ → Draws → Event → Type 0
+IsCalled whom at moment draws e = (answer : Answer) × (added : List Entry) × IsSettled answer ×
+    (e ≡ event_of moment (opening_call whom at draws) answer added)
+
 abbrev pub IsOpened : OpeningWords → ℕ → Draws → Event → Type 0
-IsOpened opening moment draws e = (answer : Answer) × (added : List Entry) × IsSettled answer ×
-    (e ≡ event_of moment (Open opening.print (opening.at ∷ []) draws) answer added)
+IsOpened opening moment draws e = IsCalled opening.whom opening.at moment draws e
 
 -- the openings in their order, all at one moment, each with the draws of a block of its own
 abbrev pub AreOpened : List OpeningWords → ℕ → List (List ℕ) → List Event → Type 0

@@ -3,11 +3,11 @@
 use Rattle.std.specs.Prelude.{ℕ, ◌+◌, true, false, List, [], ◌∷◌, ◌++◌, codes}
 use Rattle.rtmfp_host.specs.declared.link.LinkCall.{LinkCall}
 use Rattle.rtmfp_host.specs.declared.link.LinkCall.TheVariants.{Bind, Receive, Send}
-use Rattle.endpoint_model.specs.Event.{Answer, Began, Done, NotOpened, Refused, NotAdded, Stopped, OutOfMemory, Event}
+use Rattle.endpoint_model.specs.Event.{Answer, Began, Searching, Done, NotOpened, NotSought, Refused, NotAdded, Stopped, OutOfMemory, Event}
 use Rattle.rtmfp_text.specs.Words.{number_field_text}
 use Rattle.rtmfp_report.specs.EntryText.{entries_text, sent_after}
 use Rattle.rtmfp_report.specs.LineText.{line_text}
-use Rattle.rtmfp_report.specs.RefusalText.{open_refusal_text, call_refusal_text, refused_line}
+use Rattle.rtmfp_report.specs.RefusalText.{open_refusal_text, seek_refusal_text, call_refusal_text, refused_line}
 
 abbrev pub self_name : List ℕ
 self_name = codes "self"
@@ -15,8 +15,10 @@ self_name = codes "self"
 -- the line of a refused call, in this turn
 abbrev pub refused_text : ℕ → Answer → List ℕ
 refused_text turn (NotOpened refusal) = refused_line turn self_name (open_refusal_text refusal)
+refused_text turn (NotSought refusal) = refused_line turn self_name (seek_refusal_text refusal)
 refused_text turn (Refused refusal) = refused_line turn self_name (call_refusal_text refusal)
 refused_text turn (Began n) = []
+refused_text turn (Searching near) = []
 refused_text turn Done = []
 refused_text turn (NotAdded refusal) = []
 refused_text turn (Stopped stop) = []

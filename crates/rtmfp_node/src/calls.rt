@@ -7,9 +7,9 @@ ghost use Rattle.rtmfp_node.specs.Events.{event_of, opens_flow, queues};
 use crate::notes::Notes;
 use endpoint::sizes::{are_bytes, are_sized, are_thirty_two};
 use endpoint::{Draws, Endpoint, MessageOptions, Outbox};
-use identity::Epd;
+use identity::{Epd, ServiceName};
 use rtmfp_forms::Address;
-use rtmfp_words::OpeningWords;
+use rtmfp_words::{OpeningWords, Whom};
 use std::alloc::AllocError;
 
 /// The priority of the flow of a node's message.
@@ -84,19 +84,60 @@ pub(crate) fn open(
     out: &mut Outbox,
     notes: &mut Notes,
 ) -> Result<(), AllocError>
-    ensures { OnOk result (DidOpen opening.now moment draws.now end.old end.new out.old.entries
-        out.new.entries notes.old notes.new) }
+    ensures { OnOk result (DidOpen opening.now.whom opening.now.at moment draws.now end.old
+        end.new out.old.entries out.new.entries notes.old notes.new) }
 {
-    are_thirty_two(&opening.print);
+    match &opening.whom {
+        Whom::Print(print) => open_end(end, print, &opening.at, moment, draws, out, notes),
+        Whom::Name(name) => seek_name(end, name, &opening.at, moment, draws, out, notes),
+    }
+}
+
+/// Opens towards an end.
+fn open_end(
+    end: &mut Endpoint,
+    print: &[u8; 32],
+    at: &Address,
+    moment: u64,
+    draws: &Draws,
+    out: &mut Outbox,
+    notes: &mut Notes,
+) -> Result<(), AllocError>
+    ensures { OnOk result (DidOpen (Whom.Print print.now) at.now moment draws.now end.old
+        end.new out.old.entries out.new.entries notes.old notes.new) }
+{
+    are_thirty_two(print);
     are_sized(draws);
     let before = out.entries().len();
-    let epd = Epd {
-        print: opening.print,
-    };
-    let candidates = [opening.at];
+    let candidates = [*at];
+    let epd = Epd { print: *print };
     let answer = end.open(&epd, &candidates, moment, draws, out);
     note(0, before, out, notes)?;
     notes.settle_open(0, answer)?;
+    Ok(())
+}
+
+/// Searches for an end with this name.
+fn seek_name(
+    end: &mut Endpoint,
+    name: &ServiceName,
+    at: &Address,
+    moment: u64,
+    draws: &Draws,
+    out: &mut Outbox,
+    notes: &mut Notes,
+) -> Result<(), AllocError>
+    ensures { OnOk result (DidOpen (Whom.Name name.now) at.now moment draws.now end.old
+        end.new out.old.entries out.new.entries notes.old notes.new) }
+{
+    // Read for the prover alone, which finds here what a name keeps.
+    let _bytes = name.bytes();
+    are_sized(draws);
+    let before = out.entries().len();
+    let candidates = [*at];
+    let answer = end.seek(name, &candidates, moment, draws, out);
+    note(0, before, out, notes)?;
+    notes.settle_seek(0, answer)?;
     Ok(())
 }
 

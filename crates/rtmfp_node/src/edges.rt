@@ -13,14 +13,15 @@ ghost use Rattle.endpoint_model.specs.declared.answers.OpenRefusal.TheVariants.{
 ghost use Rattle.glare_core.specs.declared.answers.StartRefusal.TheVariants.{AttemptsSpent};
 ghost use Rattle.endpoint_model.specs.declared.entry.Entry.TheVariants.{Closed, Fact as FactEntry};
 ghost use Rattle.endpoint_model.specs.declared.config.Draws.{Draws};
-ghost use Rattle.endpoint_model.specs.Event.{Event, NotOpened, Receive, Tick};
+ghost use Rattle.endpoint_model.specs.Event.{Event, NotOpened, Open, Receive, Seek, Tick};
 ghost use Rattle.endpoint_model.specs.FlowCall.{OpenFlow, Queue};
 ghost use Rattle.rtmfp_words.specs.Node.{Serving};
 ghost use Rattle.rtmfp_words.specs.declared.opening_words.OpeningWords.{OpeningWords};
+ghost use Rattle.rtmfp_words.specs.declared.opening_words.Whom.TheVariants.{Print, Name};
 ghost use Rattle.rtmfp_node.specs.declared.served.Served.TheVariants.{EntropyFault, LinkFault};
 ghost use Rattle.rtmfp_node.specs.Calls.{calls_in, first_added, message_calls, opening_calls};
 ghost use Rattle.rtmfp_node.specs.Cut.{IsPart, LinesSoFar};
-ghost use Rattle.rtmfp_node.specs.Events.{AreOpened, AreTurnEvents, draws_of, opened_in, opens_flow, queues};
+ghost use Rattle.rtmfp_node.specs.Events.{AreOpened, AreTurnEvents, draws_of, opened_in, opening_call, opens_flow, queues};
 ghost use Rattle.rtmfp_node.specs.Outside.{Told};
 ghost use Rattle.rtmfp_node.specs.Report.{refused_text, unsent_line, unsent_text};
 ghost use Rattle.rtmfp_node.specs.Turn.{until_of};
@@ -82,6 +83,15 @@ pub fn turn_zero_makes_its_openings()
     ensures { (openings : List OpeningWords) (moment : ℕ) (blocks : List (List ℕ))
         (log : List Event) → AreOpened openings moment blocks log →
         calls_in log ≡ opening_calls openings blocks }
+{}
+
+/// An opening is an open towards the end with a fingerprint, or a search for a name, at its one
+/// address.
+pub fn an_opening_opens_or_seeks()
+    ensures print { (print : List ℕ) (at : AddressParts) (draws : Draws) →
+        opening_call (Print print) at draws ≡ Open print (at ∷ []) draws }
+    ensures name { (name : List ℕ) (at : AddressParts) (draws : Draws) →
+        opening_call (Name name) at draws ≡ Seek name (at ∷ []) draws }
 {}
 
 /// A turn with a datagram takes it, then opens a flow and queues the message in each session that

@@ -1,13 +1,15 @@
 //! The report of a turn.
 ghost use Rattle.std.specs.Prelude.{◌≡◌, ◌++◌, OnOk, false};
-ghost use Rattle.endpoint_model.specs.Event.{NotOpened, Refused};
-ghost use Rattle.endpoint_model.specs.Log.{answer_of_call, answer_of_open};
+ghost use Rattle.endpoint_model.specs.Event.{NotOpened, NotSought, Refused};
+ghost use Rattle.endpoint_model.specs.Log.{answer_of_call, answer_of_open, answer_of_seek};
 ghost use Rattle.rtmfp_node.specs.Acting.{noted_more};
 ghost use Rattle.rtmfp_node.specs.Events.{IsSettled};
 ghost use Rattle.rtmfp_node.specs.Report.{refused_text};
 
-use endpoint::{CallRefusal, Entry, OpenRefusal};
-use rtmfp_report::{GroupKeys, push_call_refusal, push_entries, push_open_refusal};
+use endpoint::{CallRefusal, Entry, OpenRefusal, SeekRefusal};
+use rtmfp_report::{
+    GroupKeys, push_call_refusal, push_entries, push_open_refusal, push_seek_refusal,
+};
 use rtmfp_text::{Directory, Name, Text};
 use std::alloc::{AllocError, Global};
 use std::marker::Model;
@@ -134,6 +136,41 @@ impl Notes {
         }) }
     {
         push_open_refusal(turn, &self.name, refusal, &mut self.text)
+    }
+
+    /// Adds the line of a search that was refused, where it was. Want of memory ends the run.
+    pub(crate) fn settle_seek(
+        &mut self,
+        turn: u64,
+        answer: Result<u32, SeekRefusal>,
+    ) -> Result<(), AllocError>
+        ensures settled { OnOk result (IsSettled (answer_of_seek answer)) }
+        ensures text { OnOk result (self.new ≡ record {
+          secret = self.old.secret;
+          count = self.old.count;
+          text = self.old.text ++ refused_text turn (answer_of_seek answer);
+        }) }
+    {
+        match answer {
+            Ok(_) => Ok(()),
+            Err(SeekRefusal::Memory) => Err(AllocError),
+            Err(SeekRefusal::Candidates(count)) => {
+                self.push_seek(turn, &SeekRefusal::Candidates(count))
+            }
+            Err(SeekRefusal::SessionsFull(count)) => {
+                self.push_seek(turn, &SeekRefusal::SessionsFull(count))
+            }
+        }
+    }
+
+    fn push_seek(&mut self, turn: u64, refusal: &SeekRefusal) -> Result<(), AllocError>
+        ensures { OnOk result (self.new ≡ record {
+          secret = self.old.secret;
+          count = self.old.count;
+          text = self.old.text ++ refused_text turn (NotSought refusal.now);
+        }) }
+    {
+        push_seek_refusal(turn, &self.name, refusal, &mut self.text)
     }
 
     /// Adds the line of a call on a flow that was refused, where it was. Want of memory ends the

@@ -2,20 +2,31 @@
 use Rattle.std.specs.Prelude.{ℕ, ◌+◌, List, [], ◌∷◌, ◌++◌, Option, Some, None, codes, length}
 use Rattle.rtmfp_base.specs.declared.cause.Cause.{Cause}
 use Rattle.endpoint_model.specs.declared.entry.Entry.{Entry}
-use Rattle.endpoint_model.specs.declared.entry.Entry.TheVariants.{Fact as FactEntry, Closed, Moved, FlowOpened, Queued, Finished, Abandoned, Handed, Discard, Out}
+use Rattle.endpoint_model.specs.declared.entry.Entry.TheVariants.{Fact as FactEntry, Closed, Sought, Unsought, Moved, FlowOpened, Queued, Finished, Abandoned, Handed, Discard, Out}
 use Rattle.endpoint_model.specs.Views.{Sending, out_in}
+use Rattle.glare_core.specs.declared.facts.Why.{Why}
 use Rattle.rtmfp_forms.specs.Address.{AddressParts}
 use Rattle.rtmfp_text.specs.AddressText.{address_text}
 use Rattle.rtmfp_text.specs.Words.{field_text, number_field_text, text_of}
 use Rattle.rtmfp_text.specs.declared.names.Named.{Named}
 use Rattle.rtmfp_report.specs.CauseText.{cause_text}
-use Rattle.rtmfp_report.specs.FactText.{fact_text}
+use Rattle.rtmfp_report.specs.FactText.{fact_text, why_text}
 use Rattle.rtmfp_report.specs.LineText.{line_text}
 use Rattle.rtmfp_report.specs.SentText.{sent_text}
 
 -- a session whose closing is over
 unfoldable pub closed_text : ℕ → List ℕ
 closed_text near = number_field_text (codes "closed near=") near
+
+-- a search that began: its session ID, and the name that it is for
+unfoldable pub sought_text : ℕ → List ℕ → List ℕ
+sought_text near name =
+    text_of (number_field_text (codes "sought near=") near ∷ field_text (codes " name=") name ∷ [])
+
+-- a search that is over: its session ID, and why
+unfoldable pub unsought_text : ℕ → Why → List ℕ
+unsought_text near why =
+    text_of (number_field_text (codes "unsought near=") near ∷ codes " " ∷ why_text why ∷ [])
 
 -- a session that moved: its session ID, and the new address
 unfoldable pub moved_text : ℕ → AddressParts → List ℕ
@@ -61,6 +72,8 @@ counted_after sent entry = counted_out sent (out_in entry)
 abbrev pub told_text : List ℕ → List Named → ℕ → Entry → List ℕ
 told_text secret ends number (FactEntry fact) = fact_text ends fact
 told_text secret ends number (Closed near) = closed_text near
+told_text secret ends number (Sought near name) = sought_text near name
+told_text secret ends number (Unsought near why) = unsought_text near why
 told_text secret ends number (Moved near to) = moved_text near to
 told_text secret ends number (FlowOpened near flow) = flow_opened_text near flow
 told_text secret ends number (Queued near flow seq message) =

@@ -4,6 +4,8 @@ use Rattle.glare_core.specs.declared.answers.StartRefusal.{StartRefusal}
 use Rattle.glare_core.specs.declared.answers.StartRefusal.TheVariants.{Opening, Open, PeersFull, AttemptsSpent, OwnPrint, Memory as StartMemory}
 use Rattle.endpoint_model.specs.declared.answers.OpenRefusal.{OpenRefusal}
 use Rattle.endpoint_model.specs.declared.answers.OpenRefusal.TheVariants.{Candidates, Start, SessionsFull, Memory as OpenMemory}
+use Rattle.endpoint_model.specs.declared.answers.SeekRefusal.{SeekRefusal}
+use Rattle.endpoint_model.specs.declared.answers.SeekRefusal.TheVariants.{Candidates as WrongCount, SessionsFull as NoPlace, Memory as SeekMemory}
 use Rattle.session_flows.specs.declared.refusal.CallRefusal.{CallRefusal}
 use Rattle.session_flows.specs.declared.refusal.CallRefusal.TheVariants.{NoAttempt, NoSession, NoFlow, FlowsFull, WideMetadata, Queue, NotQueued, Finished, Memory as CallMemory}
 use Rattle.flow_send.specs.declared.outcome.QueueRefusal.{QueueRefusal}
@@ -28,6 +30,12 @@ open_refusal_text (Candidates count) = number_field_text (codes "candidates ") c
 open_refusal_text (Start refusal) = start_refusal_text refusal
 open_refusal_text (SessionsFull limit) = number_field_text (codes "sessions-full ") limit
 open_refusal_text OpenMemory = []
+
+-- why a search doesn't begin; no text for want of memory
+unfoldable pub seek_refusal_text : SeekRefusal → List ℕ
+seek_refusal_text (WrongCount count) = number_field_text (codes "candidates ") count
+seek_refusal_text (NoPlace limit) = number_field_text (codes "sessions-full ") limit
+seek_refusal_text SeekMemory = []
 
 -- why a message isn't queued; no text for want of memory
 unfoldable pub queue_refusal_text : QueueRefusal → List ℕ

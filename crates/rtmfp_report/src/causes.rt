@@ -41,5 +41,7 @@ pub(crate) fn push_cause(cause: &Cause, text: &mut Text) -> Result<(), AllocErro
         Cause::Fragment => text.push("fragment"),
         Cause::FlowsFull(count) => text.push_number_field("flows-full ", *count),
         Cause::Wide(count) => text.push_number_field("wide ", *count),
+        Cause::AlreadyHeld(near) => text.push_number_field("already-held ", u64::from(*near)),
+        Cause::AttemptsSpent => text.push("attempts-spent"),
     }
 }

@@ -1,13 +1,14 @@
 //! The lines of what ends did.
 ghost use Rattle.std.specs.Prelude.{◌≡◌, ◌++◌, IfOk, OnOk};
-ghost use Rattle.rtmfp_report.specs.EntryText.{closed_text, counted_after, drop_text, entries_text, entry_text, flow_opened_text, handed_text, moved_text, numbered_text, queued_text, sent_after, told_text};
+ghost use Rattle.rtmfp_report.specs.EntryText.{closed_text, sought_text, unsought_text, counted_after, drop_text, entries_text, entry_text, flow_opened_text, handed_text, moved_text, numbered_text, queued_text, sent_after, told_text};
 
 use crate::causes::push_cause;
-use crate::facts::push_fact;
+use crate::facts::{push_fact, push_why};
 use crate::group_keys::GroupKeys;
 use crate::lines::push_head;
 use crate::sent::push_sent;
 use endpoint::Entry;
+use glare_core::Why;
 use rtmfp_base::Cause;
 use rtmfp_forms::Address;
 use rtmfp_text::{Directory, Name, Text, push_address};
@@ -90,6 +91,8 @@ fn push_told(
     match entry {
         Entry::Fact(fact) => push_fact(ends, fact, text),
         Entry::Closed { near } => push_closed(u64::from(*near), text),
+        Entry::Sought { near, name } => push_sought(u64::from(*near), name.bytes(), text),
+        Entry::Unsought { near, why } => push_unsought(u64::from(*near), *why, text),
         Entry::Moved { near, to } => push_moved(u64::from(*near), to, text),
         Entry::FlowOpened { near, flow } => push_flow_opened(u64::from(*near), *flow, text),
         Entry::Queued {
@@ -125,6 +128,25 @@ fn push_closed(near: u64, text: &mut Text) -> Result<(), AllocError>
     ensures { OnOk result (text.new ≡ text.old ++ closed_text near) }
 {
     text.push_number_field("closed near=", near)
+}
+
+/// Adds that a search began: its session ID, and the name that it is for.
+fn push_sought(near: u64, name: &[u8], text: &mut Text) -> Result<(), AllocError>
+    ensures { OnOk result (text.new ≡ text.old ++ sought_text near name.now) }
+{
+    text.push_number_field("sought near=", near)?;
+    text.push_field(" name=", name)?;
+    Ok(())
+}
+
+/// Adds that a search is over: its session ID, and why.
+fn push_unsought(near: u64, why: Why, text: &mut Text) -> Result<(), AllocError>
+    ensures { OnOk result (text.new ≡ text.old ++ unsought_text near why) }
+{
+    text.push_number_field("unsought near=", near)?;
+    text.push(" ")?;
+    push_why(why, text)?;
+    Ok(())
 }
 
 /// Adds that a session moved: its session ID, and the new address.

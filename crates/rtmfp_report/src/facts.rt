@@ -90,6 +90,13 @@ fn push_ended(near: u64, why: Why, text: &mut Text) -> Result<(), AllocError>
     Ok(())
 }
 
+/// Adds a reason for an end.
+pub(crate) fn push_why(why: Why, text: &mut Text) -> Result<(), AllocError>
+    ensures { OnOk result (text.new ≡ text.old ++ why_text why) }
+{
+    text.push(why_name(why))
+}
+
 /// What a reason for an end is called.
 #[tactic(auto, unfolding(crate::specs::FactText::why_text))]
 fn why_name(why: Why) -> &'static str

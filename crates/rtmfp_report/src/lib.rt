@@ -16,5 +16,5 @@ mod tally;
 pub use entries::push_entries;
 pub use group_keys::GroupKeys;
 pub use lost::push_lost;
-pub use refusals::{push_call_refusal, push_open_refusal, push_row_refusal};
+pub use refusals::{push_call_refusal, push_open_refusal, push_row_refusal, push_seek_refusal};
 pub use tally::{Tally, push_summary};

@@ -1,9 +1,9 @@
 //! The lines of calls that were refused.
 ghost use Rattle.std.specs.Prelude.{◌≡◌, ◌++◌, OnOk};
-ghost use Rattle.rtmfp_report.specs.RefusalText.{call_refusal_text, open_refusal_text, queue_refusal_text, refused_line, row_refusal_text, start_refusal_text};
+ghost use Rattle.rtmfp_report.specs.RefusalText.{call_refusal_text, open_refusal_text, queue_refusal_text, refused_line, row_refusal_text, seek_refusal_text, start_refusal_text};
 
 use crate::lines::push_head;
-use endpoint::{CallRefusal, OpenRefusal, QueueRefusal, RowRefusal};
+use endpoint::{CallRefusal, OpenRefusal, QueueRefusal, RowRefusal, SeekRefusal};
 use glare_core::StartRefusal;
 use rtmfp_text::{Name, Text};
 use std::alloc::AllocError;
@@ -24,6 +24,36 @@ pub fn push_open_refusal(
     push_open_name(refusal, text)?;
     text.push("\n")?;
     Ok(())
+}
+
+/// Adds the line of a search that the end with this name didn't begin. Want of memory has no name;
+/// it isn't reported.
+pub fn push_seek_refusal(
+    line: u64,
+    name: &Name,
+    refusal: &SeekRefusal,
+    text: &mut Text,
+) -> Result<(), AllocError>
+    ensures { OnOk result (text.new ≡ text.old
+        ++ refused_line line name.now (seek_refusal_text refusal.now)) }
+{
+    push_head(line, name, text)?;
+    text.push("refused ")?;
+    push_seek_name(refusal, text)?;
+    text.push("\n")?;
+    Ok(())
+}
+
+/// Adds why a search doesn't begin.
+#[tactic(auto, unfolding(crate::specs::RefusalText::seek_refusal_text))]
+fn push_seek_name(refusal: &SeekRefusal, text: &mut Text) -> Result<(), AllocError>
+    ensures { OnOk result (text.new ≡ text.old ++ seek_refusal_text refusal.now) }
+{
+    match refusal {
+        SeekRefusal::Candidates(count) => text.push_number_field("candidates ", *count),
+        SeekRefusal::SessionsFull(limit) => text.push_number_field("sessions-full ", *limit),
+        SeekRefusal::Memory => text.push(""),
+    }
 }
 
 /// Adds the line of another call that the end with this name refused. Want of memory has no name;

@@ -5,16 +5,17 @@ use Rattle.std.proofs.lemmas.Bool.{le-leb}
 use Rattle.rtmfp_forms.specs.Address.{AddressParts}
 use Rattle.rtmfp_text.specs.AddressText.{address_text, v4_host_text}
 use Rattle.rtmfp_text.specs.Words.{bytes_text, number_text}
+use Rattle.identity.specs.ServiceNames.{IsServiceName}
 use Rattle.translators.specs.declared.rule.Rule.{Rule}
 use Rattle.rtmfp_script.specs.declared.line.ScriptLine.{ScriptLine}
 use Rattle.rtmfp_script.specs.declared.line.ScriptLine.TheVariants.{End, At, Call, Towards, Bring, Translator, Place, Carry}
-use Rattle.rtmfp_script.specs.declared.line.CallLine.TheVariants.{Introduce, Cancel, Close, Flow, Queue, Abandon, Finish, Tick}
+use Rattle.rtmfp_script.specs.declared.line.CallLine.TheVariants.{Introduce, Seek, Cancel, Unseek, Close, Flow, Queue, Abandon, Finish, Tick}
 use Rattle.rtmfp_script.specs.declared.line.AimLine.TheVariants.{Redirect, Open}
 use Rattle.rtmfp_script.specs.declared.line.BringLine.TheVariants.{Deliver, Bent, Inject, Forge}
 use Rattle.rtmfp_script.specs.declared.content.Content.{Content}
 use Rattle.rtmfp_script.specs.Grammar.{IsName, IsCert, IsPlainAddress, IsBytesUpTo, EachIsPlainAddress, AreBytes, IsBelow, IsContent, IsHost, IsNameOrNone, IsWithin, IsLineOf, content_text, name_for, rule_text, word_for, line_text, words_text, line_limit}
 use Rattle.rtmfp_script.specs.Fields.{split_of, number_of, number_below, ◌>>=◌}
-use Rattle.rtmfp_script.specs.Lines.{end_of, introduce_of, redirect_of, at_of, open_of, open_to, cancel_of, close_of, session_at, flow_in, flow_of, queue_in, queue_of, abandon_of, finish_of, tick_of, deliver_of, bent_of, bytes_at, inject_of, forge_of, translator_of, place_at, place_of, carry_of, word_of, step_of}
+use Rattle.rtmfp_script.specs.Lines.{end_of, introduce_of, redirect_of, at_of, open_of, open_to, seek_for, seek_of, cancel_of, unseek_of, close_of, session_at, flow_in, flow_of, queue_in, queue_of, abandon_of, finish_of, tick_of, deliver_of, bent_of, bytes_at, inject_of, forge_of, translator_of, place_at, place_of, carry_of, word_of, step_of}
 use Rattle.rtmfp_script.proofs.Splits.{split_text, split_nothing}
 use Rattle.rtmfp_script.proofs.Numbers.{number_of-decimal, number_below-decimal}
 use Rattle.rtmfp_script.proofs.Digits.{bytes_of-text, hexadecimal_of-text}
@@ -22,6 +23,7 @@ use Rattle.rtmfp_script.proofs.NamesRead.{name_of-name, lacks_name, cert_of-cert
 use Rattle.rtmfp_script.proofs.Addresses.{address_of-text, host_read, lacks_address, lacks_low}
 use Rattle.rtmfp_script.proofs.AddressesRead.{addresses_of-text}
 use Rattle.rtmfp_script.proofs.PlacesRead.{rule_of-text, lacks_rule, place_at-text}
+use Rattle.rtmfp_script.proofs.Services.{lacks_service, service_of-text}
 use Rattle.rtmfp_script.proofs.Contents.{limit_by-text, no_space_number, no_space_bytes, answers_of-text, content_of-text}
 
 end_read : (name : List ℕ) (peers sessions : ℕ) (cert : List ℕ) → IsName name → peers < 2 ^ 32 → sessions < 2 ^ 32 → IsCert cert →
@@ -210,6 +212,27 @@ open_read name peer first more n p few good =
       addresses_of-text first more few good,
     ) refl
 
+seek_alone : (name service : List ℕ) → IsName name → IsServiceName service → seek_of (name ++ 32 ∷ bytes_text service) ≡ Some (Call name (Seek service []))
+unfolding seek_of seek_for
+seek_alone name service n s =
+    rw (split_text 32 name (bytes_text service) (lacks_name name n), name_of-name name n, split_nothing 32 (bytes_text service) (lacks_service service s), service_of-text service s) refl
+
+seek_read : (name service : List ℕ) (first : AddressParts) (more : List AddressParts) → IsName name → IsServiceName service → length (first ∷ more) ≤ 32 → EachIsPlainAddress (first ∷ more) →
+    seek_of (name ++ 32 ∷ (bytes_text service ++ 32 ∷ words_text (map address_text (first ∷ more)))) ≡ Some (Call name (Seek service (first ∷ more)))
+unfolding seek_of seek_for
+seek_read name service first more n s few good =
+    rw (
+      split_text 32 name (bytes_text service ++ 32 ∷ words_text (map address_text (first ∷ more))) (lacks_name name n),
+      name_of-name name n,
+      split_text 32 (bytes_text service) (words_text (map address_text (first ∷ more))) (lacks_service service s),
+      service_of-text service s,
+      addresses_of-text first more few good,
+    ) refl
+
+unseek_read : (name : List ℕ) (near : ℕ) → IsName name → near < 2 ^ 32 → unseek_of (name ++ 32 ∷ decimal near) ≡ Some (Call name (Unseek near))
+unfolding unseek_of
+unseek_read name near n m = rw (split_text 32 name (decimal near) (lacks_name name n), name_of-name name n, number_below-decimal (2 ^ 32) near (omega arith) m) refl
+
 translator_read : (name : List ℕ) (mapping filter : Rule) (host : List ℕ) (first : ℕ) → IsName name → IsHost host → first < 2 ^ 16 →
     translator_of (name ++ 32 ∷ (rule_text mapping ++ 32 ∷ (rule_text filter ++ 32 ∷ (v4_host_text host ++ 32 ∷ decimal first)))) ≡ Some (Translator name mapping filter host first)
 unfolding translator_of
@@ -250,6 +273,9 @@ said_read (Towards name peer (first ∷ more) Redirect) w = redirect_read name p
 said_read (At moment) m = at_read moment m
 said_read (Towards name peer [] Open) w = open_alone name peer w.0 w.1
 said_read (Towards name peer (first ∷ more) Open) w = open_read name peer first more w.0 w.1 w.2 w.3
+said_read (Call name (Seek service [])) w = seek_alone name service w.0 w.1
+said_read (Call name (Seek service (first ∷ more))) w = seek_read name service first more w.0 w.1 w.2 w.3
+said_read (Call name (Unseek near)) w = unseek_read name near w.0 w.1
 said_read (Call name (Cancel number)) w = cancel_read name number w.0 w.1
 said_read (Call name (Close near)) w = close_read name near w.0 w.1
 said_read (Call name (Flow near priority metadata answers)) w = flow_read name near priority metadata answers w.0 w.1 w.2 w.3 w.4

@@ -7,6 +7,7 @@ pub mod Addresses
 pub mod AddressesRead
 pub mod Contents
 pub mod PlacesRead
+pub mod Services
 pub mod Sound
 pub mod Complete
 pub mod Saying

@@ -7,14 +7,15 @@ use Rattle.std.proofs.lemmas.Slice.Eq.{bytes_eq-Decides}
 use Rattle.rtmfp_forms.specs.Address.{AddressParts}
 use Rattle.rtmfp_text.specs.AddressText.{address_text}
 use Rattle.rtmfp_text.specs.Words.{bytes_text, number_text}
+use Rattle.identity.specs.ServiceNames.{IsServiceName}
 use Rattle.rtmfp_script.specs.declared.line.ScriptLine.{ScriptLine}
 use Rattle.rtmfp_script.specs.declared.line.ScriptLine.TheVariants.{Call, Towards, Translator}
-use Rattle.rtmfp_script.specs.declared.line.CallLine.TheVariants.{Flow, Queue, Abandon, Finish}
+use Rattle.rtmfp_script.specs.declared.line.CallLine.TheVariants.{Seek, Unseek, Flow, Queue, Abandon, Finish}
 use Rattle.rtmfp_script.specs.declared.line.AimLine.TheVariants.{Redirect, Open}
 use Rattle.rtmfp_script.specs.declared.content.Content.{Content}
 use Rattle.rtmfp_script.specs.Grammar.{IsName, IsPlainAddress, IsBytesUpTo, EachIsPlainAddress, AreBytes, IsBelow, IsContent, IsWithin, IsLineOf, content_text, word_for, line_text, words_text, line_limit}
-use Rattle.rtmfp_script.specs.Fields.{split_of, name_of, cert_of, number_of, number_below, bytes_of, hexadecimal_of, limit_by, content_of, rule_of, v4_of, address_of, addresses_of, either, ◌>>=◌}
-use Rattle.rtmfp_script.specs.Lines.{end_of, introduce_of, row_said, redirect_of, at_of, open_of, open_to, cancel_of, close_of, answers_of, session_at, flow_in, flow_of, queue_in, queue_of, abandon_of, finish_of, tick_of, deliver_of, bent_of, bytes_at, inject_of, forge_of, translator_of, place_at, place_of, carry_of, word_of, step_of}
+use Rattle.rtmfp_script.specs.Fields.{split_of, name_of, cert_of, number_of, number_below, bytes_of, hexadecimal_of, service_of, limit_by, content_of, rule_of, v4_of, address_of, addresses_of, either, ◌>>=◌}
+use Rattle.rtmfp_script.specs.Lines.{end_of, introduce_of, row_said, redirect_of, at_of, open_of, open_to, seek_for, seek_of, cancel_of, unseek_of, close_of, answers_of, session_at, flow_in, flow_of, queue_in, queue_of, abandon_of, finish_of, tick_of, deliver_of, bent_of, bytes_at, inject_of, forge_of, translator_of, place_at, place_of, carry_of, word_of, step_of}
 use Rattle.rtmfp_script.proofs.Splits.{some_some, bind_some, split_joined}
 use Rattle.rtmfp_script.proofs.Numbers.{number_of-some, number_below-some}
 use Rattle.rtmfp_script.proofs.Digits.{bytes_of-some, hexadecimal_of-some}
@@ -22,6 +23,7 @@ use Rattle.rtmfp_script.proofs.NamesRead.{rejoin, name_of-some, cert_of-some}
 use Rattle.rtmfp_script.proofs.Addresses.{address_of-some, v4_of-is_host}
 use Rattle.rtmfp_script.proofs.AddressesRead.{addresses_of-some}
 use Rattle.rtmfp_script.proofs.PlacesRead.{rule_of-some, place_at-some}
+use Rattle.rtmfp_script.proofs.Services.{service_of-some}
 use Rattle.rtmfp_script.proofs.Contents.{limit_by-some, answers_of-some, content_of-some}
 
 -- a word, and what stands behind its space, say this
@@ -230,6 +232,68 @@ open_sound rest said h =
     subst (IsSaid (codes "open") rest) p.is (record {
       text = after (codes "open") rest _ (rejoin 32 rest a.0.0 a.0.1 _ _ (split_joined 32 rest a.0 a.1) n.0 p.text);
       within = (n.1, p.peer_is, p.few, p.good);
+    })
+
+-- ---- searches
+
+-- a service, and the addresses behind it
+record IsService (name rest : List ℕ) (said : ScriptLine) : Type 0 where
+  service : List ℕ
+  addresses : List AddressParts
+  is : Call name (Seek service addresses) ≡ said
+  text : rest ≡ words_text (bytes_text service ∷ map address_text addresses)
+  service_is : IsServiceName service
+  few : length addresses ≤ 32
+  good : EachIsPlainAddress addresses
+
+service_by : (name rest : List ℕ) (said : ScriptLine) (o : Option (List ℕ × List ℕ)) → split_of 32 rest ≡ o →
+    either (service_of rest >>= λ service. Some (Call name (Seek service []))) (λ parts. service_of parts.0 >>= λ service. addresses_of parts.1 >>= λ addresses. Some (Call name (Seek service addresses))) o ≡ Some said → IsService name rest said
+service_by name rest said None cut h =
+    let service = bind_some (service_of rest) (λ service. Some (Call name (Seek service []))) said h in
+    let s = service_of-some rest service.0 service.1 in
+    record { service = service.0; addresses = []; is = some_some (Call name (Seek service.0 [])) said service.2; text = s.0; service_is = s.1; few = omega arith; good = tt }
+service_by name rest said (Some parts) cut h =
+    let service = bind_some (service_of parts.0) (λ service. addresses_of parts.1 >>= λ addresses. Some (Call name (Seek service addresses))) said h in
+    let addresses = bind_some (addresses_of parts.1) (λ addresses. Some (Call name (Seek service.0 addresses))) said service.2 in
+    let s = service_of-some parts.0 service.0 service.1 in
+    let l = addresses_of-some parts.1 addresses.0 addresses.1 in
+    record {
+      service = service.0;
+      addresses = addresses.0;
+      is = some_some (Call name (Seek service.0 addresses.0)) said addresses.2;
+      text = rejoin 32 rest parts.0 parts.1 (bytes_text service.0) parts.1 (split_joined 32 rest parts cut) s.0 refl ∙ sym (l.text_is (bytes_text service.0));
+      service_is = s.1;
+      few = l.few;
+      good = l.good;
+    }
+
+service_sound : (name rest : List ℕ) (said : ScriptLine) → seek_for name rest ≡ Some said → IsService name rest said
+unfolding seek_for
+service_sound name rest said h = service_by name rest said (split_of 32 rest) refl h
+
+seek_sound : (rest : List ℕ) (said : ScriptLine) → seek_of rest ≡ Some said → IsSaid (codes "seek") rest said
+unfolding seek_of
+seek_sound rest said h =
+    let a = bind_some (split_of 32 rest) _ said h in
+    let name = bind_some (name_of a.0.0) _ said a.2 in
+    let n = name_of-some a.0.0 name.0 name.1 in
+    let p = service_sound name.0 a.0.1 said name.2 in
+    subst (IsSaid (codes "seek") rest) {x = Call name.0 (Seek p.service p.addresses)} p.is (record {
+      text = after (codes "seek") rest _ (rejoin 32 rest a.0.0 a.0.1 _ _ (split_joined 32 rest a.0 a.1) n.0 p.text);
+      within = (n.1, p.service_is, p.few, p.good);
+    })
+
+unseek_sound : (rest : List ℕ) (said : ScriptLine) → unseek_of rest ≡ Some said → IsSaid (codes "unseek") rest said
+unfolding unseek_of
+unseek_sound rest said h =
+    let a = bind_some (split_of 32 rest) _ said h in
+    let name = bind_some (name_of a.0.0) _ said a.2 in
+    let near = bind_some (number_below (2 ^ 32) a.0.1) _ said name.2 in
+    let n = name_of-some a.0.0 name.0 name.1 in
+    let m = number_below-some (2 ^ 32) a.0.1 near.0 near.1 in
+    subst (IsSaid (codes "unseek") rest) {x = Call name.0 (Unseek near.0)} (some_some _ _ near.2) (record {
+      text = after (codes "unseek") rest _ (rejoin 32 rest a.0.0 a.0.1 _ _ (split_joined 32 rest a.0 a.1) n.0 m.0);
+      within = (n.1, m.1);
     })
 
 -- ---- redirect
@@ -498,7 +562,9 @@ word_sound word rest said =
     (by word rest said (codes "redirect") (redirect_of rest) _ (redirect_sound rest said)
     (by word rest said (codes "at") (at_of rest) _ (at_sound rest said)
     (by word rest said (codes "open") (open_of rest) _ (open_sound rest said)
+    (by word rest said (codes "seek") (seek_of rest) _ (seek_sound rest said)
     (by word rest said (codes "cancel") (cancel_of rest) _ (cancel_sound rest said)
+    (by word rest said (codes "unseek") (unseek_of rest) _ (unseek_sound rest said)
     (by word rest said (codes "close") (close_of rest) _ (close_sound rest said)
     (by word rest said (codes "flow") (flow_of rest) _ (flow_sound rest said)
     (by word rest said (codes "queue") (queue_of rest) _ (queue_sound rest said)
@@ -511,7 +577,7 @@ word_sound word rest said =
     (by word rest said (codes "forge") (forge_of rest) _ (forge_sound rest said)
     (by word rest said (codes "translator") (translator_of rest) _ (translator_sound rest said)
     (by word rest said (codes "place") (place_of rest) _ (place_sound rest said)
-    (by word rest said (codes "carry") (carry_of rest) None (carry_sound rest said) (λ h. absurd (cc h))))))))))))))))))))
+    (by word rest said (codes "carry") (carry_of rest) None (carry_sound rest said) (λ h. absurd (cc h))))))))))))))))))))))
 
 pub step_sound : (line : List ℕ) (said : ScriptLine) → step_of line ≡ Some said → IsLineOf line said
 unfolding step_of

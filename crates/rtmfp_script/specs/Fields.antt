@@ -6,6 +6,7 @@ use Rattle.std.specs.Str.{bytes_eq}
 use Rattle.hex.specs.Hex.{decode_pairs}
 use Rattle.hex.specs.declared.error.FromHexError.{FromHexError}
 use Rattle.rtmfp_forms.specs.Address.{AddressParts}
+use Rattle.identity.specs.ServiceNames.{service_name_of}
 use Rattle.translators.specs.declared.rule.Rule.{Rule}
 use Rattle.translators.specs.declared.rule.Rule.TheVariants.{Independent, Dependent}
 use Rattle.rtmfp_script.specs.Grammar.{is_name_byte, IsGiven}
@@ -119,6 +120,10 @@ hexadecimal_of word =
     if is_hyphen word then Some []
     else if nat_le 1 (length word) then digits_of word
     else None
+
+-- the name of a service, in digits
+unfoldable pub service_of : List ℕ → Option (List ℕ)
+service_of word = digits_of word >>= λ name. service_name_of name
 
 -- ---- limits
 

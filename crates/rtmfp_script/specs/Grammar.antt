@@ -4,11 +4,12 @@ use Rattle.std.specs.List.{list_all}
 use Rattle.rtmfp_forms.specs.Address.{AddressParts, IsAddress}
 use Rattle.rtmfp_text.specs.AddressText.{address_text, v4_host_text}
 use Rattle.rtmfp_text.specs.Words.{bytes_text, number_text}
+use Rattle.identity.specs.ServiceNames.{IsServiceName}
 use Rattle.translators.specs.declared.rule.Rule.{Rule}
 use Rattle.translators.specs.declared.rule.Rule.TheVariants.{Independent, Dependent}
 use Rattle.rtmfp_script.specs.declared.line.ScriptLine.{ScriptLine}
 use Rattle.rtmfp_script.specs.declared.line.ScriptLine.TheVariants.{End, At, Call, Towards, Bring, Translator, Place, Carry}
-use Rattle.rtmfp_script.specs.declared.line.CallLine.TheVariants.{Introduce, Cancel, Close, Flow, Queue, Abandon, Finish, Tick}
+use Rattle.rtmfp_script.specs.declared.line.CallLine.TheVariants.{Introduce, Seek, Cancel, Unseek, Close, Flow, Queue, Abandon, Finish, Tick}
 use Rattle.rtmfp_script.specs.declared.line.AimLine.TheVariants.{Redirect, Open}
 use Rattle.rtmfp_script.specs.declared.line.BringLine.TheVariants.{Deliver, Bent, Inject, Forge}
 use Rattle.rtmfp_script.specs.declared.content.Content.{Content}
@@ -62,7 +63,10 @@ line_text (Towards name peer addresses Redirect) = words_text
 line_text (At moment) = words_text (codes "at" ∷ decimal moment ∷ [])
 line_text (Towards name peer candidates Open) = words_text
     (codes "open" ∷ name ∷ peer ∷ map address_text candidates)
+line_text (Call name (Seek service addresses)) = words_text
+    (codes "seek" ∷ name ∷ bytes_text service ∷ map address_text addresses)
 line_text (Call name (Cancel number)) = words_text (codes "cancel" ∷ name ∷ decimal number ∷ [])
+line_text (Call name (Unseek near)) = words_text (codes "unseek" ∷ name ∷ decimal near ∷ [])
 line_text (Call name (Close near)) = words_text (codes "close" ∷ name ∷ decimal near ∷ [])
 line_text (Call name (Flow near priority metadata answers)) = words_text
     (codes "flow" ∷ name ∷ decimal near ∷ decimal priority ∷ bytes_text metadata ∷ word_for answers)
@@ -152,7 +156,10 @@ IsWithin (Towards name peer addresses Redirect) = IsName name × IsName peer × 
 IsWithin (At moment) = moment < 2 ^ 64
 IsWithin (Towards name peer candidates Open) = IsName name × IsName peer × (length candidates ≤ 32) ×
     EachIsPlainAddress candidates
+IsWithin (Call name (Seek service addresses)) = IsName name × IsServiceName service ×
+    (length addresses ≤ 32) × EachIsPlainAddress addresses
 IsWithin (Call name (Cancel number)) = IsName name × (number < 2 ^ 64)
+IsWithin (Call name (Unseek near)) = IsName name × (near < 2 ^ 32)
 IsWithin (Call name (Close near)) = IsName name × (near < 2 ^ 32)
 IsWithin (Call name (Flow near priority metadata answers)) = IsName name × (near < 2 ^ 32) ×
     (priority < 256) × AreBytes metadata × IsBelow (2 ^ 64) answers

@@ -4,13 +4,13 @@ use Rattle.std.specs.Str.{bytes_eq}
 use Rattle.rtmfp_forms.specs.Address.{AddressParts}
 use Rattle.rtmfp_script.specs.declared.line.ScriptLine.{ScriptLine}
 use Rattle.rtmfp_script.specs.declared.line.ScriptLine.TheVariants.{End, At, Call, Towards, Bring, Translator, Place, Carry}
-use Rattle.rtmfp_script.specs.declared.line.CallLine.TheVariants.{Introduce, Cancel, Close, Flow, Queue, Abandon, Finish, Tick}
+use Rattle.rtmfp_script.specs.declared.line.CallLine.TheVariants.{Introduce, Seek, Cancel, Unseek, Close, Flow, Queue, Abandon, Finish, Tick}
 use Rattle.rtmfp_script.specs.declared.line.AimLine.TheVariants.{Redirect, Open}
 use Rattle.rtmfp_script.specs.declared.line.BringLine.TheVariants.{Deliver, Bent, Inject, Forge}
 use Rattle.rtmfp_script.specs.declared.line.Said.{Said}
 use Rattle.rtmfp_script.specs.declared.line.Said.TheVariants.{Nothing, Step, Outside}
 use Rattle.rtmfp_script.specs.Grammar.{IsLineOf, IsSkipped, TakesMemory, line_limit}
-use Rattle.rtmfp_script.specs.Fields.{split_of, name_of, cert_of, number_of, number_below, bytes_of, hexadecimal_of, limit_by, content_of, rule_of, v4_of, address_of, addresses_of, either, ◌>>=◌}
+use Rattle.rtmfp_script.specs.Fields.{split_of, name_of, cert_of, number_of, number_below, bytes_of, hexadecimal_of, service_of, limit_by, content_of, rule_of, v4_of, address_of, addresses_of, either, ◌>>=◌}
 
 -- what stands behind the first word of a line
 unfoldable pub end_of : List ℕ → Option ScriptLine
@@ -54,12 +54,29 @@ open_to name rest = either
 unfoldable pub open_of : List ℕ → Option ScriptLine
 open_of rest = split_of 32 rest >>= λ a. name_of a.0 >>= λ name. open_to name a.1
 
+unfoldable pub seek_for : List ℕ → List ℕ → Option ScriptLine
+seek_for name rest = either
+    (service_of rest >>= λ service. Some (Call name (Seek service [])))
+    (λ parts. service_of parts.0 >>= λ service. addresses_of parts.1 >>= λ addresses. Some
+    (Call name (Seek service addresses)))
+    (split_of 32 rest)
+
+unfoldable pub seek_of : List ℕ → Option ScriptLine
+seek_of rest = split_of 32 rest >>= λ a. name_of a.0 >>= λ name. seek_for name a.1
+
 unfoldable pub cancel_of : List ℕ → Option ScriptLine
 cancel_of rest =
     split_of 32 rest >>= λ a.
     name_of a.0 >>= λ name.
     number_of a.1 >>= λ number.
     Some (Call name (Cancel number))
+
+unfoldable pub unseek_of : List ℕ → Option ScriptLine
+unseek_of rest =
+    split_of 32 rest >>= λ a.
+    name_of a.0 >>= λ name.
+    number_below (2 ^ 32) a.1 >>= λ near.
+    Some (Call name (Unseek near))
 
 unfoldable pub close_of : List ℕ → Option ScriptLine
 close_of rest =
@@ -203,7 +220,9 @@ word_of word rest =
     else if bytes_eq word (codes "redirect") then redirect_of rest
     else if bytes_eq word (codes "at") then at_of rest
     else if bytes_eq word (codes "open") then open_of rest
+    else if bytes_eq word (codes "seek") then seek_of rest
     else if bytes_eq word (codes "cancel") then cancel_of rest
+    else if bytes_eq word (codes "unseek") then unseek_of rest
     else if bytes_eq word (codes "close") then close_of rest
     else if bytes_eq word (codes "flow") then flow_of rest
     else if bytes_eq word (codes "queue") then queue_of rest

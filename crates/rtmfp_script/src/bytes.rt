@@ -1,9 +1,10 @@
 //! Bytes in hexadecimal digits.
 ghost use Rattle.std.specs.Prelude.{◌≡◌, ◌<◌, ◌^◌, length, IfErr, IfOk, IsSome};
 ghost use Rattle.std.specs.List.{list_all};
-ghost use Rattle.rtmfp_script.specs.Fields.{is_lower_digit, digits_of, is_hyphen, bytes_of, hexadecimal_of};
+ghost use Rattle.rtmfp_script.specs.Fields.{is_lower_digit, digits_of, is_hyphen, bytes_of, hexadecimal_of, service_of};
 
 use hex::FromHexError;
+use identity::ServiceName;
 use rtmfp_base::{Memory, Message};
 use std::alloc::Global;
 
@@ -82,6 +83,28 @@ pub(crate) fn thirty_two(word: &[u8]) -> Option<[u8; 32]>
     let mut bytes = [0; 32];
     match hex::decode_to_slice(word, &mut bytes) {
         Ok(()) => Some(bytes),
+        Err(_) => None,
+    }
+}
+
+/// The most bytes of a service's name.
+const MOST_SERVICE_BYTES: usize = 64;
+
+/// The name of a service that a word has in digits.
+#[tactic(auto, unfolding(crate::specs::Fields::service_of, crate::specs::Fields::digits_of))]
+pub(crate) fn service(word: &[u8]) -> Option<ServiceName>
+    ensures { result ≡ service_of word.now }
+{
+    if word.len() > 2 * MOST_SERVICE_BYTES {
+        return None;
+    }
+    if word.len() % 2 != 0 || !all_lower(word) {
+        return None;
+    }
+    let mut room = [0; MOST_SERVICE_BYTES];
+    let (bytes, _) = room.split_at_mut(word.len() / 2);
+    match hex::decode_to_slice(word, bytes) {
+        Ok(()) => ServiceName::read(bytes),
         Err(_) => None,
     }
 }

@@ -2,14 +2,14 @@
 ghost use Rattle.std.specs.Prelude.{◌≡◌, ◌≤◌, ◌<◌, ◌++◌, ◌∷◌, [], length};
 
 use crate::content::Content;
-use identity::Certificate;
+use identity::{Certificate, ServiceName};
 use rtmfp_base::Message;
 use rtmfp_forms::Address;
 use rtmfp_text::Name;
 use std::marker::Model;
 use translators::Rule;
 
-/// The most addresses of an `open` (own).
+/// The most addresses of an `open` and of a `seek` (own).
 pub(crate) const MOST_CANDIDATES: usize = 32;
 
 /// At most 32 addresses, in the order of the line.
@@ -65,10 +65,22 @@ impl Candidates {
 pub enum CallLine {
     /// `introduce NAME`: it introduces others to each other from now on.
     Introduce,
+    /// `seek NAME HEX ADDR ...`: it searches for an end of this service.
+    Seek {
+        /// The service's name.
+        service: ServiceName,
+        /// Where such an end may be.
+        addresses: Candidates,
+    },
     /// `cancel NAME N`: it gives an attempt up.
     Cancel {
         /// The number of the attempt.
         number: u64,
+    },
+    /// `unseek NAME ID`: it gives a search up.
+    Unseek {
+        /// The search's ID at this end.
+        near: u32,
     },
     /// `close NAME ID`: it closes a session.
     Close {

@@ -9,6 +9,7 @@ use crate::fields::{cert, name, number, number32, split};
 use crate::flows::{read_abandon, read_finish, read_flow, read_queue};
 use crate::line::{AimLine, BringLine, CallLine, Candidates, Said, ScriptLine};
 use crate::placing::{read_carry, read_place, read_translator};
+use crate::seeking::{read_seek, read_unseek};
 use rtmfp_base::limits::{CANDIDATES, LINE, PLAIN, TAKEN};
 use rtmfp_base::{Memory, Message};
 use rtmfp_forms::Address;
@@ -250,8 +251,14 @@ fn read_word(alloc: Global, word: &[u8], rest: &[u8]) -> Result<Option<ScriptLin
     if word == b"open".as_slice() {
         return Ok(read_open(rest));
     }
+    if word == b"seek".as_slice() {
+        return Ok(read_seek(rest));
+    }
     if word == b"cancel".as_slice() {
         return Ok(read_cancel(rest));
+    }
+    if word == b"unseek".as_slice() {
+        return Ok(read_unseek(rest));
     }
     if word == b"close".as_slice() {
         return Ok(read_close(rest));

@@ -1,10 +1,11 @@
 //! Values that stand in other texts, too.
 ghost use Rattle.std.specs.Prelude.{◌≡◌, length, Some, None, MatchOption, IfOk, IfErr, IsSome};
-ghost use Rattle.rtmfp_script.specs.Fields.{address_of, digits_of, split_of};
+ghost use Rattle.rtmfp_script.specs.Fields.{address_of, digits_of, service_of, split_of};
 
 use crate::address::address;
-use crate::bytes::{digits, sixteen, thirty_two};
+use crate::bytes::{digits, service, sixteen, thirty_two};
 use crate::fields::split;
+use identity::ServiceName;
 use rtmfp_base::{Memory, Message};
 use rtmfp_forms::Address;
 use std::alloc::Global;
@@ -30,6 +31,13 @@ pub fn read_thirty_two(word: &[u8]) -> Option<[u8; 32]>
     ensures { result ≡ digits_of word.now }
 {
     thirty_two(word)
+}
+
+/// The name of a service, 1 to 64 ASCII bytes, in lower-case digits.
+pub fn read_service(word: &[u8]) -> Option<ServiceName>
+    ensures { result ≡ service_of word.now }
+{
+    service(word)
 }
 
 /// The bytes of an even number of lower-case digits.

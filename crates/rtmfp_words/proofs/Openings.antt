@@ -1,6 +1,6 @@
 -- The plain words of `serve`: what is read is said, and what is said is read.
 use Rattle.std.proofs.Common.{◌≡◌, ◌≢◌, ℕ, ◌*◌, ◌<◌, ◌≤◌, ◌==◌, Bool, true, List, [], ◌∷◌, ◌++◌, length, map, Option, Some, None, refl, sym, ap, ◌∙◌, subst, arith, append_assoc, append-nil, inl, inr}
-use Rattle.std.specs.Prelude.{◌&&◌, nat_le, nat_lt, if◌then◌else◌}
+use Rattle.std.specs.Prelude.{◌&&◌, codes, nat_le, nat_lt, if◌then◌else◌}
 use Rattle.std.specs.Option.{option_map}
 use Rattle.std.specs.List.{list_all}
 use Rattle.std.proofs.lemmas.Bool.{and_parts, and_from, le-leb, eq-eqb, eqb-true}
@@ -8,15 +8,21 @@ use Rattle.std.proofs.lemmas.Bool.Decides.{nat_tests}
 use Rattle.hex.specs.Hex.{encode_lower}
 use Rattle.rtmfp_forms.specs.Address.{AddressParts}
 use Rattle.rtmfp_text.specs.AddressText.{address_text}
+use Rattle.rtmfp_text.specs.Words.{bytes_text}
+use Rattle.identity.specs.ServiceNames.{IsServiceName}
 use Rattle.rtmfp_script.specs.Grammar.{IsPlainAddress}
-use Rattle.rtmfp_script.specs.Fields.{◌>>=◌, digits_of, split_of, address_of, is_lower_digit}
+use Rattle.rtmfp_script.specs.Fields.{◌>>=◌, digits_of, service_of, split_of, address_of, is_lower_digit}
 use Rattle.rtmfp_script.proofs.Splits.{some_some, bind_some, only_if-some, each_is, each_passes, Lacks, split_text, split_joined}
 use Rattle.rtmfp_script.proofs.Digits.{digits_of-some, digits_of-encoded, length-encoded, lower_encoded}
 use Rattle.rtmfp_script.proofs.Addresses.{address_of-some, address_of-text}
-use Rattle.rtmfp_words.specs.Node.{AreBytes, IsNodeName, IsOpening, EachIsOpening, IsInstance, IsMessage, IsSent, opening_text}
-use Rattle.rtmfp_words.specs.NodeReading.{of_digits, is_node_name, node_name_of, opening_of, openings_from, Places, places_of, instance_of, message_of, send_of}
+use Rattle.rtmfp_script.proofs.Services.{ascii_bytes, service_of-some, service_of-text}
+use Rattle.rtmfp_words.specs.Node.{AreBytes, IsNodeName, IsWhom, IsOpening, EachIsOpening, IsInstance, IsMessage, IsSent, opening_text, whom_text}
+use Rattle.rtmfp_words.specs.NodeReading.{of_digits, is_node_name, node_name_of, whom_of, opening_of, openings_from, Places, places_of, instance_of, message_of, send_of}
 use Rattle.rtmfp_words.specs.declared.opening_words.OpeningWords.{OpeningWords}
-use Rattle.rtmfp_words.proofs.Texts.{if-some}
+use Rattle.rtmfp_words.specs.declared.opening_words.Whom.{Whom}
+use Rattle.rtmfp_words.specs.declared.opening_words.Whom.TheVariants.{Print, Name}
+use Rattle.rtmfp_words.specs.Reading.{behind_of}
+use Rattle.rtmfp_words.proofs.Texts.{if-some, either-some, behind-some, behind-gives, behind-none}
 
 -- ---- bytes in digits
 
@@ -66,6 +72,67 @@ not_at x h e = let at : is_lower_digit 64 ≡ true = ap is_lower_digit (sym e) �
 lacks_digits : (bytes : List ℕ) → list_all (λ b. nat_lt b 256) bytes ≡ true → Lacks 64 (encode_lower bytes)
 lacks_digits bytes each = each_is (λ x. is_lower_digit x ≡ true) (λ x. x ≢ 64) not_at (encode_lower bytes) (each_passes is_lower_digit (encode_lower bytes) (lower_encoded bytes each))
 
+-- ---- whom they call
+
+record Names (word : List ℕ) (whom : Whom) : Type 0 where
+  text : word ≡ whom_text whom
+  good : IsWhom whom
+
+named : (word : List ℕ) (target : Whom) (digits : List ℕ) → behind_of (codes "n:") word ≡ Some digits → (service_of digits >>= λ name. Some (Name name)) ≡ Some target → Names word target
+named word target digits front h =
+    let name = bind_some (service_of digits) (λ name. Some (Name name)) target h in
+    let s = service_of-some digits name.0 name.1 in
+    subst (λ (t : Whom). Names word t) (some_some (Name name.0) target name.2) (record {
+      text = behind-some (codes "n:") word digits front ∙ ap (λ (xs : List ℕ). codes "n:" ++ xs) s.0;
+      good = s.1;
+    })
+
+printed : (word : List ℕ) (target : Whom) → (of_digits 64 word >>= λ print. Some (Print print)) ≡ Some target → Names word target
+printed word target h =
+    let print = bind_some (of_digits 64 word) (λ print. Some (Print print)) target h in
+    let d = of_digits-some 32 word print.0 print.1 in
+    subst (λ (t : Whom). Names word t) (some_some (Print print.0) target print.2) (record { text = d.0; good = d.1 })
+
+whom_of-some : (word : List ℕ) (target : Whom) → whom_of word ≡ Some target → Names word target
+unfolding whom_of
+whom_of-some word target h =
+    elim (either-some (of_digits 64 word >>= λ print. Some (Print print)) (λ digits. service_of digits >>= λ name. Some (Name name)) (behind_of (codes "n:") word) target h) [
+      | inl behind ↦ named word target behind.0 behind.1 behind.2
+      | inr none ↦ printed word target none
+    ]
+
+-- no digits begin with `n`
+not_n : (x : ℕ) → is_lower_digit x ≡ true → x ≢ 110
+not_n x h e = let letter : is_lower_digit 110 ≡ true = ap is_lower_digit (sym e) ∙ h in cc letter
+
+digits_lack_n : (bytes : List ℕ) → list_all (λ b. nat_lt b 256) bytes ≡ true → Lacks 110 (encode_lower bytes)
+digits_lack_n bytes each = each_is (λ x. is_lower_digit x ≡ true) (λ x. x ≢ 110) not_n (encode_lower bytes) (each_passes is_lower_digit (encode_lower bytes) (lower_encoded bytes each))
+
+no_front : (word rest : List ℕ) → Lacks 110 word → word ≡ codes "n:" ++ rest → ⊥
+no_front word rest lacks e = let there : Lacks 110 (codes "n:" ++ rest) = subst (λ (xs : List ℕ). Lacks 110 xs) e lacks in there.0 refl
+
+whom_of-text : (target : Whom) → IsWhom target → whom_of (whom_text target) ≡ Some target
+unfolding whom_of
+whom_of-text (Print print) is =
+    let none : behind_of (codes "n:") (encode_lower print) ≡ None =
+    behind-none (codes "n:") (encode_lower print) (behind_of (codes "n:") (encode_lower print)) refl (λ rest e. no_front (encode_lower print) rest (digits_lack_n print is.each) e) in
+    rw (none, of_digits-text 32 print is) refl
+whom_of-text (Name name) is = rw (behind-gives (codes "n:") (bytes_text name), service_of-text name is) refl
+
+not_n_at : ◌≢◌ {A = ℕ} 110 64
+not_n_at e = omega (arith, e)
+
+not_colon_at : ◌≢◌ {A = ℕ} 58 64
+not_colon_at e = omega (arith, e)
+
+lacks_name : (name : List ℕ) → IsServiceName name → Lacks 64 (bytes_text name)
+lacks_name [] is = let some : 1 ≤ length {A = ℕ} [] = is.some in absurd (omega (arith, some))
+lacks_name (b ∷ name) is = lacks_digits (b ∷ name) (ascii_bytes (b ∷ name) is.ascii)
+
+lacks_whom : (target : Whom) → IsWhom target → Lacks 64 (whom_text target)
+lacks_whom (Print print) is = lacks_digits print is.each
+lacks_whom (Name name) is = (not_n_at, (not_colon_at, lacks_name name is))
+
 record Opens (word : List ℕ) (opening : OpeningWords) : Type 0 where
   text : word ≡ opening_text opening
   good : IsOpening opening
@@ -73,22 +140,22 @@ record Opens (word : List ℕ) (opening : OpeningWords) : Type 0 where
 opening_of-some : (word : List ℕ) (opening : OpeningWords) → opening_of word ≡ Some opening → Opens word opening
 unfolding opening_of
 opening_of-some word opening h =
-    let p = bind_some (split_of 64 word) (λ p. of_digits 64 p.0 >>= λ print. address_of p.1 >>= λ at. Some (record { print = print; at = at })) opening h in
-    let b = bind_some (of_digits 64 p.0.0) (λ print. address_of p.0.1 >>= λ at. Some (record { print = print; at = at })) opening p.2 in
-    let a = bind_some (address_of p.0.1) (λ at. Some (record { print = b.0; at = at })) opening b.2 in
-    let print = of_digits-some 32 p.0.0 b.0 b.1 in
+    let p = bind_some (split_of 64 word) (λ p. whom_of p.0 >>= λ target. address_of p.1 >>= λ at. Some (record { whom = target; at = at })) opening h in
+    let t = bind_some (whom_of p.0.0) (λ target. address_of p.0.1 >>= λ at. Some (record { whom = target; at = at })) opening p.2 in
+    let a = bind_some (address_of p.0.1) (λ at. Some (record { whom = t.0; at = at })) opening t.2 in
+    let whom = whom_of-some p.0.0 t.0 t.1 in
     let at = address_of-some p.0.1 a.0 a.1 in
-    subst (λ (o : OpeningWords). Opens word o) (some_some (record { print = b.0; at = a.0 }) opening a.2) (record {
-      text = split_joined 64 word p.0 p.1 ∙ ap (λ (xs : List ℕ). xs ++ 64 ∷ p.0.1) print.0 ∙ ap (λ (xs : List ℕ). encode_lower b.0 ++ 64 ∷ xs) at.0;
-      good = record { print = print.1; at = at.1 };
+    subst (λ (o : OpeningWords). Opens word o) (some_some (record { whom = t.0; at = a.0 }) opening a.2) (record {
+      text = split_joined 64 word p.0 p.1 ∙ ap (λ (xs : List ℕ). xs ++ 64 ∷ p.0.1) whom.text ∙ ap (λ (xs : List ℕ). whom_text t.0 ++ 64 ∷ xs) at.0;
+      good = record { whom = whom.good; at = at.1 };
     })
 
 opening_of-text : (opening : OpeningWords) → IsOpening opening → opening_of (opening_text opening) ≡ Some opening
 unfolding opening_of
 opening_of-text opening is =
-    ap (λ (o : Option (List ℕ × List ℕ)). o >>= λ p. of_digits 64 p.0 >>= λ print. address_of p.1 >>= λ at. Some (record { print = print; at = at })) (split_text 64 (encode_lower opening.print) (address_text opening.at) (lacks_digits opening.print is.print.each))
-    ∙ ap (λ (o : Option (List ℕ)). o >>= λ print. address_of (address_text opening.at) >>= λ at. Some (record { print = print; at = at })) (of_digits-text 32 opening.print is.print)
-    ∙ ap (λ (o : Option AddressParts). o >>= λ at. Some (record { print = opening.print; at = at })) (address_of-text opening.at is.at)
+    ap (λ (o : Option (List ℕ × List ℕ)). o >>= λ p. whom_of p.0 >>= λ target. address_of p.1 >>= λ at. Some (record { whom = target; at = at })) (split_text 64 (whom_text opening.whom) (address_text opening.at) (lacks_whom opening.whom is.whom))
+    ∙ ap (λ (o : Option Whom). o >>= λ target. address_of (address_text opening.at) >>= λ at. Some (record { whom = target; at = at })) (whom_of-text opening.whom is.whom)
+    ∙ ap (λ (o : Option AddressParts). o >>= λ at. Some (record { whom = opening.whom; at = at })) (address_of-text opening.at is.at)
 
 -- one more, in front
 pub opening_goes : (done : List OpeningWords) (word : List ℕ) (words : List (List ℕ)) (opening : OpeningWords) → opening_of word ≡ Some opening → openings_from done (word ∷ words) ≡ openings_from (done ++ opening ∷ []) words

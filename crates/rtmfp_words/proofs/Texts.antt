@@ -61,12 +61,12 @@ behind-some (x ∷ front) (y ∷ word) rest h = elim (if-some (y == x) (behind_o
   | inr other ↦ absurd (let none : None ≡ Some rest = other.1 in cc)
 ]
 
-behind-gives : (front rest : List ℕ) → behind_of front (front ++ rest) ≡ Some rest
+pub behind-gives : (front rest : List ℕ) → behind_of front (front ++ rest) ≡ Some rest
 unfolding behind_of
 behind-gives [] rest = refl
 behind-gives (x ∷ front) rest = let e : (x == x) ≡ true = eq-eqb x x refl in rw (e, behind-gives front rest) refl
 
-behind-none : (front word : List ℕ) (o : Option (List ℕ)) → behind_of front word ≡ o → ((rest : List ℕ) → word ≢ front ++ rest) → o ≡ None
+pub behind-none : (front word : List ℕ) (o : Option (List ℕ)) → behind_of front word ≡ o → ((rest : List ℕ) → word ≢ front ++ rest) → o ≡ None
 behind-none front word None is without = refl
 behind-none front word (Some rest) is without = absurd (without rest (behind-some front word rest is))
 

@@ -5,10 +5,14 @@ use Rattle.std.specs.List.{list_all}
 use Rattle.std.specs.declared.alloc.Global.{Global}
 use Rattle.hex.specs.Hex.{encode_lower}
 use Rattle.rtmfp_forms.specs.Address.{AddressParts}
+use Rattle.identity.specs.ServiceNames.{IsServiceName}
 use Rattle.rtmfp_text.specs.AddressText.{address_text}
+use Rattle.rtmfp_text.specs.Words.{bytes_text}
 use Rattle.rtmfp_script.specs.Grammar.{IsPlainAddress}
 use Rattle.rtmfp_words.specs.Items.{Scanned, Scans, empty}
 use Rattle.rtmfp_words.specs.declared.opening_words.OpeningWords.{OpeningWords}
+use Rattle.rtmfp_words.specs.declared.opening_words.Whom.{Whom}
+use Rattle.rtmfp_words.specs.declared.opening_words.Whom.TheVariants.{Print, Name}
 
 -- the command, and behind it items that have these plain words and options
 pub record Commands (command : List ℕ) (words : List (String Global)) (s : Scanned) : Type 0 where
@@ -52,9 +56,14 @@ pub record Serving : Type 0 where
   pub introduce : Bool
   pub send : Option (List ℕ)
 
--- an opening is the digits of a fingerprint, `@`, and an address
+-- an end is named by the digits of its fingerprint, and a service by `n:` and those of its name
+abbrev pub whom_text : Whom → List ℕ
+whom_text (Print print) = encode_lower print
+whom_text (Name name) = codes "n:" ++ bytes_text name
+
+-- an opening is whom it calls, `@`, and an address
 abbrev pub opening_text : OpeningWords → List ℕ
-opening_text opening = encode_lower opening.print ++ 64 ∷ address_text opening.at
+opening_text opening = whom_text opening.whom ++ 64 ∷ address_text opening.at
 
 abbrev pub serve_items : Serving → Scanned
 serve_items v = record {
@@ -76,8 +85,12 @@ pub record IsNodeName (name : List ℕ) : Type 0 where
   pub most : length name ≤ 64
   pub ascii : list_all (λ b. nat_lt b 128) name ≡ true
 
+abbrev pub IsWhom : Whom → Type 0
+IsWhom (Print print) = AreBytes 32 print
+IsWhom (Name name) = IsServiceName name
+
 pub record IsOpening (opening : OpeningWords) : Type 0 where
-  pub print : AreBytes 32 opening.print
+  pub whom : IsWhom opening.whom
   pub at : IsPlainAddress opening.at
 
 abbrev pub EachIsOpening : List OpeningWords → Type 0

@@ -2,14 +2,16 @@
 use Rattle.std.specs.Prelude.{ℕ, ◌==◌, ◌&&◌, nat_le, nat_lt, Bool, not, if◌then◌else◌, List, [], ◌∷◌, ◌++◌, length, codes, Option, Some, None, is_none}
 use Rattle.std.specs.Str.{bytes_eq}
 use Rattle.std.specs.List.{list_all}
-use Rattle.rtmfp_script.specs.Fields.{◌>>=◌, only_if, number_of, digits_of, split_of, address_of}
-use Rattle.rtmfp_words.specs.Reading.{head_of, is_empty}
+use Rattle.rtmfp_script.specs.Fields.{◌>>=◌, either, only_if, number_of, digits_of, service_of, split_of, address_of}
+use Rattle.rtmfp_words.specs.Reading.{head_of, is_empty, behind_of}
 use Rattle.rtmfp_words.specs.Items.{Scanned}
 use Rattle.rtmfp_words.specs.ItemReading.{scan_of}
 use Rattle.rtmfp_forms.specs.Address.{AddressParts}
 use Rattle.rtmfp_words.specs.Node.{Serving}
 use Rattle.rtmfp_words.specs.declared.meet_words.MeetWords.{MeetWords}
 use Rattle.rtmfp_words.specs.declared.opening_words.OpeningWords.{OpeningWords}
+use Rattle.rtmfp_words.specs.declared.opening_words.Whom.{Whom}
+use Rattle.rtmfp_words.specs.declared.opening_words.Whom.TheVariants.{Print, Name}
 
 -- the items behind this command
 unfoldable pub scan_behind : List ℕ → List (List ℕ) → Option Scanned
@@ -59,9 +61,16 @@ is_node_name word = nat_le 1 (length word) && (nat_le (length word) 64 && list_a
 unfoldable pub node_name_of : List ℕ → Option (List ℕ)
 node_name_of word = only_if (is_node_name word) word
 
+-- whom a word names: a service behind `n:`, else an end
+unfoldable pub whom_of : List ℕ → Option Whom
+whom_of word = either
+    (of_digits 64 word >>= λ print. Some (Print print))
+    (λ digits. service_of digits >>= λ name. Some (Name name))
+    (behind_of (codes "n:") word)
+
 unfoldable pub opening_of : List ℕ → Option OpeningWords
-opening_of word = split_of 64 word >>= λ p. of_digits 64 p.0 >>= λ print. address_of p.1 >>= λ at.
-    Some (record { print = print; at = at })
+opening_of word = split_of 64 word >>= λ p. whom_of p.0 >>= λ whom. address_of p.1 >>= λ at.
+    Some (record { whom = whom; at = at })
 
 -- the openings of further words behind those that were read
 unfoldable pub openings_from : List OpeningWords → List (List ℕ) → Option (List OpeningWords)

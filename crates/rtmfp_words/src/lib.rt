@@ -16,5 +16,5 @@ pub use command::{Command, read_command};
 pub use command_line::{CommandLine, read_command_line};
 pub use fault::WordsFault;
 pub use meet_words::{MeetWords, read_meet_words};
-pub use opening_words::OpeningWords;
+pub use opening_words::{OpeningWords, Whom};
 pub use serve_words::{ServeWords, read_serve_words};

@@ -79,8 +79,8 @@ impl Model for PlaceWords {
 /// They are `serve BIND GROUP NAME` and openings, with options between them: `--turns N`, which is
 /// needed, and where wanted `--instance` with 32 digits, `--introduce` and `--send HEX`, each once
 /// at most. BIND is an address, GROUP is 64 digits, NAME is 1 to 64 ASCII bytes, an opening is 64
-/// digits, `@` and an address, N is 1 to 1,000,000, and HEX is 1 to 1,000 bytes. All digits are
-/// lower-case.
+/// digits, or `n:` and the digits of 1 to 64 ASCII bytes, then `@` and an address, N is 1 to
+/// 1,000,000, and HEX is 1 to 1,000 bytes. All digits are lower-case.
 pub fn read_serve_words(alloc: Global, words: &[String]) -> Result<ServeWords, WordsFault>
     // What is read is said.
     ensures reads { IfOk result (λ v. IsServe words.now v) }

@@ -5,7 +5,7 @@ use crate::carrying::{Path, handed_over};
 use crypto_profile::{Context, Keys, open_in_place, seal_in_place};
 use endpoint::{CallRefusal, Config, Draws, Endpoint, Entry, MessageOptions, Outbox};
 use glare_core::Fact;
-use identity::{CertFault, Certificate, Epd};
+use identity::{CertFault, Certificate, Epd, ServiceName};
 use packet_scramble::scramble;
 use rtmfp_forms::Address;
 use std::alloc::{AllocError, Global};
@@ -119,6 +119,8 @@ fn entry_text(alloc: Global, entry: &Entry) -> Result<String, AllocError> {
         Entry::Fact(fact) => fact_text(alloc, fact),
         Entry::Closed { near } => format!(in alloc; "closed {near}; "),
         Entry::Moved { near, to } => format!(in alloc; "moved {near} {}; ", to.host[3]),
+        Entry::Sought { near, .. } => format!(in alloc; "sought {near}; "),
+        Entry::Unsought { near, why } => format!(in alloc; "unsought {near} {why:?}; "),
         Entry::Discard { place, cause } => format!(in alloc; "drop {place} {cause:?}; "),
         Entry::Out { datagram, .. } => format!(in alloc; "out {}; ", datagram.len()),
         other => carried_text(alloc, other),
@@ -335,6 +337,26 @@ fn opens(alloc: Global, end: &mut Endpoint, row: &str) -> Result<Added, Fail> {
     }
 }
 
+/// Searches for a name at so many addresses, 2 at most, which are the same place.
+fn seeks(alloc: Global, end: &mut Endpoint, row: &str) -> Result<Added, Fail> {
+    let mut out = outbox(alloc)?;
+    let name = bytes(alloc, row, 2)?;
+    let name = ServiceName::read(name.as_slice()).ok_or("a name")?;
+    let both = [address(2), address(2)];
+    let candidates = both.get(..number(row, 3) as usize).unwrap_or(&[]);
+    let moment = u64::from(number(row, 5));
+    match end.seek(&name, candidates, moment, &draws(number(row, 4)), &mut out) {
+        Ok(_) => all_of(alloc, &out),
+        Err(refusal) => says(alloc, format!(in alloc; "{refusal:?}")),
+    }
+}
+
+fn unseeks(alloc: Global, end: &mut Endpoint, near: u32) -> Result<Added, Fail> {
+    let mut out = outbox(alloc)?;
+    let result = end.unseek(near, &mut out);
+    called(alloc, &out, result)
+}
+
 fn ticks(alloc: Global, end: &mut Endpoint, moment: u64) -> Result<Added, Fail> {
     let mut out = outbox(alloc)?;
     match end.tick(moment, &draws(4), &mut out) {
@@ -479,6 +501,8 @@ fn acts(alloc: Global, end: &mut Endpoint, row: &str) -> Result<Added, Fail> {
     let value = number(row, 2);
     match word(row, 0) {
         "open" => opens(alloc, end, row),
+        "seek" => seeks(alloc, end, row),
+        "unseek" => unseeks(alloc, end, value),
         "tick" => ticks(alloc, end, u64::from(value)),
         "cancel" => cancels(alloc, end, u64::from(value)),
         "close" => closes(alloc, end, value, u64::from(number(row, 3))),

@@ -1,7 +1,9 @@
 //! A call of an end, which may be made again.
 
-use endpoint::{CallRefusal, Draws, Endpoint, MessageOptions, OpenRefusal, Outbox, RowRefusal};
-use identity::Epd;
+use endpoint::{
+    CallRefusal, Draws, Endpoint, MessageOptions, OpenRefusal, Outbox, RowRefusal, SeekRefusal,
+};
+use identity::{Epd, ServiceName};
 use rtmfp_base::Message;
 use rtmfp_forms::Address;
 use rtmfp_script::{AimLine, CallLine, Candidates};
@@ -74,6 +76,24 @@ fn opens(
         Err(OpenRefusal::Memory) => Called::Wanting,
         _ => Called::Done,
     }
+}
+
+fn seeks(
+    end: &mut Endpoint,
+    name: &ServiceName,
+    candidates: &[Address],
+    moment: u64,
+    draws: &Draws,
+    out: &mut Outbox,
+) -> Called {
+    match end.seek(name, candidates, moment, draws, out) {
+        Err(SeekRefusal::Memory) => Called::Wanting,
+        _ => Called::Done,
+    }
+}
+
+fn unseeks(end: &mut Endpoint, near: u32, out: &mut Outbox) -> Called {
+    of_call(end.unseek(near, out))
 }
 
 fn adds_row(end: &mut Endpoint, peer: [u8; 32], addresses: &[Address]) -> Called {
@@ -150,12 +170,22 @@ fn ticks(end: &mut Endpoint, moment: u64, draws: &Draws, out: &mut Outbox) -> Ca
 }
 
 /// Does a step of one end.
-fn calls(end: &mut Endpoint, call: &CallLine, moment: u64, out: &mut Outbox) -> Called {
+fn calls(
+    end: &mut Endpoint,
+    call: &CallLine,
+    moment: u64,
+    draws: &Draws,
+    out: &mut Outbox,
+) -> Called {
     match call {
         CallLine::Introduce => {
             end.introduce();
             Called::Done
         }
+        CallLine::Seek { service, addresses } => {
+            seeks(end, service, addresses.as_slice(), moment, draws, out)
+        }
+        CallLine::Unseek { near } => unseeks(end, *near, out),
         CallLine::Cancel { number } => cancels(end, *number, out),
         CallLine::Close { near } => closes(end, *near, moment, out),
         CallLine::Flow {
@@ -195,7 +225,7 @@ pub(crate) fn do_deed(
     out: &mut Outbox,
 ) -> Called {
     match deed {
-        Deed::Call { call } => calls(end, call, moment, out),
+        Deed::Call { call } => calls(end, call, moment, draws, out),
         Deed::Aim {
             aim,
             peer,

@@ -10,6 +10,8 @@ use std::alloc::Global;
 #[derive(Clone, Copy, Debug)]
 pub enum Kind {
     Open,
+    /// A search for the end's name, which is begun.
+    Seek,
     /// The answer to a hello, with a cookie.
     Hello,
     /// One with a tag without bytes.
@@ -20,6 +22,8 @@ pub enum Kind {
     Unknown,
     Tick,
     Cancel,
+    /// A search that is given up.
+    Unseek,
     /// A keying that bears a session.
     Birth,
     /// The first ping in a session.
@@ -40,7 +44,7 @@ pub enum Kind {
     SendAll,
     /// A tick at which all that was sent is lost by time, and is sent again.
     LoseAll,
-    /// A tick at which all attempts expire.
+    /// A tick at which all attempts, or all searches, expire.
     ExpireAll,
     /// A tick at which all half-open sessions end.
     EndAll,

@@ -3,7 +3,7 @@
 use crate::timing::calls::{Call, Kind, cert_of, draws, place_of, word_of};
 use crate::timing::datagrams::{COOKIE_SECRET, GROUP};
 use endpoint::{Config, Endpoint, Entry, MessageOptions, Outbox};
-use identity::Certificate;
+use identity::{Certificate, ServiceName};
 use std::alloc::Global;
 use std::time::CpuClock;
 
@@ -70,6 +70,7 @@ impl Side {
         self.out.clear();
         match call.kind {
             Kind::Open => self.open(call),
+            Kind::Seek => self.seek(call.number),
             Kind::Tick | Kind::SendAll => self.tick(MOMENT),
             Kind::LoseAll => self.tick(LOST),
             Kind::EndAll => self.tick(UNCONFIRMED),
@@ -81,6 +82,7 @@ impl Side {
                 self.tick(MOMENT)
             }
             Kind::Cancel => self.cancel(call.number),
+            Kind::Unseek => self.unseek(call.number),
             Kind::Close => self.close(call.number),
             _ => self.take(call.number, call.datagram.as_mut_slice()),
         }
@@ -90,6 +92,21 @@ impl Side {
         let at = [place_of(call.number)];
         let drawn = draws(call.number);
         let _ = self.end.open(&call.epd, &at, MOMENT, &drawn, &mut self.out);
+    }
+
+    fn seek(&mut self, number: u32) {
+        let cert = cert_of(number);
+        let (_, name) = cert.split_at(16);
+        let Some(name) = ServiceName::read(name) else {
+            return;
+        };
+        let at = [place_of(number)];
+        let drawn = draws(number);
+        let _ = self.end.seek(&name, &at, MOMENT, &drawn, &mut self.out);
+    }
+
+    fn unseek(&mut self, number: u32) {
+        let _ = self.end.unseek(word_of(number), &mut self.out);
     }
 
     fn tick(&mut self, moment: u64) {

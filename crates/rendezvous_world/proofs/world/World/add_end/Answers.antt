@@ -1,4 +1,6 @@
-use Rattle.std.proofs.Common.{◌≡◌, ◌||◌, ℕ, List, map, length, nat_le, false, refl, sym, ap, ◌∙◌, subst}
+use Rattle.std.proofs.Common.{◌≡◌, ◌||◌, ℕ, List, map, length, nat_le, Bool, true, false, Result, Ok, Err, OnOk, refl, sym, ap, ◌∙◌, subst, arith}
+use Rattle.std.specs.Prelude.{is_err}
+use Rattle.std.specs.declared.alloc.AllocError.{AllocError}
 use Rattle.std.specs.List.{list_any}
 use Rattle.std.proofs.lemmas.Bool.{or_parts}
 use Rattle.rtmfp_text.specs.declared.names.Named.{Named}
@@ -62,3 +64,12 @@ returns c =
     (done_done c.args.self.now c.args.line (End c.args.name.now c.args.max_peers c.args.max_sessions c.args.cert.now) _ left
     (seen_end i.moment i.ends.items i.journal c.again-2.result c.args.name.now c.certified_print-print.result c.args.cert.now c.args.max_peers c.args.max_sessions c.new.result c.again-2.ensures c.certified_print-print.ensures.print c.new.ensures.state
     ∙ ap (λ (w : Seen). with_end w (new_end c.args.name.now (new_setup c.args.max_peers c.args.max_sessions c.args.cert.now))) c.self.view_is))
+
+-- what holds where there was no want of memory holds
+where_fine : (P : Type 0) (r : Result (Unit {0}) AllocError) (b : Bool) → b ≡ is_err r → b ≡ false → OnOk r P → P
+where_fine P (Ok x) b is fine ok = ok
+where_fine P (Err e) b is fine ok = absurd (let clash : true ≡ false = sym is ∙ fine in cc)
+
+pub put-requires : goal.put-requires
+put-requires c =
+    let room = where_fine _ c.reserve.result c.is_err.result c.is_err.ensures.value c.if-is_err.false c.reserve.ensures.ok in omega (arith, room)

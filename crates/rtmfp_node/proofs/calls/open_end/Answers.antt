@@ -5,7 +5,7 @@ use Rattle.rtmfp_node.specs.Events.{event_of}
 use Rattle.rtmfp_node.specs.Report.{refused_text}
 use Rattle.rtmfp_node.specs.Acting.{added}
 use Rattle.rtmfp_node.proofs.Acts.{added_by, did_call, grown_from, noted_from, settled}
-use Rattle.rtmfp_node.proofs.calls.open.Goals as goal
+use Rattle.rtmfp_node.proofs.calls.open_end.Goals as goal
 
 pub note-requires : goal.note-requires
 note-requires c =
@@ -19,7 +19,7 @@ returns c =
     let after = c.open-answer.new.out.entries in
     let answer = answer_of_open c.open-answer.result in
     let noted = noted_from 0 _ before after c.args.notes.now c.note.new.notes [] (ap length c.entries-before.ensures.entries) c.in_ok-note.ensures in
-    let call = Open c.args.opening.now.print _ c.args.draws.now in record {
+    let call = Open c.args.print.now _ c.args.draws.now in record {
       event = event_of c.args.moment call answer (added before after);
       opened = (answer, added before after, c.in_ok-settle_open.ensures.settled, refl);
       acts =
