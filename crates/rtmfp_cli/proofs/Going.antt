@@ -172,7 +172,7 @@ runs_from : (m n : ℕ) (doing left : Doing) (lines : List (List ℕ)) (text : L
 runs_from m n doing left lines text e ran = let P : ℕ → Type 0 = λ k. Runs k doing lines left text in subst P e ran
 
 -- lines, and then more
-runs_append : (n m : ℕ) (first doing left : Doing) (lines more : List (List ℕ)) (text later : List ℕ) → m ≡ n + length lines → Runs n first lines doing text → Runs m doing more left later → Runs n first (lines ++ more) left (text ++ later)
+pub runs_append : (n m : ℕ) (first doing left : Doing) (lines more : List (List ℕ)) (text later : List ℕ) → m ≡ n + length lines → Runs n first lines doing text → Runs m doing more left later → Runs n first (lines ++ more) left (text ++ later)
 runs_append n m first doing left [] more text later e ran then =
     let P : List ℕ → Type 0 = λ xs. Runs n first more left (xs ++ later) in
     let Q : Doing → Type 0 = λ d. Runs n d more left later in

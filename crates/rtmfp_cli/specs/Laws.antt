@@ -1,5 +1,5 @@
 -- What holds of all runs over lines, and their limits a second time.
-use Rattle.std.specs.Prelude.{◌≡◌, ◌⊎◌, ℕ, ◌+◌, ◌-◌, ◌<◌, ◌≤◌, true, false, List, [], ◌∷◌, ◌++◌, length, take, Option, Some}
+use Rattle.std.specs.Prelude.{◌≡◌, ◌⊎◌, ℕ, ◌+◌, ◌-◌, ◌<◌, ◌≤◌, true, false, List, [], ◌∷◌, ◌++◌, length, take, Contains, Option, Some}
 use Rattle.rtmfp_data_chunks.specs.HandsOver.{HandsOver, HandsOnce}
 use Rattle.flow_history.specs.Deeds.{Name}
 use Rattle.flow_history.specs.Log.{queued_of, abandoned_of, handed_of}
@@ -27,6 +27,7 @@ use Rattle.rtmfp_lines.specs.Outside.{Outside}
 use Rattle.rtmfp_lines.specs.Status.{status_code}
 use Rattle.rtmfp_node.specs.declared.served.Served.TheVariants as served
 use Rattle.rtmfp_report.specs.LostText.{lost_line}
+use Rattle.rtmfp_play.specs.Laws.{IsLostOn}
 use Rattle.rtmfp_play.specs.Play.{name_at, names_of, told_of}
 use Rattle.rtmfp_cli.specs.declared.doing.Doing.{Doing}
 use Rattle.rtmfp_cli.specs.declared.doing.Doing.TheVariants.{Playing, Showing}
@@ -65,6 +66,34 @@ EveryRunHandsOver = (lines : List (List ℕ)) (w : PlacedSeen) (text : List ℕ)
     ((n : Name) → HandsInItsOrder (setup_at w.world.ends) early n) ×
     AllTold (setup_at w.world.ends) early
 
+-- ---- the report of a script
+
+-- The first lines of a script, so many, were done and have left this world; these come next.
+pub record HasPlayed (lines : List (List ℕ)) (count : ℕ) (w : PlacedSeen)
+    (later : List (List ℕ)) : Type 0 where
+  pub early : List (List ℕ)
+  pub split : lines ≡ early ++ later
+  pub size : length early ≡ count
+  pub text : List ℕ
+  pub ran : Runs 1 playing early (Playing w) text
+
+-- Line n of a script has carried a datagram that didn't arrive.
+pub record LostAt (lines : List (List ℕ)) (n : ℕ) (lost : LostLine) : Type 0 where
+  pub before : ℕ
+  pub number : n ≡ before + 1
+  pub world : PlacedSeen
+  pub line : List ℕ
+  pub later : List (List ℕ)
+  pub played : HasPlayed lines before world (line ∷ later)
+  pub is_lost : IsLostOn world line lost
+
+-- After line n of a script so many ends were there.
+pub record HadEnds (lines : List (List ℕ)) (n there : ℕ) : Type 0 where
+  pub world : PlacedSeen
+  pub later : List (List ℕ)
+  pub played : HasPlayed lines n world later
+  pub count : there ≡ length (names_of world.world)
+
 -- What is told of: a line of the journal, or a datagram that was carried on a line of the script
 -- and didn't arrive.
 pub data Told : Type 0 where
@@ -77,28 +106,52 @@ journal_in [] = []
 journal_in (Line line ∷ told) = line ∷ journal_in told
 journal_in (Loss n lost ∷ told) = journal_in told
 
--- These tell this text: what is told of each, one after another from the oldest on. Of all ends, so
--- many at least were there before the first, and so many datagrams were sent. Each is told with the
--- names of the ends that were there then: the one that a line of the journal calls is among them,
--- and ends come and don't go.
-abbrev pub IsReport : List Named → ℕ → ℕ → List Told → List ℕ → Type 0
-IsReport names before sent [] text = text ≡ []
-IsReport names before sent (Line line ∷ told) text =
-    (there : ℕ) × (rest : List ℕ) × (before ≤ there) × (line.end < there) × (there ≤ length names)
+-- the line of the script that did what is told
+abbrev pub done_on : Told → ℕ
+done_on (Line line) = line.line
+done_on (Loss n lost) = n
+
+-- each was done on a later line than the one before it, and the first on a later one than this
+abbrev pub Rises : ℕ → List Told → Type 0
+Rises n [] = Unit {0}
+Rises n (first ∷ told) = (n < done_on first) × Rises (done_on first) told
+
+-- The ends that were there after line n are so many, the first of all these, and this one is among
+-- them: ends come and don't go.
+pub record IsThere (lines : List (List ℕ)) (names : List Named) (n there end : ℕ) : Type 0 where
+  pub had : HadEnds lines n there
+  pub among : end < there
+  pub first : there ≤ length names
+
+-- These tell this text, where so many datagrams were sent before: what is told of each, one after
+-- another. Each is told with the names of the ends that were there then, and the end that a line of
+-- the journal calls, or that sent what is lost, is among them.
+abbrev pub IsReport : List (List ℕ) → List Named → ℕ → List Told → List ℕ → Type 0
+IsReport lines names sent [] text = text ≡ []
+IsReport lines names sent (Line line ∷ told) text =
+    (there : ℕ) × (rest : List ℕ) × IsThere lines names line.line there line.end
     × (text ≡ told_of (take there names) sent line line.refused ++ rest) ×
-    IsReport names there (sent + count_in line) told rest
-IsReport names before sent (Loss n lost ∷ told) text =
-    (there : ℕ) × (rest : List ℕ) × (before ≤ there) × (there ≤ length names)
+    IsReport lines names (sent + count_in line) told rest
+IsReport lines names sent (Loss n lost ∷ told) text =
+    (there : ℕ) × (rest : List ℕ) × IsThere lines names n there lost.end
     × (text ≡ lost_line n (name_at (take there names) lost.end) lost.number lost.lost ++ rest) ×
-    IsReport names there sent told rest
+    IsReport lines names sent told rest
+
+-- What is told of a script that left this world, with its text: each line of the journal, and each
+-- datagram that its lines lost, in their order, and nothing else.
+pub record IsTold (lines : List (List ℕ)) (w : Seen) (text : List ℕ) : Type 0 where
+  pub told : List Told
+  pub journal : journal_in told ≡ w.lines
+  pub only_lost : (n : ℕ) (lost : LostLine) → Contains told (Loss n lost) → LostAt lines n lost
+  pub all_lost : (n : ℕ) (lost : LostLine) → LostAt lines n lost → Contains told (Loss n lost)
+  pub rises : Rises 0 told
+  pub report : IsReport lines (names_of w) 0 told text
 
 -- What is written of a script is the report of the journal that its lines leave, with a line for
--- each datagram that was lost: no line of the journal is left out, and nothing else is written.
+-- each datagram that was lost, where it was.
 abbrev pub EachTextIsTheReport : Type 0
 EachTextIsTheReport = (lines : List (List ℕ)) (w : PlacedSeen) (text : List ℕ) →
-    Runs 1 playing lines (Playing w) text →
-    (told : List Told) × (journal_in told ≡ w.world.lines) ×
-    IsReport (names_of w.world) 0 0 told text
+    Runs 1 playing lines (Playing w) text → IsTold lines w.world text
 
 -- Steps of a world, from line n on, one after another; a line without one leaves it as it is.
 abbrev pub StepsOn : ℕ → Seen → List (Option Step) → Seen → Type 0

@@ -17,9 +17,10 @@ pub fn each_run_is_flat()
     ensures { EachRunIsFlat }
 {}
 
-/// What is written of a script is the report of its journal: the text of each of its lines, from
-/// the oldest on, with a line for each datagram that was carried and lost, and nothing else. A line
-/// of the script that adds none of these writes nothing.
+/// What is written of a script is the report of its journal: the text of each of its lines, and of
+/// each datagram that a line of the script carried and lost, and nothing else. They stand in the
+/// order of the lines of the script that did them, one at most of each, and each is told with the
+/// names of the ends that were there then.
 pub fn each_text_is_the_report_of_its_journal()
     ensures { EachTextIsTheReport }
 {}

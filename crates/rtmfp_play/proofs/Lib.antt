@@ -1,7 +1,8 @@
 pub mod Refused
 pub mod Played
 pub mod Placing
-pub mod Reported
 pub mod OneText
+pub mod Losing
+pub mod Reported
 pub mod Generation
 pub mod OneGenerated

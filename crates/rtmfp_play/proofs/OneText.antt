@@ -7,7 +7,7 @@ use Rattle.rtmfp_script.specs.Grammar.{IsLineOf, IsSkipped}
 use Rattle.rtmfp_script.proofs.Saying.{one_saying}
 use Rattle.rendezvous_world.specs.declared.journal.JournalLine.{JournalLine}
 use Rattle.rendezvous_world.specs.declared.journal.Refused.{Refused}
-use Rattle.rendezvous_world.specs.declared.journal.Refused.TheVariants.{Open as OpenRefused, Call as CallRefused, Row as RowRefused}
+use Rattle.rendezvous_world.specs.declared.journal.Refused.TheVariants.{Open as OpenRefused, Seek as SeekRefused, Call as CallRefused, Row as RowRefused}
 use Rattle.placed_world.specs.declared.step.PlacedStep.{PlacedStep}
 use Rattle.placed_world.specs.declared.step.LostLine.{LostLine}
 use Rattle.placed_world.specs.Seen.{PlacedSeen}
@@ -26,6 +26,7 @@ use Rattle.rtmfp_play.proofs.Placing.{AreSamePlaced, LeaveTheSame, same_placed}
 told_stays : (ends : List Named) (sent : ℕ) (line : JournalLine) (refused : Option Refused) → told_of ends sent (without_room line) refused ≡ told_of ends sent line refused
 told_stays ends sent line None = refl
 told_stays ends sent line (Some (OpenRefused refusal)) = refl
+told_stays ends sent line (Some (SeekRefused refusal)) = refl
 told_stays ends sent line (Some (CallRefused refusal)) = refl
 told_stays ends sent line (Some (RowRefused refusal)) = refl
 
@@ -45,13 +46,13 @@ same_report w v t s before after =
 
 -- ---- lines of the script
 
-not_both : (line : List ℕ) (said : ScriptLine) → IsSkipped line → IsLineOf line said → ⊥
+pub not_both : (line : List ℕ) (said : ScriptLine) → IsSkipped line → IsLineOf line said → ⊥
 not_both line said skipped is = let same : Nothing ≡ SaidStep said = one_saying line Nothing (SaidStep said) skipped is in cc
 
-one_said : (line : List ℕ) (a b : ScriptLine) → IsLineOf line a → IsLineOf line b → a ≡ b
+pub one_said : (line : List ℕ) (a b : ScriptLine) → IsLineOf line a → IsLineOf line b → a ≡ b
 one_said line a b p q = let same : SaidStep a ≡ SaidStep b = one_saying line (SaidStep a) (SaidStep b) p q in cc
 
-same_some : (a b : PlacedStep) → ◌≡◌ {A = Option PlacedStep} (Some a) (Some b) → a ≡ b
+pub same_some : (a b : PlacedStep) → ◌≡◌ {A = Option PlacedStep} (Some a) (Some b) → a ≡ b
 same_some a b e = cc
 
 -- two worlds with places are the same, and two texts are one

@@ -53,7 +53,7 @@ pub record AreSamePlaced (w v : PlacedSeen) : Type 0 where
   pub worlds : AreSameWorlds w.world v.world
   pub places : w.places ≡ v.places
 
-comes_same : (w v : PlacedSeen) (step : PlacedStep) → AreSamePlaced w v → comes_to w step ≡ comes_to v step
+pub comes_same : (w v : PlacedSeen) (step : PlacedStep) → AreSamePlaced w v → comes_to w step ≡ comes_to v step
 comes_same w v (Translator name mapping filter host first) same =
     ap (λ (p : PlacesSeen). if is_bad_translator p name host first then Refuses BadStep else Changes (with_translator p name (new_translator mapping filter host first))) same.places
 comes_same w v (Place end at behind) same =

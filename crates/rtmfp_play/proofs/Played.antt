@@ -12,9 +12,8 @@ use Rattle.rendezvous_world.specs.Sound.{AreBelow}
 use Rattle.rtmfp_play.specs.declared.said.Said.{Said}
 use Rattle.rtmfp_play.specs.declared.said.Said.TheVariants.{Text, Bad, Forged}
 use Rattle.std.specs.declared.alloc.AllocError.{AllocError}
-use Rattle.rtmfp_text.specs.declared.names.Named.{Named}
 use Rattle.placed_world.specs.Stepping.{placed_fault}
-use Rattle.rtmfp_play.specs.Play.{IsBadPlay, IsBadStep, placed_said, told_next, told_since}
+use Rattle.rtmfp_play.specs.Play.{IsBadPlay, IsBadStep, placed_said, told_since}
 use Rattle.rtmfp_play.specs.Playing.{PlayedAs, SteppedAs}
 
 pub below_next : (lines : List JournalLine) (number : ℕ) → AreBelow lines number → AreBelow lines (number + 1)

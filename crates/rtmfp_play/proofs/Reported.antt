@@ -6,17 +6,19 @@ use Rattle.rtmfp_text.specs.declared.names.Named.{Named}
 use Rattle.endpoint_model.specs.State.{State}
 use Rattle.rendezvous_world.specs.declared.journal.JournalLine.{JournalLine}
 use Rattle.rendezvous_world.specs.declared.step.Step.{Step}
-use Rattle.rendezvous_world.specs.declared.step.Step.TheVariants.{End, At, Introduce, Redirect, Open, Cancel, Close, Flow, Queue, Abandon, Finish, Deliver, Bent, Inject, Forge, Tick}
+use Rattle.rendezvous_world.specs.declared.step.Step.TheVariants.{End, At, Introduce, Redirect, Open, Seek, Unseek, Cancel, Close, Flow, Queue, Abandon, Finish, Deliver, Bent, Inject, Forge, Tick}
 use Rattle.rendezvous_world.specs.Inside.{named_of}
 use Rattle.rendezvous_world.specs.Seen.{EndSeen, Seen}
 use Rattle.rendezvous_world.specs.Sent.{sent_in}
 use Rattle.rendezvous_world.specs.Stepping.{Called, Stepped, in_state, new_end, new_setup, with_state}
 use Rattle.rendezvous_world.proofs.Ends.{at_suc, below_length}
+use Rattle.end_places.specs.Seen.{PlacesSeen}
 use Rattle.placed_world.specs.declared.step.LostLine.{LostLine}
 use Rattle.placed_world.specs.Seen.{PlacedSeen}
 use Rattle.placed_world.specs.Stepping.{Outcome, Refuses, Changes, Loses, Brings, Does, DoneAs, comes_to}
 use Rattle.rtmfp_play.specs.Play.{names_of, report_since, told_lost, told_next, told_since}
-use Rattle.rtmfp_play.specs.Laws.{Adds, AddsNone, EachLineIsTold}
+use Rattle.rtmfp_play.specs.Laws.{Adds, EachLineIsTold, LosesNone}
+use Rattle.rtmfp_play.proofs.Losing.{ComesTo, line_comes, skipped_none}
 
 -- ---- small facts
 
@@ -32,92 +34,112 @@ behind (y ∷ xs) x = behind xs x
 
 -- ---- what a line adds
 
-nothing_told : (w t : Seen) (text : List ℕ) → t.lines ≡ w.lines → text ≡ report_since w t → AddsNone w t text
-nothing_told w t text same is = record {
-  lines = same;
-  no_text = is ∙ ap (λ (o : Option JournalLine). told_next (names_of t) (length (sent_in w.lines)) o)
-      (ap (λ (l : List JournalLine). slice_get l (length w.lines)) same ∙ slice_get_past w.lines (length w.lines) (omega arith));
-}
+nothing_told : (w t : Seen) (text : List ℕ) → t.lines ≡ w.lines → text ≡ report_since w t → text ≡ []
+nothing_told w t text same is =
+    is ∙ ap (λ (o : Option JournalLine). told_next (names_of t) (length (sent_in w.lines)) o)
+    (ap (λ (l : List JournalLine). slice_get l (length w.lines)) same ∙ slice_get_past w.lines (length w.lines) (omega arith))
 
-called_adds : (w : Seen) (n : ℕ) (step : Step) (line : JournalLine) (t : Seen) (text : List ℕ) → Called w n step line t → text ≡ report_since w t → Adds w n t text
-called_adds w n step line t text called is =
-    let names : names_of t ≡ names_of w = ap (λ (l : List EndSeen). map named_of l) called.ends ∙ names_stay w.ends line.end called.state in
-    let below : line.end < length w.ends = below_length w.ends line.end called.end called.is_end in
+called_adds : (w : PlacedSeen) (n : ℕ) (line : List ℕ) (step : Step) (new : JournalLine) (t : PlacedSeen) (text : List ℕ) → LosesNone w line → Called w.world n step new t.world → text ≡ report_since w.world t.world → Adds w n line t text
+called_adds w n line step new t text none called is =
+    let names : names_of t.world ≡ names_of w.world = ap (λ (l : List EndSeen). map named_of l) called.ends ∙ names_stay w.world.ends new.end called.state in
+    let below : new.end < length w.world.ends = below_length w.world.ends new.end called.end called.is_end in
     record {
       ends = [];
-      names = names ∙ sym (append-nil (names_of w));
+      names = names ∙ sym (append-nil (names_of w.world));
       lines = inr (inl (record {
-        line = line;
+        none_lost = none;
+        added = new;
+        number = called.is_line.line;
         lines = called.lines;
-        there = omega (arith, ap (λ (l : List Named). length l) names, length-map w.ends named_of, below);
-        told = is ∙ ap (λ (o : Option JournalLine). told_next (names_of t) (length (sent_in w.lines)) o)
-            (ap (λ (l : List JournalLine). slice_get l (length w.lines)) called.lines ∙ behind w.lines line);
+        there = omega (arith, ap (λ (l : List Named). length l) names, length-map w.world.ends named_of, below);
+        told = is ∙ ap (λ (o : Option JournalLine). told_next (names_of t.world) (length (sent_in w.world.lines)) o)
+            (ap (λ (l : List JournalLine). slice_get l (length w.world.lines)) called.lines ∙ behind w.world.lines new);
       }));
     }
 
-stepped_adds : (w : Seen) (n : ℕ) (step : Step) (t : Seen) (text : List ℕ) → Stepped w n step t → text ≡ report_since w t → Adds w n t text
-stepped_adds w n (End name max_peers max_sessions cert) t text h is =
-    let new : EndSeen = new_end name (new_setup max_peers max_sessions cert) in
-    record {
-      ends = named_of new ∷ [];
-      names = ap names_of h ∙ map-append named_of w.ends (new ∷ []);
-      lines = inl (nothing_told w t text (ap (λ (x : Seen). x.lines) h) is);
-    }
-stepped_adds w n (At moment) t text h is = record {
-  ends = [];
-  names = ap names_of h ∙ sym (append-nil (names_of w));
-  lines = inl (nothing_told w t text (ap (λ (x : Seen). x.lines) h) is);
+-- ends come or not, and the journal stays
+quiet_adds : (w : PlacedSeen) (n : ℕ) (line : List ℕ) (ends : List Named) (t : PlacedSeen) (text : List ℕ) → LosesNone w line → names_of t.world ≡ names_of w.world ++ ends → t.world.lines ≡ w.world.lines → text ≡ report_since w.world t.world → Adds w n line t text
+quiet_adds w n line ends t text none names lines is = record {
+  ends = ends;
+  names = names;
+  lines = inl (record { none_lost = none; lines = lines; no_text = nothing_told w.world t.world text lines is });
 }
-stepped_adds w n (Open end peer list) t text h is = called_adds w n (Open end peer list) h.0 t text h.2 is
-stepped_adds w n (Cancel end number) t text h is = called_adds w n (Cancel end number) h.0 t text h.2 is
-stepped_adds w n (Close end near) t text h is = called_adds w n (Close end near) h.0 t text h.2 is
-stepped_adds w n (Flow end near priority metadata answers) t text h is = called_adds w n (Flow end near priority metadata answers) h.0 t text h.2 is
-stepped_adds w n (Queue end near flow options message) t text h is = called_adds w n (Queue end near flow options message) h.0 t text h.2 is
-stepped_adds w n (Abandon end near flow seq) t text h is = called_adds w n (Abandon end near flow seq) h.0 t text h.2 is
-stepped_adds w n (Finish end near flow) t text h is = called_adds w n (Finish end near flow) h.0 t text h.2 is
-stepped_adds w n (Introduce end) t text h is = called_adds w n (Introduce end) h.0 t text h.2 is
-stepped_adds w n (Redirect end peer list) t text h is = called_adds w n (Redirect end peer list) h.0 t text h.2 is
-stepped_adds w n (Deliver sent end from) t text h is = called_adds w n (Deliver sent end from) h.0 t text h.2 is
-stepped_adds w n (Bent sent place end from) t text h is = called_adds w n (Bent sent place end from) h.0 t text h.2 is
-stepped_adds w n (Inject end from bytes) t text h is = called_adds w n (Inject end from bytes) h.0 t text h.2 is
-stepped_adds w n (Forge end from plain) t text h is = called_adds w n (Forge end from plain) h.0 t text h.2 is
-stepped_adds w n (Tick end) t text h is = called_adds w n (Tick end) h.0 t text h.2 is
+
+stepped_adds : (w : PlacedSeen) (n : ℕ) (line : List ℕ) (step : Step) (t : PlacedSeen) (text : List ℕ) → LosesNone w line → Stepped w.world n step t.world → text ≡ report_since w.world t.world → Adds w n line t text
+stepped_adds w n line (End name max_peers max_sessions cert) t text none h is =
+    let new : EndSeen = new_end name (new_setup max_peers max_sessions cert) in
+    quiet_adds w n line (named_of new ∷ []) t text none (ap names_of h ∙ map-append named_of w.world.ends (new ∷ [])) (ap (λ (x : Seen). x.lines) h) is
+stepped_adds w n line (At moment) t text none h is = quiet_adds w n line [] t text none (ap names_of h ∙ sym (append-nil (names_of w.world))) (ap (λ (x : Seen). x.lines) h) is
+stepped_adds w n line (Open end peer list) t text none h is = called_adds w n line (Open end peer list) h.0 t text none h.2 is
+stepped_adds w n line (Seek end name list) t text none h is = called_adds w n line (Seek end name list) h.0 t text none h.2 is
+stepped_adds w n line (Unseek end near) t text none h is = called_adds w n line (Unseek end near) h.0 t text none h.2 is
+stepped_adds w n line (Cancel end number) t text none h is = called_adds w n line (Cancel end number) h.0 t text none h.2 is
+stepped_adds w n line (Close end near) t text none h is = called_adds w n line (Close end near) h.0 t text none h.2 is
+stepped_adds w n line (Flow end near priority metadata answers) t text none h is = called_adds w n line (Flow end near priority metadata answers) h.0 t text none h.2 is
+stepped_adds w n line (Queue end near flow options message) t text none h is = called_adds w n line (Queue end near flow options message) h.0 t text none h.2 is
+stepped_adds w n line (Abandon end near flow seq) t text none h is = called_adds w n line (Abandon end near flow seq) h.0 t text none h.2 is
+stepped_adds w n line (Finish end near flow) t text none h is = called_adds w n line (Finish end near flow) h.0 t text none h.2 is
+stepped_adds w n line (Introduce end) t text none h is = called_adds w n line (Introduce end) h.0 t text none h.2 is
+stepped_adds w n line (Redirect end peer list) t text none h is = called_adds w n line (Redirect end peer list) h.0 t text none h.2 is
+stepped_adds w n line (Deliver sent end from) t text none h is = called_adds w n line (Deliver sent end from) h.0 t text none h.2 is
+stepped_adds w n line (Bent sent place end from) t text none h is = called_adds w n line (Bent sent place end from) h.0 t text none h.2 is
+stepped_adds w n line (Inject end from bytes) t text none h is = called_adds w n line (Inject end from bytes) h.0 t text none h.2 is
+stepped_adds w n line (Forge end from plain) t text none h is = called_adds w n line (Forge end from plain) h.0 t text none h.2 is
+stepped_adds w n line (Tick end) t text none h is = called_adds w n line (Tick end) h.0 t text none h.2 is
 
 -- nothing is told of a datagram that isn't lost
 not_lost : (w : PlacedSeen) (n : ℕ) (t : PlacedSeen) (lost : Option LostLine) (text : List ℕ) → lost ≡ None → text ≡ told_since w n t lost → text ≡ report_since w.world t.world
 not_lost w n t lost text none is =
     is ∙ ap (λ (o : Option LostLine). report_since w.world t.world ++ told_lost (names_of t.world) n o) none ∙ append-nil (report_since w.world t.world)
 
-placed_adds : (w : PlacedSeen) (n : ℕ) (o : Outcome) (lost : Option LostLine) (t : PlacedSeen) (text : List ℕ) → DoneAs w.world n o lost t → text ≡ told_since w n t lost → Adds w.world n t.world text
-placed_adds w n (Refuses fault) lost t text h is = absurd h
-placed_adds w n (Changes places) lost t text h is =
+-- what isn't a loss loses none
+none_by : (w : PlacedSeen) (line : List ℕ) (o : Outcome) → ComesTo w line o → ((places : PlacesSeen) (told : LostLine) → o ≡ Loses places told → ⊥) → LosesNone w line
+none_by w line o comes other told is = other is.places told (comes.where_lost told is)
+
+changes_none : (new places : PlacesSeen) (told : LostLine) → Changes new ≡ Loses places told → ⊥
+changes_none new places told e = cc
+
+brings_none : (new : PlacesSeen) (step : Step) (places : PlacesSeen) (told : LostLine) → Brings new step ≡ Loses places told → ⊥
+brings_none new step places told e = cc
+
+does_none : (new : PlacesSeen) (step : Step) (places : PlacesSeen) (told : LostLine) → Does new step ≡ Loses places told → ⊥
+does_none new step places told e = cc
+
+placed_adds : (w : PlacedSeen) (n : ℕ) (line : List ℕ) (o : Outcome) (lost : Option LostLine) (t : PlacedSeen) (text : List ℕ) → ComesTo w line o → DoneAs w.world n o lost t → text ≡ told_since w n t lost → Adds w n line t text
+placed_adds w n line (Refuses fault) lost t text comes h is = absurd h
+placed_adds w n line (Changes places) lost t text comes h is =
     let same : t.world ≡ w.world = ap (λ (p : PlacedSeen). p.world) h.1 in
-    record {
-      ends = [];
-      names = ap names_of same ∙ sym (append-nil (names_of w.world));
-      lines = inl (nothing_told w.world t.world text (ap (λ (x : Seen). x.lines) same) (not_lost w n t lost text h.0 is));
-    }
-placed_adds w n (Loses places told) lost t text h is =
+    quiet_adds w n line [] t text (none_by w line (Changes places) comes (changes_none places))
+    (ap names_of same ∙ sym (append-nil (names_of w.world))) (ap (λ (x : Seen). x.lines) same) (not_lost w n t lost text h.0 is)
+placed_adds w n line (Loses places told) lost t text comes h is =
     let same : t.world ≡ w.world = ap (λ (p : PlacedSeen). p.world) h.1 in
     let lines : t.world.lines ≡ w.world.lines = ap (λ (x : Seen). x.lines) same in
-    let none : report_since w.world t.world ≡ [] = (nothing_told w.world t.world (report_since w.world t.world) lines refl).no_text in
+    let none : report_since w.world t.world ≡ [] = nothing_told w.world t.world (report_since w.world t.world) lines refl in
     record {
       ends = [];
       names = ap names_of same ∙ sym (append-nil (names_of w.world));
       lines = inr (inr (record {
         lost = told;
+        is_lost = comes.is_lost places told refl;
         lines = lines;
         told = is ∙ ap (λ (o : Option LostLine). report_since w.world t.world ++ told_lost (names_of t.world) n o) h.0
             ∙ ap (λ (x : List ℕ). x ++ told_lost (names_of t.world) n (Some told)) none;
       }));
     }
-placed_adds w n (Brings places step) lost t text h is = stepped_adds w.world n step t.world text h.1.1 (not_lost w n t lost text h.0 is)
-placed_adds w n (Does places step) lost t text h is = stepped_adds w.world n step t.world text h.1.1 (not_lost w n t lost text h.0 is)
+placed_adds w n line (Brings places step) lost t text comes h is =
+    stepped_adds w n line step t text (none_by w line (Brings places step) comes (brings_none places step)) h.1.1 (not_lost w n t lost text h.0 is)
+placed_adds w n line (Does places step) lost t text comes h is =
+    stepped_adds w n line step t text (none_by w line (Does places step) comes (does_none places step)) h.1.1 (not_lost w n t lost text h.0 is)
 
 pub each_line_is_told : EachLineIsTold
 each_line_is_told w n line t text (inl skipped) = record {
   ends = [];
   names = ap (λ (p : PlacedSeen). names_of p.world) skipped.same ∙ sym (append-nil (names_of w.world));
-  lines = inl (record { lines = ap (λ (p : PlacedSeen). p.world.lines) skipped.same; no_text = skipped.no_text });
+  lines = inl (record {
+    none_lost = skipped_none w line skipped.skipped;
+    lines = ap (λ (p : PlacedSeen). p.world.lines) skipped.same;
+    no_text = skipped.no_text;
+  });
 }
-each_line_is_told w n line t text (inr done) = placed_adds w n (comes_to w done.step) done.lost t text done.stepped done.is_text
+each_line_is_told w n line t text (inr done) =
+    placed_adds w n line (comes_to w done.step) done.lost t text (line_comes w line done.said done.step done.is_line done.is_step) done.stepped done.is_text

@@ -26,7 +26,7 @@ use Rattle.rendezvous_world.specs.declared.step.StepFault.{StepFault}
 use Rattle.rendezvous_world.specs.declared.step.StepFault.TheVariants.{NoEnd, NoDatagram, BadStep, Forged, Memory}
 use Rattle.rendezvous_world.specs.declared.journal.JournalLine.{JournalLine}
 use Rattle.rendezvous_world.specs.declared.journal.Refused.{Refused}
-use Rattle.rendezvous_world.specs.declared.journal.Refused.TheVariants.{Open as OpenRefused, Call as CallRefused, Row as RowRefused}
+use Rattle.rendezvous_world.specs.declared.journal.Refused.TheVariants.{Open as OpenRefused, Seek as SeekRefused, Call as CallRefused, Row as RowRefused}
 use Rattle.endpoint_laws.specs.Agreed.{IsAgreed}
 use Rattle.rendezvous_world.specs.Seen.{Seen, group_secret, setup_at}
 use Rattle.rendezvous_world.specs.Handing.{MessagesGoOver}
@@ -36,7 +36,7 @@ use Rattle.rendezvous_world.specs.Sound.{IsSound}
 use Rattle.rendezvous_world.specs.Inside.{named_of}
 use Rattle.rendezvous_world.specs.Sent.{sent_in}
 use Rattle.rtmfp_report.specs.EntryText.{entries_text}
-use Rattle.rtmfp_report.specs.RefusalText.{refused_line, open_refusal_text, call_refusal_text, row_refusal_text}
+use Rattle.rtmfp_report.specs.RefusalText.{refused_line, open_refusal_text, seek_refusal_text, call_refusal_text, row_refusal_text}
 
 -- what lines begin with: a world without ends, and no places
 abbrev pub empty_placed : PlacedSeen
@@ -78,6 +78,8 @@ place_by (Some end) at (Some behind) = Some (placed.Place end at behind)
 -- what an end is called to do
 abbrev pub call_step : ℕ → CallLine → Step
 call_step end call.Introduce = step.Introduce end
+call_step end (call.Seek service addresses) = step.Seek end service addresses
+call_step end (call.Unseek near) = step.Unseek end near
 call_step end (call.Cancel number) = step.Cancel end number
 call_step end (call.Close near) = step.Close end near
 call_step end (call.Flow near priority metadata answers) =
@@ -137,6 +139,8 @@ told_of ends sent line None = entries_text group_secret ends line.line (name_at 
     line.out.entries
 told_of ends sent line (Some (OpenRefused refusal)) =
     refused_line line.line (name_at ends line.end) (open_refusal_text refusal)
+told_of ends sent line (Some (SeekRefused refusal)) =
+    refused_line line.line (name_at ends line.end) (seek_refusal_text refusal)
 told_of ends sent line (Some (CallRefused refusal)) =
     refused_line line.line (name_at ends line.end) (call_refusal_text refusal)
 told_of ends sent line (Some (RowRefused refusal)) =

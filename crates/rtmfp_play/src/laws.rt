@@ -7,8 +7,8 @@ ghost use Rattle.rtmfp_play.specs.Generated.{end_at, end_cert, end_count, end_na
 ghost use Rattle.rtmfp_play.specs.Generated.{delivery, delivery_or_tick, generated_step, picked};
 ghost use Rattle.rtmfp_play.specs.Laws.{EachGeneratedRunIsOne, EachLineIsFlat, EachLineIsTold};
 
-/// A line of a script adds one line to the journal, of which it tells, or none, and then it tells
-/// nothing but a datagram that was carried and is lost.
+/// A line of a script adds one line to the journal, with its own number, and tells of it, or none.
+/// Then it tells of the datagram that it carries where that is lost, and else of nothing.
 pub fn each_line_is_told()
     ensures { EachLineIsTold }
 {}

@@ -10,15 +10,17 @@ ghost use Rattle.rtmfp_play.specs.Playing.{PlayedAs, StaysAs, SteppedAs};
 
 use crate::said::Said;
 use end_places::Places;
+use identity::ServiceName;
 use placed_world::{LostLine, PlacedStep, PlacedWorld};
 use rendezvous_world::{Addresses, JournalLine, MessageOptions, Refused, Step, StepFault, World};
 use rtmfp_base::limits::LINE;
 use rtmfp_forms::Address;
 use rtmfp_report::{
     GroupKeys, push_call_refusal, push_entries, push_lost, push_open_refusal, push_row_refusal,
+    push_seek_refusal,
 };
 use rtmfp_script::{
-    AimLine, BringLine, CallLine, Content, Said as LineSaid, ScriptLine, read_line,
+    AimLine, BringLine, CallLine, Candidates, Content, Said as LineSaid, ScriptLine, read_line,
 };
 use rtmfp_text::{Directory, Name, Named, Text};
 use std::alloc::{AllocError, Global};
@@ -189,6 +191,8 @@ fn call_step(alloc: Global, end: usize, call: CallLine) -> Result<Step, AllocErr
 {
     match call {
         CallLine::Introduce => Ok(Step::Introduce { end }),
+        CallLine::Seek { service, addresses } => seek_step(alloc, end, service, &addresses),
+        CallLine::Unseek { near } => Ok(Step::Unseek { end, near }),
         CallLine::Cancel { number } => Ok(Step::Cancel { end, n: number }),
         CallLine::Close { near } => Ok(Step::Close { end, near }),
         CallLine::Flow {
@@ -222,6 +226,18 @@ fn call_step(alloc: Global, end: usize, call: CallLine) -> Result<Step, AllocErr
         CallLine::Finish { near, flow } => Ok(Step::Finish { end, near, flow }),
         CallLine::Tick => Ok(Step::Tick { end }),
     }
+}
+
+fn seek_step(
+    alloc: Global,
+    end: usize,
+    name: ServiceName,
+    addresses: &Candidates,
+) -> Result<Step, AllocError>
+    ensures { IfOk result (λ step. step ≡ Step.Seek end name addresses.now) }
+{
+    let list = Addresses::of(Vec::from_slice(alloc, addresses.as_slice())?);
+    Ok(Step::Seek { end, name, list })
 }
 
 fn queue_step(
@@ -414,6 +430,7 @@ fn push_told(
     let name = name_at(ends.as_slice(), line.end());
     match line.refused() {
         Some(Refused::Open(refusal)) => push_open_refusal(line.line(), &name, &refusal, text),
+        Some(Refused::Seek(refusal)) => push_seek_refusal(line.line(), &name, &refusal, text),
         Some(Refused::Call(refusal)) => push_call_refusal(line.line(), &name, &refusal, text),
         Some(Refused::Row(refusal)) => push_row_refusal(line.line(), &name, &refusal, text),
         None => push_done(keys, ends, &name, sent, line, scratch, text),
