@@ -1,0 +1,6 @@
+use Rattle.rtmfp_text.proofs.Pushes.{push_then}
+use Rattle.audit_text.proofs.Written.{push_only}
+use Rattle.audit_text.proofs.texts.push_place.Goals as goal
+
+pub returns : goal.returns
+returns c = (push_then _ c.in_ok-push.ensures (push_only _ c.in_ok-push_address.ensures)).joined

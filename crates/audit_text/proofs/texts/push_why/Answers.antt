@@ -1,0 +1,9 @@
+use Rattle.std.proofs.Common.{◌++◌, ap, ◌∙◌}
+use Rattle.rtmfp_text.proofs.Pushes.{push_then}
+use Rattle.audit_text.proofs.Written.{push_only}
+use Rattle.audit_text.proofs.texts.push_why.Goals as goal
+
+pub returns : goal.returns
+returns c =
+    let why = c.in_ok-push-2.ensures ∙ ap (λ xs. c.push.new.self ++ xs) c.why_name.ensures in
+    (push_then _ c.in_ok-push.ensures (push_only _ why)).joined

@@ -1,0 +1,4 @@
+pub mod Grammar
+pub mod Fields
+pub mod Readings
+pub mod Rows
