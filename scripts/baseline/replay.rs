@@ -1,8 +1,9 @@
 //! A plain Rust program that prints what `rtmfp replay --generate N --steps K` prints: the bar for its speed.
 //! With `--flows` it makes another run instead, of two ends that call on flows, with `--calls` one of six ends that also
-//! call each other, hang up and move, with `--places` one of six ends that meet through address translators, and with
-//! `--transfer` one of K megabytes that go over, of whose datagrams each N-th is lost. With `--script` it prints the script of the run, and with
-//! `--report` the report of it. Without a seed it reads a script from its input, and prints the report of each line;
+//! call each other, hang up and move, with `--names` one of six ends that also search for each other by three names, with
+//! `--places` one of six ends that meet through address translators, and with `--transfer` one of K megabytes that go over,
+//! of whose datagrams each N-th is lost. With `--script` it prints the script of the run, and with `--report` the report of
+//! it. Without a seed it reads a script from its input, and prints the report of each line;
 //! with `--datagrams` alone it prints the bytes of each datagram that was sent instead, one a line, in hexadecimal.
 #[path = "replay/crypto.rs"]
 mod crypto;
@@ -39,6 +40,8 @@ pub enum Step {
     End { name: String, max_peers: usize, max_sessions: usize, cert: String },
     At { moment: u64 },
     Open { end: usize, peer: usize, list: Vec<Address> },
+    Seek { end: usize, name: Vec<u8>, list: Vec<Address> },
+    Unseek { end: usize, near: u32 },
     Cancel { end: usize, n: u64 },
     Close { end: usize, near: u32 },
     Deliver { number: usize, end: usize, from: Address },
@@ -142,6 +145,14 @@ impl World {
             Step::Open { end, peer, list } => {
                 let peer = self.ends[*peer].print;
                 refused = self.ends[*end].open(peer, list, self.moment, &draws, &mut entries).err();
+                Some(*end)
+            }
+            Step::Seek { end, name, list } => {
+                refused = self.ends[*end].seek(name, list, self.moment, &draws, &mut entries).err();
+                Some(*end)
+            }
+            Step::Unseek { end, near } => {
+                refused = self.ends[*end].unseek(*near, &mut entries).err();
                 Some(*end)
             }
             Step::Cancel { end, n } => {
@@ -259,6 +270,7 @@ impl World {
         for entry in self.journal.iter().flat_map(|line| &line.entries) {
             *match entry {
                 Entry::Closed { .. } | Entry::Moved { .. } => continue,
+                Entry::Sought { .. } | Entry::Unsought { .. } => continue,
                 Entry::FlowOpened { .. } | Entry::Queued { .. } | Entry::Finished { .. } => continue,
                 Entry::Abandoned { .. } | Entry::Handed { .. } => continue,
                 Entry::Out(_) => &mut sent,
@@ -305,7 +317,7 @@ fn run(seed: u64, steps: u64) -> Result<World, (StepFault, u64)> {
 }
 
 /// The run of a seed; with `--flows` one that calls on flows; with `--calls` one of ends that also call each other, hang
-/// up and move; with `--places` one of ends that meet through translators; with `--transfer` so many megabytes that go over, of whose datagrams each so many-th is lost, as the
+/// up and move; with `--names` one of ends that also search for each other; with `--places` one of ends that meet through translators; with `--transfer` so many megabytes that go over, of whose datagrams each so many-th is lost, as the
 /// seed says.
 fn generated(seed: u64, steps: u64, flags: &HashSet<String>) -> Result<World, (StepFault, u64)> {
     if flags.contains("--flows") {
@@ -313,6 +325,9 @@ fn generated(seed: u64, steps: u64, flags: &HashSet<String>) -> Result<World, (S
     }
     if flags.contains("--calls") {
         return random::calls(seed, steps);
+    }
+    if flags.contains("--names") {
+        return random::names(seed, steps);
     }
     if flags.contains("--places") {
         return random::places(seed, steps);
@@ -380,7 +395,7 @@ fn task() -> Option<Task> {
         match word.as_str() {
             "--generate" => seed = Some(words.next()?.parse().ok()?),
             "--steps" => steps = Some(words.next()?.parse().ok().filter(|n| *n <= 100_000)?),
-            "--script" | "--report" | "--flows" | "--calls" | "--places" | "--transfer" => _ = flags.insert(word),
+            "--script" | "--report" | "--flows" | "--calls" | "--names" | "--places" | "--transfer" => _ = flags.insert(word),
             "--datagrams" if seed.is_none() && steps.is_none() => return words.next().is_none().then_some(Task::Datagrams),
             _ => return None,
         }

@@ -8,7 +8,8 @@ use rtmfp_words::{
 use std::alloc::{AllocError, Global};
 use std::test::Fail;
 
-/// Rows of `serve`: P stands for 64 digits, I for 32, G for 31 and U for 32 that are upper-case.
+/// Rows of `serve`: P stands for 64 digits, I for 32, G for 31, U for 32 that are upper-case, and N
+/// for 32 of ASCII bytes.
 /// Behind `=` stand the count of openings, the turns, whether it introduces, and how many
 /// bytes it sends; or `none`.
 const SERVE: &str = "\
@@ -45,6 +46,19 @@ serve 10.0.0.1:1 P name --turns 5 P@10.0.0.2:1@10.0.0.2:1 = none
 serve 10.0.0.1:1 P name --turns 5 P@ = none
 serve 10.0.0.1:1 P name --turns 5 @10.0.0.2:1 = none
 serve 10.0.0.1:1 P name --turns 5 I@10.0.0.2:1 = none
+serve 10.0.0.1:1 P name --turns 5 n:6c616d70@10.0.0.2:1 P@10.0.0.3:1 n:007f@[I]:2 = 3 5 false 0
+serve 10.0.0.1:1 P name --turns 5 n:NNNN@10.0.0.2:1 = 1 5 false 0
+serve 10.0.0.1:1 P name --turns 5 n:NNNN30@10.0.0.2:1 = none
+serve 10.0.0.1:1 P name --turns 5 n:@10.0.0.2:1 = none
+serve 10.0.0.1:1 P name --turns 5 n:-@10.0.0.2:1 = none
+serve 10.0.0.1:1 P name --turns 5 n:6@10.0.0.2:1 = none
+serve 10.0.0.1:1 P name --turns 5 n:6C@10.0.0.2:1 = none
+serve 10.0.0.1:1 P name --turns 5 n:6c80@10.0.0.2:1 = none
+serve 10.0.0.1:1 P name --turns 5 n6c@10.0.0.2:1 = none
+serve 10.0.0.1:1 P name --turns 5 :6c@10.0.0.2:1 = none
+serve 10.0.0.1:1 P name --turns 5 6c@10.0.0.2:1 = none
+serve 10.0.0.1:1 P name --turns 5 n:6c10.0.0.2:1 = none
+serve 10.0.0.1:1 P name --turns 5 n:6c@ = none
 serve 10.0.0.1:65536 P name --turns 5 = none
 serve 10.0.0.1 P name --turns 5 = none
 serve 10.0.0.1:1 P0 name --turns 5 = none
@@ -123,6 +137,7 @@ fn digits_of(letter: char) -> &'static str {
         'I' => "0123456789abcdef0123456789abcdef",
         'G' => "0123456789abcdef0123456789abcde",
         'U' => "0123456789ABCDEF0123456789ABCDEF",
+        'N' => "30313233343536373839616263646566",
         _ => "",
     }
 }

@@ -11,6 +11,8 @@ mod host;
 #[cfg(test)]
 mod introductions;
 #[cfg(test)]
+mod log_lines;
+#[cfg(test)]
 mod report;
 #[cfg(test)]
 mod running;

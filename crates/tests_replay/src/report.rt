@@ -18,7 +18,7 @@ use std::test::Fail;
 const SECRET: [u8; 32] = [7; 32];
 
 /// Each cause of a discard, in the order of the rules. What has a value has its own here.
-const CAUSES: [Cause; 29] = [
+const CAUSES: [Cause; 31] = [
     Cause::Short,
     Cause::UnknownSession,
     Cause::BadTag,
@@ -48,6 +48,8 @@ const CAUSES: [Cause; 29] = [
     Cause::Fragment,
     Cause::FlowsFull(11),
     Cause::Wide(12),
+    Cause::AlreadyHeld(13),
+    Cause::AttemptsSpent,
 ];
 
 const CAUSE_LINES: &str = "1 a drop 9 short
@@ -79,6 +81,8 @@ const CAUSE_LINES: &str = "1 a drop 9 short
 1 a drop 9 fragment
 1 a drop 9 flows-full 11
 1 a drop 9 wide 12
+1 a drop 9 already-held 13
+1 a drop 9 attempts-spent
 ";
 
 const WHYS: [Why; 8] = [

@@ -30,6 +30,24 @@ close a 01
 close a 4294967296
 close  1
 hang a 1
+seek a
+seek a 
+seek a -
+seek a 6
+seek a 6D
+seek a 80
+seek a 6180
+seek a 6d 
+seek a 6d b
+seek a 6d 1.2.3.4
+seek a 6d  1.2.3.4:5
+seek a b 1.2.3.4:5
+seek  6d
+unseek a
+unseek a 
+unseek a 01
+unseek a 4294967296
+unseek a 1 1
 flow a 1
 flow a 1 4
 flow a 1 4 
@@ -105,7 +123,13 @@ carry 1 a
 ";
 
 /// Lines in the grammar, at the limits of their fields.
-const INSIDE: &str = "flow a 0 0 -
+const INSIDE: &str = "seek a 00
+seek a 7f
+seek a 6d 1.2.3.4:5
+seek a 6d 1.2.3.4:5 [000102030405060708090a0b0c0d0e0f]:65535
+unseek a 0
+unseek a 4294967295
+flow a 0 0 -
 flow a 4294967295 255 6d
 flow a 1 4 - 0
 flow a 1 4 00ff 18446744073709551615
@@ -212,6 +236,8 @@ fn lengths_are_so(alloc: Global) -> Result<bool, Fail> {
 const FIELDS: &str = "tick |a|1|16
 end a 0 0 |c|17|80
 open a b| 1.2.3.4:5|0|32
+seek a |7f|1|64
+seek a 6d| 1.2.3.4:5|0|32
 inject a 1.2.3.4:5 |00|1|2048
 forge a 1.2.3.4:5 |00|1|1164
 queue a 1 0 - - |00|1|1048824

@@ -105,6 +105,8 @@ pub enum Cause {
     Flow(FlowRefusal),
     AckBeyond(u64),
     CandidatesFull(usize),
+    AlreadyHeld(u32),
+    AttemptsSpent,
 }
 
 #[derive(Clone, Copy, Debug)]
@@ -136,6 +138,8 @@ pub struct Out {
 pub enum Entry {
     Fact(Fact),
     Closed { near: u32 },
+    Sought { near: u32, name: Vec<u8> },
+    Unsought { near: u32, why: Why },
     Moved { near: u32, to: Address },
     FlowOpened { near: u32, flow: u64 },
     Queued { near: u32, flow: u64, seq: u64, length: usize },
@@ -151,9 +155,15 @@ enum Stage {
     Keying { address: Address, cookie: Vec<u8> },
 }
 
+/// Whom an attempt is towards, and its number; or the name of the ends that are searched for.
+enum Aim {
+    AtPeer { peer: Print, n: u64 },
+    ByName(Vec<u8>),
+}
+
+/// An attempt, or a search.
 struct Attempt {
-    peer: Print,
-    n: u64,
+    aim: Aim,
     ni: Nonce,
     tag: [u8; 16],
     candidates: Vec<Address>,
@@ -192,6 +202,27 @@ struct Session {
     flows: Flows,
     /// The keying of a responder, which is sent again for a repeat.
     rikeying: Vec<u8>,
+}
+
+impl Attempt {
+    /// Its number, where it is no search.
+    fn number(&self) -> Option<u64> {
+        match self.aim {
+            Aim::AtPeer { n, .. } => Some(n),
+            Aim::ByName(_) => None,
+        }
+    }
+}
+
+/// The candidates, each once, in their order.
+fn each_once(list: &[Address]) -> Vec<Address> {
+    let mut candidates: Vec<Address> = Vec::new();
+    for place in list {
+        if !candidates.contains(place) {
+            candidates.push(*place);
+        }
+    }
+    candidates
 }
 
 #[derive(Clone, Copy, PartialEq)]
@@ -357,6 +388,11 @@ impl End {
         self.sessions.values().filter(|s| matches!(s.state, State::Open)).count()
     }
 
+    /// The session IDs of its attempts and searches.
+    pub fn begun(&self) -> Vec<u32> {
+        self.attempts.keys().copied().collect()
+    }
+
     /// The session IDs of its sessions, those that are closing among them.
     pub fn nears(&self) -> Vec<u32> {
         self.sessions.keys().copied().collect()
@@ -372,7 +408,7 @@ impl End {
             return Err(Refusal::OwnPrint);
         }
         match self.held(&peer) {
-            Held::Attempt(near) => return Err(Refusal::Opening(self.attempts[&near].n)),
+            Held::Attempt(near) => return Err(Refusal::Opening(self.number_of(near))),
             Held::Session(near) => return Err(Refusal::Open(near)),
             Held::Nothing => {}
         }
@@ -387,23 +423,43 @@ impl End {
         }
         let near = self.free_id(draws.word);
         self.started += 1;
-        let mut candidates: Vec<Address> = Vec::new();
-        for place in list {
-            if !candidates.contains(place) {
-                candidates.push(*place);
-            }
-        }
         let (n, ni) = (self.started, draws.nonce);
         self.hold(peer, Held::Attempt(near));
         out.push(Entry::Fact(Fact::Started { peer, n, near, ni }));
-        let attempt = Attempt { peer, n, ni, tag: draws.tag, candidates, stage: Stage::Hello, start: moment, sent: moment, gap: 0 };
+        self.begin(near, Aim::AtPeer { peer, n }, list, moment, draws, out);
+        Ok(())
+    }
+
+    /// Searches for an end with this name.
+    pub fn seek(&mut self, name: &[u8], list: &[Address], moment: u64, draws: &Draws, out: &mut Vec<Entry>) -> Result<(), Refusal> {
+        if list.is_empty() || list.len() > 16 {
+            return Err(Refusal::Candidates(list.len()));
+        }
+        if self.full() {
+            return Err(Refusal::SessionsFull(self.max_sessions));
+        }
+        let near = self.free_id(draws.word);
+        out.push(Entry::Sought { near, name: name.to_vec() });
+        self.begin(near, Aim::ByName(name.to_vec()), list, moment, draws, out);
+        Ok(())
+    }
+
+    fn begin(&mut self, near: u32, aim: Aim, list: &[Address], moment: u64, draws: &Draws, out: &mut Vec<Entry>) {
+        let (ni, tag, candidates) = (draws.nonce, draws.tag, each_once(list));
+        let attempt = Attempt { aim, ni, tag, candidates, stage: Stage::Hello, start: moment, sent: moment, gap: 0 };
         self.attempts.insert(near, attempt);
         self.send_attempt(near, out);
+    }
+
+    /// Gives a search up.
+    pub fn unseek(&mut self, near: u32, out: &mut Vec<Entry>) -> Result<(), Refusal> {
+        self.attempts.get(&near).filter(|a| a.number().is_none()).ok_or(Refusal::NoAttempt)?;
+        self.end_attempt(near, Why::Cancelled, out);
         Ok(())
     }
 
     pub fn cancel(&mut self, n: u64, out: &mut Vec<Entry>) -> Result<(), Refusal> {
-        let near = self.attempts.iter().find(|(_, a)| a.n == n).map(|(near, _)| *near).ok_or(Refusal::NoAttempt)?;
+        let near = self.attempts.iter().find(|(_, a)| a.number() == Some(n)).map(|(near, _)| *near).ok_or(Refusal::NoAttempt)?;
         self.end_attempt(near, Why::Cancelled, out);
         Ok(())
     }
@@ -694,7 +750,12 @@ impl End {
 
     fn take_hello(&mut self, epd: &[u8], tag: &[u8], to: Address, moment: u64, out: &mut Vec<Entry>) -> Result<(), Cause> {
         not_wide(tag)?;
-        if epd.len() != 33 || epd[0] != 1 || epd[1..] != self.print {
+        let selects = match epd {
+            [1, print @ ..] => print == self.print,
+            [2, name @ ..] => name == &self.cert[16..],
+            _ => false,
+        };
+        if !selects {
             return Err(Cause::NotSelected);
         }
         let mut payload = Vec::with_capacity(128);
@@ -765,13 +826,40 @@ impl End {
         if !matches!(attempt.stage, Stage::Hello) {
             return Err(Cause::WrongState);
         }
-        if sha256(cert) != attempt.peer {
-            return Err(Cause::WrongPeer);
+        let (near, print) = (*near, sha256(cert));
+        match &attempt.aim {
+            Aim::AtPeer { peer, .. } if *peer != print => return Err(Cause::WrongPeer),
+            Aim::AtPeer { .. } => {}
+            Aim::ByName(name) if cert[16..] != name[..] => return Err(Cause::WrongPeer),
+            Aim::ByName(_) => self.find(near, print, moment, out)?,
         }
+        let attempt = self.attempts.get_mut(&near).unwrap();
         attempt.stage = Stage::Keying { address: from, cookie: cookie.to_vec() };
         (attempt.sent, attempt.gap) = (moment, 0);
-        let near = *near;
         self.send_attempt(near, out);
+        Ok(())
+    }
+
+    /// A search has found an end, and becomes an attempt towards it.
+    fn find(&mut self, near: u32, peer: Print, moment: u64, out: &mut Vec<Entry>) -> Result<(), Cause> {
+        if peer == self.print {
+            return Err(Cause::OwnCertificate);
+        }
+        if let Held::Attempt(near) | Held::Session(near) = self.held(&peer) {
+            return Err(Cause::AlreadyHeld(near));
+        }
+        if self.started == u64::MAX {
+            return Err(Cause::AttemptsSpent);
+        }
+        if self.no_row_for(&peer) {
+            return Err(Cause::PeersFull(self.max_peers));
+        }
+        self.started += 1;
+        let n = self.started;
+        self.hold(peer, Held::Attempt(near));
+        let attempt = self.attempts.get_mut(&near).unwrap();
+        (attempt.aim, attempt.start) = (Aim::AtPeer { peer, n }, moment);
+        out.push(Entry::Fact(Fact::Started { peer, n, near, ni: attempt.ni }));
         Ok(())
     }
 
@@ -832,7 +920,7 @@ impl End {
         }
         if let Held::Attempt(near) = held {
             if self.print > peer {
-                return Err(Cause::Glare(self.attempts[&near].n));
+                return Err(Cause::Glare(self.number_of(near)));
             }
         }
         if self.no_row_for(&peer) {
@@ -866,16 +954,17 @@ impl End {
         if self.group.sign.of(&[keying.signed]) != keying.sign {
             return Err(Cause::BadSignature);
         }
+        let Aim::AtPeer { peer, n } = attempt.aim else { return Err(Cause::NoAttempt) };
         if matches!(attempt.stage, Stage::Hello) {
             return Err(Cause::WrongState);
         }
-        if keying.responder != attempt.peer {
+        if keying.responder != peer {
             return Err(Cause::WrongPeer);
         }
         if keying.ni != attempt.ni {
             return Err(Cause::NoAttempt);
         }
-        let (peer, n, ni) = (attempt.peer, attempt.n, attempt.ni);
+        let ni = attempt.ni;
         let joined = Joined { peer, n, near, far: keying.near, ni, nr: keying.nr, k: keying.k };
         self.attempts.remove(&near);
         let row = self.hold(peer, Held::Session(near));
@@ -925,10 +1014,19 @@ impl End {
     }
 
     fn end_attempt(&mut self, near: u32, why: Why, out: &mut Vec<Entry>) {
-        if let Some(attempt) = self.attempts.remove(&near) {
-            self.hold(attempt.peer, Held::Nothing);
-            out.push(Entry::Fact(Fact::Ended { near, why }));
+        match self.attempts.remove(&near).map(|attempt| attempt.aim) {
+            Some(Aim::AtPeer { peer, .. }) => {
+                self.hold(peer, Held::Nothing);
+                out.push(Entry::Fact(Fact::Ended { near, why }));
+            }
+            Some(Aim::ByName(_)) => out.push(Entry::Unsought { near, why }),
+            None => {}
         }
+    }
+
+    /// The number of an attempt that is held.
+    fn number_of(&self, near: u32) -> u64 {
+        self.attempts[&near].number().expect("nothing of a search is held")
     }
 
     /// A held session isn't any more; it may be closing.
@@ -1022,7 +1120,8 @@ impl End {
                 payload.extend_from_slice(&near.to_be_bytes());
                 put_counted(cookie, &mut payload);
                 put_counted(&self.cert, &mut payload);
-                put_counted(&[&attempt.ni[..], &attempt.n.to_be_bytes(), &attempt.peer].concat(), &mut payload);
+                let Aim::AtPeer { peer, n } = &attempt.aim else { unreachable!("a search sends no keying") };
+                put_counted(&[&attempt.ni[..], &n.to_be_bytes(), peer].concat(), &mut payload);
                 payload.extend_from_slice(&self.group.sign.of(&[&payload]));
                 self.send_startup(0, to, wire::IIKEYING, &payload, out);
             }
@@ -1032,7 +1131,13 @@ impl End {
     /// Sends the hello of an attempt to some addresses.
     fn send_hellos(&mut self, near: u32, list: &[Address], out: &mut Vec<Entry>) {
         let attempt = &self.attempts[&near];
-        let payload = [&[33, 1], &attempt.peer[..], &attempt.tag].concat();
+        let epd = match &attempt.aim {
+            Aim::AtPeer { peer, .. } => [&[1], &peer[..]].concat(),
+            Aim::ByName(name) => [&[2], &name[..]].concat(),
+        };
+        let mut payload = Vec::with_capacity(128);
+        put_counted(&epd, &mut payload);
+        payload.extend_from_slice(&attempt.tag);
         for to in list {
             self.send_startup(0, *to, wire::IHELLO, &payload, out);
         }

@@ -11,6 +11,8 @@ use std::collections::VecDeque;
 
 const MESSAGES: [u64; 8] = [0, 1, 3, 999, 1_000, 1_001, 2_500, 20_000];
 const PARTS: u64 = 100;
+/// What ends that are searched for are called: one of the names is the beginning of another.
+const NAMES: [&str; 3] = ["lamp", "lamps", "printer"];
 const RULES: [(Rule, Rule); 4] = [
     (Rule::Independent, Rule::Independent),
     (Rule::Independent, Rule::Dependent),
@@ -46,6 +48,16 @@ pub fn calls(seed: u64, steps: u64) -> Result<World, (StepFault, u64)> {
     let mut script = Script::new(seed, CALLERS);
     script.disorder = script.draw(40);
     let done = script.meet().and_then(|()| (0..steps).try_for_each(|_| script.call()));
+    done.map_err(|fault| (fault, script.line))?;
+    Ok(script.world)
+}
+
+/// A world of several ends that also search for each other by name, after a script of so many lines behind those of the
+/// ends. An end introduces, and all have few places for peers and sessions.
+pub fn names(seed: u64, steps: u64) -> Result<World, (StepFault, u64)> {
+    let mut script = Script::new(seed, CALLERS);
+    script.disorder = script.draw(30);
+    let done = script.meet_by_name().and_then(|()| (0..steps).try_for_each(|_| script.search()));
     done.map_err(|fault| (fault, script.line))?;
     Ok(script.world)
 }
@@ -130,6 +142,15 @@ impl Script {
             let cert = format!("a certificate of e{end}");
             self.step(Step::End { name: format!("e{end}"), max_peers: 16, max_sessions: 16, cert })
         })
+    }
+
+    fn meet_by_name(&mut self) -> Result<(), StepFault> {
+        for end in 0..self.ends {
+            let cert = format!("instance no. {end:03}{}", NAMES[end % NAMES.len()]);
+            let (max_peers, max_sessions) = (2 + self.draw(6) as usize, 3 + self.draw(6) as usize);
+            self.step(Step::End { name: format!("e{end}"), max_peers, max_sessions, cert })?;
+        }
+        self.step(Step::Introduce { end: 0 })
     }
 
     fn handshake(&mut self) -> Result<(), StepFault> {
@@ -265,6 +286,35 @@ impl Script {
             }
             9..=40 => self.bring_some(),
             _ => self.go_on(),
+        }
+    }
+
+    /// A step of ends that search for each other, or one of ends that call each other.
+    fn search(&mut self) -> Result<(), StepFault> {
+        let (end, peer) = (self.end(), self.end());
+        match self.draw(PARTS) {
+            0..=4 => {
+                let name = NAMES[self.draw(NAMES.len() as u64) as usize].as_bytes();
+                let name = if self.draw(12) == 0 { &name[1..] } else { name }.to_vec();
+                let list = (0..self.draw(4)).map(|_| address_of(self.end())).collect();
+                self.step(Step::Seek { end, name, list })
+            }
+            5 => {
+                let begun = self.world.ends[end].begun();
+                let place = self.draw(begun.len() as u64 + 1) as usize;
+                self.step(Step::Unseek { end, near: begun.get(place).copied().unwrap_or(7) })
+            }
+            6 if self.draw(3) == 0 => {
+                let list = (0..1 + self.draw(2)).map(|_| address_of(self.end())).collect();
+                self.step(Step::Redirect { end: 0, peer, list })
+            }
+            7 => {
+                let moment = self.world.moment + [20, 5_000, 20_000, 94_999][self.draw(4) as usize];
+                self.step(Step::At { moment })
+            }
+            8..=40 => self.bring_some(),
+            41..=46 => self.step(Step::Tick { end }),
+            _ => self.call(),
         }
     }
 

@@ -28,6 +28,10 @@ pub fn print_script(world: &World) {
             Step::Open { end, peer, list } => {
                 writeln!(out, "open {} {}{}", name(end), name(peer), places(list))
             }
+            Step::Seek { end, name: service, list } => write!(out, "seek {} ", name(end))
+                .and_then(|()| write_hex(&mut out, service))
+                .and_then(|()| writeln!(out, "{}", places(list))),
+            Step::Unseek { end, near } => writeln!(out, "unseek {} {near}", name(end)),
             Step::Cancel { end, n } => writeln!(out, "cancel {} {n}", name(end)),
             Step::Close { end, near } => writeln!(out, "close {} {near}", name(end)),
             Step::Deliver { number, end, from } => writeln!(out, "deliver {number} {} {}", name(end), At(*from)),
@@ -82,6 +86,12 @@ pub fn write_line(out: &mut impl Write, world: &World, line: &JournalLine, sent:
         match entry {
             Entry::Fact(fact) => write_fact(out, world, fact)?,
             Entry::Closed { near } => writeln!(out, "closed near={near}")?,
+            Entry::Sought { near, name } => {
+                write!(out, "sought near={near} name=")?;
+                write_hex(out, name)?;
+                writeln!(out)?;
+            }
+            Entry::Unsought { near, why } => writeln!(out, "unsought near={near} {}", why_text(*why))?,
             Entry::Moved { near, to } => writeln!(out, "moved near={near} {}", At(*to))?,
             Entry::Discard { place, cause } => writeln!(out, "drop {place} {}", cause_text(cause))?,
             Entry::FlowOpened { near, flow } => writeln!(out, "flow near={near} id={flow}")?,
@@ -176,19 +186,20 @@ fn write_fact(out: &mut impl Write, world: &World, fact: &Fact) -> io::Result<()
         Fact::Born(j) => write_joined(out, world, "born", j),
         Fact::Opened(j) => write_joined(out, world, "opened", j),
         Fact::Confirmed { near } => writeln!(out, "confirmed near={near}"),
-        Fact::Ended { near, why } => {
-            let why = match why {
-                Why::Cancelled => "cancelled",
-                Why::Expired => "expired",
-                Why::Glare => "glare",
-                Why::Override => "override",
-                Why::Unconfirmed => "unconfirmed",
-                Why::Near => "near",
-                Why::Far => "far",
-                Why::Idle => "idle",
-            };
-            writeln!(out, "ended near={near} {why}")
-        }
+        Fact::Ended { near, why } => writeln!(out, "ended near={near} {}", why_text(*why)),
+    }
+}
+
+fn why_text(why: Why) -> &'static str {
+    match why {
+        Why::Cancelled => "cancelled",
+        Why::Expired => "expired",
+        Why::Glare => "glare",
+        Why::Override => "override",
+        Why::Unconfirmed => "unconfirmed",
+        Why::Near => "near",
+        Why::Far => "far",
+        Why::Idle => "idle",
     }
 }
 
@@ -264,5 +275,7 @@ fn cause_text(cause: &Cause) -> String {
         Cause::Flow(FlowRefusal::BeyondBuffer(n)) => format!("beyond-buffer {n}"),
         Cause::AckBeyond(n) => format!("ack-beyond {n}"),
         Cause::CandidatesFull(n) => format!("candidates-full {n}"),
+        Cause::AlreadyHeld(near) => format!("already-held {near}"),
+        Cause::AttemptsSpent => "attempts-spent".into(),
     }
 }

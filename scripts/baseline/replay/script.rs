@@ -28,6 +28,11 @@ fn step(world: &World, word: &str, rest: &str) -> Option<Step> {
             let (end, peer) = (end(words.next())?, end(words.next())?);
             Step::Open { end, peer, list: words.by_ref().map(address).collect::<Option<_>>()? }
         }
+        "seek" => {
+            let (end, name) = (end(words.next())?, bytes(words.next()?).filter(|name| is_service(name))?);
+            Step::Seek { end, name, list: words.by_ref().map(address).collect::<Option<_>>()? }
+        }
+        "unseek" => Step::Unseek { end: end(words.next())?, near: number(words.next()?)? },
         "cancel" => Step::Cancel { end: end(words.next())?, n: number(words.next()?)? },
         "close" => Step::Close { end: end(words.next())?, near: number(words.next()?)? },
         "deliver" => {
@@ -95,6 +100,11 @@ fn host(text: &str) -> Option<[u8; 4]> {
 fn name(word: &str) -> Option<String> {
     let is_name = (1..=16).contains(&word.len()) && word.bytes().all(|x| x.is_ascii_lowercase() || x.is_ascii_digit());
     is_name.then(|| word.to_owned())
+}
+
+/// The name of a service.
+fn is_service(name: &[u8]) -> bool {
+    (1..=64).contains(&name.len()) && name.is_ascii()
 }
 
 /// A number without leading zeros.
