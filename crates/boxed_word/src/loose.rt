@@ -1,0 +1,41 @@
+//! A box that is taken apart, so that a place can hold it that can't hold a box.
+
+ghost use Rattle.std.specs.Prelude.{◌≡◌};
+ghost use Rattle.std.specs.Box.Ownership.{box_owns};
+
+use std::alloc::Allocator;
+use std::marker::Model;
+
+/// The parts of a box: where its value stands, and the allocator that frees it (own).
+///
+/// It owns the value and the block, as the box did, and contracts see the value. It has no drop of
+/// its own: who lets its parts go lets the block leak.
+pub struct Loose<T, A: Allocator> {
+    pub at: *mut T,
+    pub alloc: A,
+    pub ghost value: { T },
+}
+
+impl<T, A: Allocator> Model for Loose<T, A> {
+    ghost also_owns = { λ l. box_owns (A.dealloc_token l.alloc) T.row l.at l.value };
+}
+
+impl<T, A: Allocator> Loose<T, A> {
+    /// The parts of a box. It takes no memory and frees none.
+    pub fn of(whole: Box<T, A>) -> Loose<T, A>
+    where
+        T: Drop,
+        ensures { result.value ≡ whole.value }
+    {
+        let (at, alloc) = Box::into_raw_with_allocator(whole);
+        Loose { at, alloc }
+    }
+
+    /// The box again.
+    pub fn into_box(self) -> Box<T, A>
+        ensures { result.value ≡ self.value }
+    {
+        let Loose { at, alloc } = self;
+        unsafe { Box::from_raw(alloc, at) }
+    }
+}
