@@ -1,0 +1,4 @@
+pub mod Going
+pub mod Handles
+pub mod Making
+pub mod Owning
