@@ -292,8 +292,9 @@ int32_t rtmfp_introduce(rtmfp_end *end);
  * RTMFP_E_EMPTY. */
 int32_t rtmfp_keeps(rtmfp_end *end, const uint8_t print[32]);
 
-/* Takes a datagram, which it deciphers in place: the bytes are changed. What is refused of it is
- * told by RTMFP_DISCARD, and is no error. */
+/* Takes a datagram, which it deciphers in place: the bytes are changed, but where it answers
+ * RTMFP_E_TOO_LONG or RTMFP_E_ADDRESS. After RTMFP_E_MEMORY it may be called again with a copy of the
+ * bytes as they came. What is refused of a datagram is told by RTMFP_DISCARD, and is no error. */
 int32_t rtmfp_receive(rtmfp_end *end, const rtmfp_address *from, uint64_t moment, uint8_t *datagram, size_t len,
                       const rtmfp_draws *draws);
 
