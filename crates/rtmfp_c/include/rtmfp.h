@@ -32,7 +32,8 @@
  *              length is 0. What a pointer that isn't `const` leads to is reached by no other
  *              argument of the call. What a call writes to is initialised memory.
  *   Entries    `data` of an entry stays valid until the next call with the same end, other than
- *              rtmfp_entries, rtmfp_entry_at, rtmfp_entry_bytes and rtmfp_keeps. Don't write there, don't free it.
+ *              rtmfp_entries, rtmfp_entry_at, rtmfp_entry_bytes and rtmfp_keeps. Don't write there,
+ *              don't free it.
  *   Draws      Fresh for each call, from a cryptographic source: who foresees them can forge.
  *   Threads    No two calls at a time with one end, nor an end in two threads: make, use and free
  *              it in one thread. Different ends are independent: the library has no globals.
@@ -307,8 +308,8 @@ size_t rtmfp_entries(rtmfp_end *end);
 /* Writes one of them, in their order: RTMFP_OK, RTMFP_E_INDEX or RTMFP_E_EMPTY. */
 int32_t rtmfp_entry_at(rtmfp_end *end, size_t index, rtmfp_entry *entry);
 
-/* Copies the bytes of one of them, for a program that wants to keep them: into room of just `len` of the
- * entry, else RTMFP_E_SIZE. */
+/* Copies the bytes of one of them, for a program that wants to keep them, into room of just `len` of
+ * the entry: RTMFP_OK, RTMFP_E_SIZE, RTMFP_E_INDEX or RTMFP_E_EMPTY. */
 int32_t rtmfp_entry_bytes(rtmfp_end *end, size_t index, uint8_t *room, size_t len);
 
 /* Drops the entries, and nothing else: RTMFP_OK or RTMFP_E_EMPTY. */
