@@ -8,7 +8,7 @@ use Rattle.crypto_profile.specs.Sealing.{number_of, sealed, NumberFits, Opens}
 use Rattle.glare_core.specs.declared.facts.Joined.{Joined}
 use Rattle.session_core.specs.declared.stage.Role.{Role}
 use Rattle.session_core.specs.declared.stage.Role.TheVariants.{Initiator, Responder}
-use Rattle.session_core.specs.Session.{SessionState, IsKeyed, context_between, context_of, new_session_under}
+use Rattle.session_core.specs.Session.{SessionState, IsKeyed, context_between, context_of, new_session}
 use Rattle.session_core.specs.Hearing.{opens_in, OpensBy, OpensInItsContext}
 use Rattle.session_core.proofs.Hears.{opens_some_plain, opens_this_plain}
 
@@ -43,7 +43,7 @@ opens_in_its_context secret s part plain keyed = in_context secret s keyed.towar
 
 -- a new one
 pub keyed_begun : {secret group : List ℕ} → secret ≡ group → (generation : ℕ) (j : Joined) (own : List ℕ) (role : Role) (from : AddressParts) (moment : ℕ) →
-    IsKeyed group (new_session_under generation j own role from secret moment)
+    IsKeyed group (new_session j own role from generation secret moment)
 keyed_begun same generation j own role from moment = record {
   towards = ap (λ (secret : List ℕ). keys_of secret (context_between generation j own role false)) same;
   away = ap (λ (secret : List ℕ). keys_of secret (context_between generation j own role true)) same;

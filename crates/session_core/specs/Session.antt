@@ -75,9 +75,10 @@ abbrev pub first_stage : Role → Stage
 first_stage Initiator = Open
 first_stage Responder = Opening
 
--- under a group secret of a generation, of which it keeps its keys alone
-abbrev pub new_session_under : ℕ → Joined → List ℕ → Role → AddressParts → List ℕ → ℕ → SessionState
-new_session_under generation joined own role address secret begun = record {
+-- begun with the peer at an address, under the group's secret of a generation, of which it keeps
+-- its keys alone
+abbrev pub new_session : Joined → List ℕ → Role → AddressParts → ℕ → List ℕ → ℕ → SessionState
+new_session joined own role address generation secret begun = record {
   joined = joined;
   own = own;
   role = role;
@@ -96,11 +97,6 @@ new_session_under generation joined own role address secret begun = record {
   trip = None;
   congestion = first_congestion;
 }
-
--- under the first group secret
-abbrev pub new_session : Joined → List ℕ → Role → AddressParts → List ℕ → ℕ → SessionState
-new_session joined own role address secret begun =
-    new_session_under 0 joined own role address secret begun
 
 -- ---- confirming
 

@@ -195,13 +195,14 @@ pub fn a_number_begins_with_8_zero_bytes()
         ≡ sealed_before (2 ^ 64 - 1) s }
 {}
 
-/// A new session is open at the initiator and half-open at the responder. Its birth counts as a
-/// datagram taken, and it has sent no close and no keepalive.
+/// A new session is open at the initiator and half-open at the responder, in each generation. Its
+/// birth counts as a datagram taken, and it has sent no close and no keepalive.
 pub fn a_session_begins_open_at_the_initiator_alone()
     ensures initiator { first_stage Initiator ≡ Open }
     ensures responder { first_stage Responder ≡ Opening }
     ensures begun { (j : Joined) (own : List ℕ) (role : Role) (at : AddressParts)
-        (secret : List ℕ) → HasBegun 1000 (new_session j own role at secret 1000) }
+        (generation : ℕ) (secret : List ℕ) →
+        HasBegun 1000 (new_session j own role at generation secret 1000) }
 {}
 
 /// The first datagram confirms a half-open session, and no session again.

@@ -2,7 +2,7 @@
 
 ghost use Rattle.std.specs.Prelude.{◌≡◌, ◌↔◌, ◌+◌, ◌<◌, ◌^◌, IsTrue, List, ℕ, false, true, is_none, ◌≤◌, length, IfSome};
 ghost use Rattle.rtmfp_base.specs.Reasons.{where_true};
-ghost use Rattle.session_core.specs.Session.{SessionState, context_between, context_of, first_stage, new_session, new_session_under, is_opening, confirmed, mode_of, head_at, with_stamps, moved_to};
+ghost use Rattle.session_core.specs.Session.{SessionState, context_between, context_of, first_stage, new_session, is_opening, confirmed, mode_of, head_at, with_stamps, moved_to};
 ghost use Rattle.session_core.specs.Closing.{is_held, is_near_close, closed_near, asked_to_close, close_answered, first_due, after_due, needs_keepalive, kept_alive, with_acknowledged, with_loss};
 ghost use Rattle.session_core.specs.Deadline.{deadline};
 ghost use Rattle.session_core.specs.Congestion.{IsCongestion};
@@ -151,23 +151,26 @@ fn mode_of(role: Role) -> Mode
 }
 
 impl Session {
-    /// A session that was born or opened at a moment, with the peer at this address. Opening counts
-    /// as a datagram taken.
+    /// A session that was born or opened at a moment, with the peer at this address, under the
+    /// group's secret of a generation. It keeps its keys, and stays in its generation (own).
+    /// Opening counts as a datagram taken.
     pub fn new(
         joined: &Joined,
         own: &[u8; 32],
         role: Role,
         address: Address,
+        generation: u64,
         secret: &[u8; 32],
         moment: u64,
     ) -> Session
-        ensures { result ≡ new_session joined.now own.now role address secret.now moment }
+        ensures { result ≡ new_session joined.now own.now role address generation
+            secret.now moment }
     {
-        Session::under(joined, own, role, address, &HmacKey::of(secret), 0, moment)
+        let hashed = HmacKey::of(secret);
+        Session::under(joined, own, role, address, &hashed, generation, moment)
     }
 
-    /// The same under a group secret of this generation, which was hashed before. The session keeps
-    /// its keys, and stays in its generation (own).
+    /// The same under a secret that was hashed before (own).
     pub fn under(
         joined: &Joined,
         own: &[u8; 32],
@@ -177,7 +180,7 @@ impl Session {
         generation: u64,
         moment: u64,
     ) -> Session
-        ensures { result ≡ new_session_under generation joined.now own.now role address
+        ensures { result ≡ new_session joined.now own.now role address generation
             secret.now moment }
     {
         Session {
