@@ -100,6 +100,15 @@ rikeying_signed key near nr k own ni =
     RIKeying near (responder_part nr k own ni)
     (signature_by key (payload_bytes (RIKeying near (responder_part nr k own ni) []))))
 
+-- the signature of a responder's keying alone, and the packet of one with a signature
+abbrev pub rikeying_signature : List ℕ → ℕ → List ℕ → ℕ → List ℕ → List ℕ → List ℕ
+rikeying_signature key near nr k own ni =
+    signature_by key (payload_bytes (RIKeying near (responder_part nr k own ni) []))
+
+unfoldable pub rikeying_with : ℕ → List ℕ → ℕ → List ℕ → List ℕ → List ℕ → List ℕ
+rikeying_with near nr k own ni sign =
+    startup_packet (RIKeying near (responder_part nr k own ni) sign)
+
 -- under the group secret: the own session ID, cookie and certificate, the nonce and the number of
 -- the attempt, and the fingerprint of the end that is called
 abbrev pub iikeying_packet : List ℕ → ℕ → List ℕ → List ℕ → List ℕ → ℕ → List ℕ → List ℕ

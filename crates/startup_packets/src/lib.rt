@@ -10,7 +10,7 @@ mod reading;
 
 pub use packets::{
     cookiechange_packet, ihello_packet, iikeying_packet, redirect_packet, rhello_packet,
-    rikeying_packet,
+    rikeying_packet, rikeying_signature,
 };
 pub use parts::{InitiatorPart, ResponderPart, is_signed};
 pub use reading::{

@@ -1,14 +1,14 @@
 //! The plain packets of session startup: the flags, and one chunk (own profile over RFC 7016
 //! section 2.3).
 
-ghost use Rattle.std.specs.Prelude.{◌≡◌, ◌≤◌, ◌+◌, ◌++◌, ◌∷◌, [], length};
+ghost use Rattle.std.specs.Prelude.{ℕ, List, ◌≡◌, ◌≤◌, ◌+◌, ◌++◌, ◌∷◌, [], length};
 ghost use Rattle.std.specs.Int.{to_be_bytes};
 ghost use Rattle.rtmfp_forms.specs.Address.{AddressSpells, address_bytes};
 ghost use Rattle.rtmfp_forms.specs.Outgoing.{packet_limit};
 ghost use Rattle.rtmfp_chunks.specs.Chunk.{chunk_of, IIKeying, RIKeying};
 ghost use Rattle.rtmfp_chunks.specs.Fields.{AreAddresses};
 ghost use Rattle.rtmfp_chunks.specs.Writing.{IsWritable, payload_bytes};
-ghost use Rattle.startup_packets.specs.Packets.{startup_packet, ihello_packet, rhello_packet, cookiechange_packet, initiator_part, responder_part, signature_by, iikeying_signed, rikeying_signed};
+ghost use Rattle.startup_packets.specs.Packets.{startup_packet, ihello_packet, rhello_packet, cookiechange_packet, initiator_part, responder_part, signature_by, iikeying_signed, rikeying_signature, rikeying_signed, rikeying_with};
 ghost use Rattle.startup_packets.specs.Packets.{addresses_bytes, redirect_packet};
 
 use crypto_profile::HmacKey;
@@ -165,34 +165,44 @@ fn initiator_part(ni: &[u8; 16], n: u64, responder: &[u8; 32]) -> [u8; 56]
     part
 }
 
-/// The responder's keying (RFC 7016 section 2.3.8), signed under the signature key.
-#[tactic(auto, unfolding(crate::specs::Packets::rikeying_signed))]
+/// The responder's keying (RFC 7016 section 2.3.8) with a signature that was made of these fields.
+#[tactic(auto, unfolding(crate::specs::Packets::rikeying_signed, crate::specs::Packets::rikeying_with))]
 pub fn rikeying_packet(
+    near: u32,
+    nr: &[u8; 16],
+    k: u64,
+    own: &[u8; 32],
+    ni: &[u8; 16],
+    sign: &[u8; 32],
+) -> Outgoing
+    ensures packet { result ≡ rikeying_with near nr.now k own.now ni.now sign.now }
+    ensures signed { (key : List ℕ) →
+        sign.now ≡ rikeying_signature key near nr.now k own.now ni.now →
+        result ≡ rikeying_signed key near nr.now k own.now ni.now }
+{
+    let part = responder_part(nr, k, own, ni);
+    packet_of(&ChunkView::RIKeying {
+        near,
+        part: &part,
+        sign,
+    })
+}
+
+/// The signature of a responder's keying with these fields, under the signature key.
+pub fn rikeying_signature(
     key: &HmacKey,
     near: u32,
     nr: &[u8; 16],
     k: u64,
     own: &[u8; 32],
     ni: &[u8; 16],
-) -> Outgoing
-    ensures { result ≡ rikeying_signed key.now near nr.now k own.now ni.now }
+) -> [u8; 32]
+    ensures { result ≡ rikeying_signature key.now near nr.now k own.now ni.now }
 {
     let part = responder_part(nr, k, own, ni);
-    let sign = rikeying_signature(key, near, &part);
-    packet_of(&ChunkView::RIKeying {
-        near,
-        part: &part,
-        sign: &sign,
-    })
-}
-
-/// The signature of a responder's keying with these fields.
-fn rikeying_signature(key: &HmacKey, near: u32, part: &[u8; 72]) -> [u8; 32]
-    ensures { result ≡ signature_by key.now (payload_bytes (RIKeying near part.now [])) }
-{
     let unsigned = packet_of(&ChunkView::RIKeying {
         near,
-        part,
+        part: &part,
         sign: &[],
     });
     key.hmac(&unsigned.bytes()[HEAD_LEN..])
