@@ -1,10 +1,11 @@
 -- Which attempts are chosen.
-use Rattle.std.proofs.Common.{ℕ, ◌≡◌, true, List, [], ◌∷◌, Option, Some, None, is_some, sym, ap, ◌∙◌, refl}
+use Rattle.std.proofs.Common.{ℕ, ◌≡◌, true, false, not, List, [], ◌∷◌, Option, Some, None, is_some, sym, ap, ◌∙◌, refl}
 use Rattle.std.specs.FinMap.{get}
 use Rattle.rtmfp_base.specs.Reasons.{first_that_stands, where_true}
 use Rattle.rtmfp_base.specs.declared.cause.Cause.{Cause}
 use Rattle.startup.specs.State.{AttemptState, Attempts}
-use Rattle.startup.specs.Attempts.{has_cookie, if_cookie, changed, wide, none_to_change, change_cause_among}
+use Rattle.startup.specs.Attempts.{has_cookie, if_cookie, changed, wide, is_under, none_to_change, change_cause_among}
+use Rattle.rtmfp_base.specs.declared.cause.Cause.TheVariants.{NoAttempt}
 use Rattle.startup.specs.declared.rows.FoundAttempt.{FoundAttempt}
 use Rattle.startup.specs.Sought.{IsChosen, IsChosenAt}
 use Rattle.startup.specs.declared.leaving.Found.{Found}
@@ -29,11 +30,27 @@ none_stands None None (Some w) x y z = absurd (cc)
 none_stands None (Some v) c x y z = absurd (cc)
 none_stands (Some u) b c x y z = absurd (cc)
 
--- no cause stands where an attempt is chosen
-pub change_stands : (attempts : Attempts) (sid : ℕ) (old new : List ℕ) (near : ℕ) → wide old ≡ None → wide new ≡ None →
-    IsChosenAt (changed attempts sid old) attempts near → change_cause_among attempts sid old new ≡ None
-change_stands attempts sid old new near narrow_old narrow_new chosen =
-    none_stands (wide old) (wide new) (none_to_change (changed attempts sid old)) narrow_old narrow_new (ap none_to_change chosen.chosen_is)
+third_is : (a b c : Option Cause) → a ≡ None → b ≡ None → first_that_stands (a ∷ b ∷ c ∷ []) ≡ c
+third_is None None None x y = refl
+third_is None None (Some w) x y = refl
+third_is None (Some v) c x y = absurd (cc)
+third_is (Some u) b c x y = absurd (cc)
+
+-- where an attempt is chosen, it is the generation that counts
+module _ (attempts : Attempts) (sid : ℕ) (old new : List ℕ) (generation near : ℕ) (a : AttemptState) (narrow_old : wide old ≡ None) (narrow_new : wide new ≡ None)
+    (chosen : IsChosenAt (changed attempts sid old) attempts near) (there : get attempts near ≡ Some a) where
+  chosen_one : none_to_change generation (changed attempts sid old) ≡ where_true (not (is_under generation a.stage)) NoAttempt
+  chosen_one = ap (none_to_change generation) chosen.chosen_is ∙ ap (λ (b : AttemptState). where_true (not (is_under generation b.stage)) NoAttempt) (got_is attempts near chosen.attempt a chosen.there there)
+
+  pub change_stands : is_under generation a.stage ≡ true → change_cause_among attempts sid old new generation ≡ None
+  change_stands under =
+      none_stands (wide old) (wide new) (none_to_change generation (changed attempts sid old)) narrow_old narrow_new
+      (chosen_one ∙ ap (λ b. where_true (not b) NoAttempt) under)
+
+  pub change_refused : is_under generation a.stage ≡ false → change_cause_among attempts sid old new generation ≡ Some NoAttempt
+  change_refused other =
+      third_is (wide old) (wide new) (none_to_change generation (changed attempts sid old)) narrow_old narrow_new
+      ∙ chosen_one ∙ ap (λ b. where_true (not b) NoAttempt) other
 
 -- something is chosen exactly where an attempt is found
 pub chosen_or_none : (chosen : Option (ℕ × AttemptState)) (attempts : Attempts) (found : Option FoundAttempt) → IsChosen chosen attempts found → is_some found ≡ is_some chosen

@@ -2,6 +2,7 @@
 use Rattle.std.proofs.Common.{ℕ, List, [], ◌∷◌, ◌≡◌, ◌+◌, ◌==◌, ◌-◌, ◌^◌, ◌||◌, not, drop, Bool, true, false, Option, Some, None, refl, sym, ap, ◌∙◌}
 use Rattle.std.specs.Str.{bytes_eq}
 use Rattle.sha2.specs.Sha256.{sha256}
+use Rattle.crypto_profile.specs.declared.group.GroupSecret.{GroupSecret}
 use Rattle.rtmfp_forms.specs.Address.{AddressParts}
 use Rattle.rtmfp_base.specs.Reasons.{first_that_stands, where_true}
 use Rattle.rtmfp_base.specs.declared.cause.Cause.{Cause}
@@ -16,7 +17,7 @@ use Rattle.startup.specs.declared.aim.Aim.TheVariants.{AtPeer, ByName}
 use Rattle.startup.specs.declared.attempt.Stage.{Stage}
 use Rattle.startup.specs.declared.attempt.Stage.TheVariants.{Hello, Keying}
 use Rattle.startup.specs.Aims.{is_search, is_towards}
-use Rattle.startup.specs.State.{AttemptState, StartupState, FitsStage}
+use Rattle.startup.specs.State.{AttemptState, StartupState}
 use Rattle.startup.specs.Keyings.{attempt_cause, is_in_hello}
 use Rattle.startup.specs.declared.leaving.Found.{Found}
 use Rattle.startup.specs.declared.leaving.Greeting.{Greeting}
@@ -118,7 +119,7 @@ search_spent s name cert named other is =
 -- an attempt that is found has this cause, and so a search that isn't discarded may start
 cause_there : (s : StartupState) (stage : Stage) (aim : Aim) (name cert : List ℕ) → aim ≡ ByName name → hello_cause s stage aim cert ≡ None → search_cause s name cert ≡ None
 cause_there s Hello aim name cert searches none = sym (ap (λ (x : Aim). aim_cause s x cert) searches) ∙ none
-cause_there s (Keying at cookie) aim name cert searches none = absurd (cc)
+cause_there s (Keying at cookie under) aim name cert searches none = absurd (cc)
 
 pub may_start : (s : StartupState) (a : AttemptState) (name cert : List ℕ) → s.ledger.own ≡ sha256 s.cert → a.aim ≡ ByName name → hello_cause s a.stage a.aim cert ≡ None → start_refusal s.ledger (sha256 cert) ≡ None
 may_start s a name cert own searches none = startable s name cert own (cause_there s a.stage a.aim name cert searches none)
@@ -132,12 +133,6 @@ searched (Some a) e = (a, refl, e)
 pub found_search : (s : StartupState) (found : Found) (chosen : Option (ℕ × AttemptState)) → IsFound s found chosen → has_search s found.near ≡ true → is_search_at chosen ≡ true
 found_search s found chosen is has = ap is_search_at is.chosen_is ∙ ap is_search_in (sym is.there) ∙ has
 
--- what sends keyings is no search
-pub keys_no_search : (aim : Aim) (stage : Stage) (at : AddressParts) (cookie : List ℕ) → stage ≡ Keying at cookie → FitsStage aim stage → is_search aim ≡ false
-keys_no_search (AtPeer peer n) stage at cookie keys fits = refl
-keys_no_search (ByName name) Hello at cookie keys fits = absurd (cc)
-keys_no_search (ByName name) (Keying to old) at cookie keys fits = absurd fits
-
 -- ---- what is found is answered, by what it is towards
 
 module _ (s : StartupState) (print : List ℕ) (found : Found) (chosen : Option (ℕ × AttemptState)) (is : IsFound s found chosen) where
@@ -145,25 +140,25 @@ module _ (s : StartupState) (print : List ℕ) (found : Found) (chosen : Option 
     pub towards_fact : answer_fact s print chosen ≡ None
     towards_fact = ap (answer_fact s print) is.chosen_is ∙ ap (answer_fact_as s print found.near is.attempt.ni) aims
 
-    pub towards_keying : (from : AddressParts) (cookie : List ℕ) → answer_keying s print chosen from cookie ≡ Some (keying_towards s found.near is.attempt.ni peer n from cookie)
-    towards_keying from cookie =
-        ap (λ o. answer_keying s print o from cookie) is.chosen_is ∙ ap (λ (aim : Aim). Some (answer_keying_as s print found.near is.attempt.ni from cookie aim)) aims
+    pub towards_keying : (from : AddressParts) (cookie : List ℕ) (g : GroupSecret) → answer_keying s print chosen from cookie g ≡ Some (keying_towards s found.near is.attempt.ni peer n from cookie g)
+    towards_keying from cookie g =
+        ap (λ o. answer_keying s print o from cookie g) is.chosen_is ∙ ap (λ (aim : Aim). Some (answer_keying_as s print found.near is.attempt.ni from cookie g aim)) aims
 
-    pub towards_after : (from : AddressParts) (cookie : List ℕ) (moment : ℕ) → after_answer s print chosen from cookie moment ≡ with_attempt s found.near (answered is.attempt from cookie moment)
-    towards_after from cookie moment =
-        ap (λ o. after_answer s print o from cookie moment) is.chosen_is ∙ ap (λ (aim : Aim). after_answer_as s print (found.near, is.attempt) from cookie moment aim) aims
+    pub towards_after : (from : AddressParts) (cookie : List ℕ) (moment : ℕ) (g : GroupSecret) → after_answer s print chosen from cookie moment g ≡ with_attempt s found.near (answered is.attempt from cookie moment g)
+    towards_after from cookie moment g =
+        ap (λ o. after_answer s print o from cookie moment g) is.chosen_is ∙ ap (λ (aim : Aim). after_answer_as s print (found.near, is.attempt) from cookie moment g aim) aims
 
   module _ (name : List ℕ) (aims : is.attempt.aim ≡ ByName name) where
     pub search_fact : answer_fact s print chosen ≡ Some (started_fact s.ledger print found.near is.attempt.ni)
     search_fact = ap (answer_fact s print) is.chosen_is ∙ ap (answer_fact_as s print found.near is.attempt.ni) aims
 
-    pub search_keying : (from : AddressParts) (cookie : List ℕ) → answer_keying s print chosen from cookie ≡ Some (keying_towards s found.near is.attempt.ni print (s.ledger.started + 1) from cookie)
-    search_keying from cookie =
-        ap (λ o. answer_keying s print o from cookie) is.chosen_is ∙ ap (λ (aim : Aim). Some (answer_keying_as s print found.near is.attempt.ni from cookie aim)) aims
+    pub search_keying : (from : AddressParts) (cookie : List ℕ) (g : GroupSecret) → answer_keying s print chosen from cookie g ≡ Some (keying_towards s found.near is.attempt.ni print (s.ledger.started + 1) from cookie g)
+    search_keying from cookie g =
+        ap (λ o. answer_keying s print o from cookie g) is.chosen_is ∙ ap (λ (aim : Aim). Some (answer_keying_as s print found.near is.attempt.ni from cookie g aim)) aims
 
-    pub search_after : (from : AddressParts) (cookie : List ℕ) (moment : ℕ) → after_answer s print chosen from cookie moment ≡ after_start s print found.near is.attempt from cookie moment
-    search_after from cookie moment =
-        ap (λ o. after_answer s print o from cookie moment) is.chosen_is ∙ ap (λ (aim : Aim). after_answer_as s print (found.near, is.attempt) from cookie moment aim) aims
+    pub search_after : (from : AddressParts) (cookie : List ℕ) (moment : ℕ) (g : GroupSecret) → after_answer s print chosen from cookie moment g ≡ after_start s print found.near is.attempt from cookie moment g
+    search_after from cookie moment g =
+        ap (λ o. after_answer s print o from cookie moment g) is.chosen_is ∙ ap (λ (aim : Aim). after_answer_as s print (found.near, is.attempt) from cookie moment g aim) aims
 
     pub has_it : has_search s found.near ≡ true
     has_it = ap is_search_in is.there ∙ ap is_search aims

@@ -79,15 +79,15 @@ module _ (word : AttemptState → Option ℕ) (words : Words) (attempts : Attemp
 
 -- the number that an attempt has after a change is the one that it got, or the one that it had
 pub number_after : (change : Change) (moment : ℕ) (a : AttemptState) (w : ℕ) → number_word (change_of change moment a) ≡ Some w → (number_got change ≡ Some w) ⊎ (number_word a ≡ Some w)
-number_after (Answered from cookie) moment a w has = inr has
-number_after (Met peer n from cookie) moment a w has = inl has
+number_after (Answered from cookie under) moment a w has = inr has
+number_after (Met peer n from cookie under) moment a w has = inl has
 number_after (Recookied new) moment a w has = inr has
 number_after (Extended new) moment a w has = inr has
 number_after Repeated moment a w has = inr has
 
 pub tag_stays : (change : Change) (moment : ℕ) (a : AttemptState) → tag_word (change_of change moment a) ≡ tag_word a
-tag_stays (Answered from cookie) moment a = refl
-tag_stays (Met peer n from cookie) moment a = refl
+tag_stays (Answered from cookie under) moment a = refl
+tag_stays (Met peer n from cookie under) moment a = refl
 tag_stays (Recookied new) moment a = refl
 tag_stays (Extended new) moment a = refl
 tag_stays Repeated moment a = refl

@@ -19,10 +19,11 @@ use Rattle.startup.specs.declared.aim.Aim.TheVariants.{AtPeer, ByName}
 use Rattle.startup.specs.declared.attempt.Stage.{Stage}
 use Rattle.startup.specs.Aims.{peer_of_aim, IsHeldAs, end_of_aim}
 use Rattle.startup.specs.declared.attempt.Stage.TheVariants.{Hello, Keying}
-use Rattle.startup.specs.State.{AttemptState, Attempts, StartupState, FitsStage, IsSound, peer_of_attempt}
-use Rattle.startup.specs.Attempts.{lowest, has_cookie, with_ledger, with_attempt, without_attempt_by, begun_attempt, after_begin, begun_search, after_seek, after_start, met, after_confirm, session_in, after_end, is_cookie_of, with_cookie, again_signed, if_cookie, changed}
+use Rattle.crypto_profile.specs.declared.group.GroupSecret.{GroupSecret}
+use Rattle.startup.specs.State.{AttemptState, Attempts, KeptKeyings, StartupState, FitsStage, AreKept, IsSound, is_born_here, peer_of_attempt}
+use Rattle.startup.specs.Attempts.{lowest, has_cookie, with_ledger, with_attempt, without_attempt_by, begun_attempt, after_begin, begun_search, after_seek, after_start, met, after_confirm, session_in, after_end, after_end_by, is_cookie_of, with_cookie, again_under, if_cookie, changed}
 use Rattle.startup.specs.Keyings.{opening_id, without}
-use Rattle.startup.proofs.Stepping.{held_after, held_after_own, sound_after}
+use Rattle.startup.proofs.Stepping.{held_after, held_after_own, kept_stays, kept_taken, sound_after}
 
 -- ---- an attempt that is chosen is there
 
@@ -92,6 +93,7 @@ started_is_sound s peer near a sound aims free unheld =
               | inr is ↦ ap peer_of_attempt (get_beside s.attempts near a k is.0) ∙ at
             ]
       ];
+      kept = kept_stays s.ledger s.kept fact sound.kept (ap is_born_here (held_after_own s.ledger fact) ∙ sym (ap is_born_here unheld));
     }
 
 -- They do after an attempt has begun, under a near id that no attempt has, with a peer with which nothing is held.
@@ -127,6 +129,7 @@ sought_is_sound s name candidates near ni tag moment sound free =
             | inl is ↦ absurd (none_is_some q (peer_of_attempt (get s.attempts k)) (ap (λ (i : ℕ). peer_of_attempt (get s.attempts i)) is.0 ∙ ap peer_of_attempt free) at)
             | inr is ↦ ap peer_of_attempt (get_beside s.attempts near a k is.0) ∙ at
           ];
+      kept = sound.kept;
     }
 
 -- They do after a search was given up.
@@ -144,13 +147,14 @@ unsought_is_sound s near a name sound at searches =
                 absurd (none_is_some q (peer_of_attempt (get s.attempts k)) (ap (λ (i : ℕ). peer_of_attempt (get s.attempts i)) is.0 ∙ ap peer_of_attempt at ∙ no_peer a name searches) was)
             | inr is ↦ ap peer_of_attempt (get_left s.attempts near k is.0) ∙ was
           ];
+      kept = sound.kept;
     }
 
 -- They do after a search was answered by an end with which nothing is held: it is an attempt towards that end.
-pub met_is_sound : (s : StartupState) (peer : List ℕ) (near : ℕ) (a : AttemptState) (name : List ℕ) (from : AddressParts) (cookie : List ℕ) (moment : ℕ) →
-    IsSound s → get s.attempts near ≡ Some a → a.aim ≡ ByName name → held_with s.ledger peer ≡ None → IsSound (after_start s peer near a from cookie moment)
-met_is_sound s peer near a name from cookie moment sound at searches unheld =
-    started_is_sound s peer near (met a peer (s.ledger.started + 1) from cookie moment) sound refl (ap peer_of_attempt at ∙ no_peer a name searches) unheld
+pub met_is_sound : (s : StartupState) (peer : List ℕ) (near : ℕ) (a : AttemptState) (name : List ℕ) (from : AddressParts) (cookie : List ℕ) (moment : ℕ) (g : GroupSecret) →
+    IsSound s → get s.attempts near ≡ Some a → a.aim ≡ ByName name → held_with s.ledger peer ≡ None → IsSound (after_start s peer near a from cookie moment g)
+met_is_sound s peer near a name from cookie moment g sound at searches unheld =
+    started_is_sound s peer near (met a peer (s.ledger.started + 1) from cookie moment g) sound refl (ap peer_of_attempt at ∙ no_peer a name searches) unheld
 
 -- ---- an attempt goes on
 
@@ -180,6 +184,7 @@ changed_is_sound s near a b sound at same_aim same_ni fits =
                 ∙ ap peer_of_aim same_aim ∙ sym (ap peer_of_attempt at) ∙ ap (λ (i : ℕ). peer_of_attempt (get s.attempts i)) (sym is.0) ∙ old
             | inr is ↦ ap peer_of_attempt (get_beside s.attempts near b k is.0) ∙ old
           ];
+      kept = sound.kept;
     }
 
 -- an attempt that is answered is towards a peer, and one whose cookie changes has one
@@ -189,7 +194,7 @@ peer_fits aim peer n stage aims = subst (λ (x : Aim). FitsStage x stage) (sym a
 pub recookied_fits : (aim : Aim) (stage : Stage) (cookie : List ℕ) → FitsStage aim stage → FitsStage aim (with_cookie cookie stage)
 recookied_fits (AtPeer peer n) stage cookie fits = tt
 recookied_fits (ByName name) Hello cookie fits = tt
-recookied_fits (ByName name) (Keying at old) cookie fits = absurd fits
+recookied_fits (ByName name) (Keying at old under) cookie fits = absurd fits
 
 -- ---- an attempt ends
 
@@ -198,7 +203,8 @@ end_by_aim : (s : StartupState) (near : ℕ) (why : Why) (a : AttemptState) (aim
 end_by_aim s near why a (ByName name) sound at aims was = unsought_is_sound s near a name sound at aims
 end_by_aim s near why a (AtPeer peer n) sound at aims was =
     subst (λ (gone : Option ℕ). IsSound (record s { ledger = noted s.ledger (Ended peer near why); attempts = without s.attempts gone })) (ap opening_id was)
-    (sound_after s (Ended peer near why) sound (ap opening_id (held_after_own s.ledger (Ended peer near why))))
+    (sound_after s (Ended peer near why) s.kept sound (ap opening_id (held_after_own s.ledger (Ended peer near why)))
+    (kept_stays s.ledger s.kept (Ended peer near why) sound.kept (ap is_born_here (held_after_own s.ledger (Ended peer near why)) ∙ sym (ap is_born_here was))))
 
 pub end_is_sound : (s : StartupState) (e : ℕ × AttemptState) (why : Why) → IsSound s → get s.attempts e.0 ≡ Some e.1 →
     IsSound (without_attempt_by s e.0 (end_of_aim e.0 why e.1.aim))
@@ -207,28 +213,34 @@ end_is_sound s e why sound at = end_by_aim s e.0 why e.1 e.1.aim sound at refl (
 -- ---- a session is confirmed or ends
 
 -- They do after a fact of a peer with which no attempt is held, neither before nor after it.
-pub session_is_sound : (s : StartupState) (fact : Fact) → IsSound s → opening_id (held_with s.ledger (peer_of fact)) ≡ None → opening_id (after fact (held_with s.ledger (peer_of fact))) ≡ None →
-    IsSound (with_ledger s (noted s.ledger fact))
-session_is_sound s fact sound before now =
-    subst (λ (gone : Option ℕ). IsSound (record s { ledger = noted s.ledger fact; attempts = without s.attempts gone })) before
-    (sound_after s fact sound (ap opening_id (held_after_own s.ledger fact) ∙ now))
+pub session_is_sound : (s : StartupState) (fact : Fact) (kept : KeptKeyings) → IsSound s → opening_id (held_with s.ledger (peer_of fact)) ≡ None → opening_id (after fact (held_with s.ledger (peer_of fact))) ≡ None →
+    AreKept (noted s.ledger fact) kept → IsSound (record s { ledger = noted s.ledger fact; kept = kept })
+session_is_sound s fact kept sound before now are =
+    subst (λ (gone : Option ℕ). IsSound (record s { ledger = noted s.ledger fact; attempts = without s.attempts gone; kept = kept })) before
+    (sound_after s fact kept sound (ap opening_id (held_after_own s.ledger fact) ∙ now) are)
 
 confirmed_by : (s : StartupState) (peer : List ℕ) (thing : Option Held) → held_with s.ledger peer ≡ thing → IsSound s → IsSound (with_ledger s (noted_if s.ledger (confirmed_fact thing peer)))
 confirmed_by s peer None is sound = sound
 confirmed_by s peer (Some (Opening n near ni)) is sound = sound
-confirmed_by s peer (Some (HalfOpen j)) is sound = session_is_sound s (Confirmed peer j.near) sound (ap opening_id is) (ap (λ (t : Option Held). opening_id (confirmed t)) is)
+confirmed_by s peer (Some (HalfOpen j)) is sound = session_is_sound s (Confirmed peer j.near) s.kept sound (ap opening_id is) (ap (λ (t : Option Held). opening_id (confirmed t)) is)
+    (kept_stays s.ledger s.kept (Confirmed peer j.near) sound.kept
+    (ap is_born_here (held_after_own s.ledger (Confirmed peer j.near)) ∙ ap (λ (t : Option Held). is_born_here (confirmed t)) is ∙ sym (ap is_born_here is)))
 confirmed_by s peer (Some (KeptAsResponder j)) is sound = sound
 confirmed_by s peer (Some (KeptAsInitiator j)) is sound = sound
 
 pub after_confirm_is_sound : (s : StartupState) (peer : List ℕ) → IsSound s → IsSound (after_confirm s peer)
 after_confirm_is_sound s peer sound = confirmed_by s peer (held_with s.ledger peer) refl sound
 
-ended_by : (s : StartupState) (peer : List ℕ) (why : Why) (thing : Option Held) → held_with s.ledger peer ≡ thing → IsSound s → IsSound (with_ledger s (noted_if s.ledger (ended_fact (session_in thing) peer why)))
+session_ends : (s : StartupState) (peer : List ℕ) (near : ℕ) (why : Why) → IsSound s → opening_id (held_with s.ledger peer) ≡ None → IsSound (after_end_by s peer (Some (Ended peer near why)))
+session_ends s peer near why sound none = session_is_sound s (Ended peer near why) (remove s.kept peer) sound none refl
+    (kept_taken s.ledger s.kept (Ended peer near why) sound.kept (ap is_born_here (held_after_own s.ledger (Ended peer near why))))
+
+ended_by : (s : StartupState) (peer : List ℕ) (why : Why) (thing : Option Held) → held_with s.ledger peer ≡ thing → IsSound s → IsSound (after_end_by s peer (ended_fact (session_in thing) peer why))
 ended_by s peer why None is sound = sound
 ended_by s peer why (Some (Opening n near ni)) is sound = sound
-ended_by s peer why (Some (HalfOpen j)) is sound = session_is_sound s (Ended peer j.near why) sound (ap opening_id is) refl
-ended_by s peer why (Some (KeptAsResponder j)) is sound = session_is_sound s (Ended peer j.near why) sound (ap opening_id is) refl
-ended_by s peer why (Some (KeptAsInitiator j)) is sound = session_is_sound s (Ended peer j.near why) sound (ap opening_id is) refl
+ended_by s peer why (Some (HalfOpen j)) is sound = session_ends s peer j.near why sound (ap opening_id is)
+ended_by s peer why (Some (KeptAsResponder j)) is sound = session_ends s peer j.near why sound (ap opening_id is)
+ended_by s peer why (Some (KeptAsInitiator j)) is sound = session_ends s peer j.near why sound (ap opening_id is)
 
 pub after_end_is_sound : (s : StartupState) (peer : List ℕ) (why : Why) → IsSound s → IsSound (after_end s peer why)
 after_end_is_sound s peer why sound = ended_by s peer why (held_with s.ledger peer) refl sound
@@ -264,13 +276,13 @@ changed_has_cookie attempts sid old e is = elim (either_one (sid == 0) (lowest (
   | inr at ↦ (if_cookie_is old sid (get attempts sid) e at).has
 ]
 
-stage_again : (key cert : List ℕ) (near : ℕ) (a : AttemptState) (stage : Stage) (old cookie : List ℕ) → is_cookie_of old stage ≡ true → again_signed key cert near a stage cookie ≡ None → ⊥
-stage_again key cert near a Hello old cookie has none = let clash : false ≡ true = has in cc
-stage_again key cert near a (Keying at kept) old cookie has none = cc
+stage_again : (cert : List ℕ) (near : ℕ) (a : AttemptState) (stage : Stage) (old cookie : List ℕ) → is_cookie_of old stage ≡ true → again_under cert near a stage cookie ≡ None → ⊥
+stage_again cert near a Hello old cookie has none = let clash : false ≡ true = has in cc
+stage_again cert near a (Keying at kept under) old cookie has none = cc
 
 -- an attempt that has a cookie has a keying to send again
-pub keying_goes_again : (key cert : List ℕ) (near : ℕ) (a : AttemptState) (old cookie : List ℕ) → has_cookie old a ≡ true → again_signed key cert near a a.stage cookie ≡ None → ⊥
-keying_goes_again key cert near a old cookie has none = stage_again key cert near a a.stage old cookie has none
+pub keying_goes_again : (cert : List ℕ) (near : ℕ) (a : AttemptState) (old cookie : List ℕ) → has_cookie old a ≡ true → again_under cert near a a.stage cookie ≡ None → ⊥
+keying_goes_again cert near a old cookie has none = stage_again cert near a a.stage old cookie has none
 
 -- what is held is a session where it is one
 pub session_is_held : (thing : Option Held) → is_some (session_in thing) ≡ true → session_in thing ≡ thing

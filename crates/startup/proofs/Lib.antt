@@ -1,3 +1,4 @@
+pub mod Prints
 pub mod Sound
 pub mod Stepping
 pub mod Uncaused

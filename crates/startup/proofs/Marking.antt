@@ -86,8 +86,8 @@ found_by_cookie marked attempts cookie is whole near a there = go a.stage refl
   where
     go : (s : Stage) → a.stage ≡ s → is_cookie_of cookie s ≡ true → Stands marked.marks (record { word = cookie_word cookie; near = near })
     go Hello e t = absurd (let clash : false ≡ true = t in cc)
-    go (Keying at kept) e t = elim (same_end kept cookie) [
-      | inl same ↦ is whole near a _ there (ap (λ s. mark_in s near) e ∙ ap (λ (b : List ℕ). mark_in (Keying at b) near) same.0)
+    go (Keying at kept under) e t = elim (same_end kept cookie) [
+      | inl same ↦ is whole near a _ there (ap (λ s. mark_in s near) e ∙ ap (λ (b : List ℕ). mark_in (Keying at b under) near) same.0)
       | inr other ↦ absurd (let clash : false ≡ true = sym other.1 ∙ t in cc)
     ]
 

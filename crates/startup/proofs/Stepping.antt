@@ -1,11 +1,12 @@
 -- The attempts and the ledger name the same things after each step that starts no attempt.
-use Rattle.std.proofs.Common.{inl, inr, ℕ, List, ◌≡◌, ◌⊎◌, Bool, true, false, cond, ◌==◌, refl, sym, ap, subst, ◌∙◌, Option, Some, None}
+use Rattle.std.proofs.Common.{inl, inr, ℕ, List, ◌≡◌, ◌⊎◌, Bool, true, false, cond, ◌==◌, refl, sym, ap, subst, ◌∙◌, Option, Some, None, is_some}
 use Rattle.std.specs.Str.{bytes_eq}
 use Rattle.std.specs.Ordering.{nat_cmp, eq_by_cmp}
 use Rattle.std.specs.Cmp.{unsigned_tied}
 use Rattle.std.proofs.lemmas.Cmp.{nat_cmp_total}
 use Rattle.std.proofs.lemmas.Bool.{eq-eqb, eqb-true, cases_Bool}
-use Rattle.std.specs.FinMap.{get, remove, get-remove, get-empty, empty}
+use Rattle.std.specs.FinMap.{get, insert, remove, get-remove, get-empty, empty}
+use Rattle.crypto_profile.specs.declared.group.GroupSecret.{GroupSecret}
 use Rattle.rtmfp_forms.specs.Address.{AddressParts}
 use Rattle.startup.specs.declared.answer.Answer.{Answer}
 use Rattle.startup.specs.declared.answer.Keyed.TheVariants.{Birth as BirthKeyed}
@@ -28,8 +29,10 @@ use Rattle.glare_core.proofs.Maps.{row_inserted}
 use Rattle.startup.specs.declared.aim.Aim.{Aim}
 use Rattle.startup.specs.declared.aim.Aim.TheVariants.{AtPeer, ByName}
 use Rattle.startup.specs.Aims.{peer_of_aim, IsHeldAs}
-use Rattle.startup.specs.State.{AttemptState, Attempts, StartupState, IsSound, peer_of_attempt}
-use Rattle.startup.specs.Keyings.{again_or_birth, session_answer, born_session, repeated_session, attempt_gone, opening_id, without, after_again_or_birth, opened_with, after_opening}
+use Rattle.startup.specs.State.{AttemptState, Attempts, KeptKeyings, StartupState, AreKept, IsSound, is_born_here, peer_of_attempt}
+use Rattle.startup.specs.declared.kept.KeptKeying.{KeptKeying}
+use Rattle.startup.proofs.Prints.{get_put, get_taken}
+use Rattle.startup.specs.Keyings.{again_or_birth, session_answer, kept_keying, born_session, repeated_session, attempt_gone, opening_id, without, after_again_or_birth, opened_with, after_opening}
 use Rattle.startup_packets.specs.Readings.{ResponderKeying}
 
 -- ---- the ledger
@@ -81,6 +84,31 @@ stays attempts (Some k) near ne =
     get-remove nat_cmp_total attempts k near
     ∙ elim (same_id near k) [ inl d ↦ absurd (ne (ap (λ (n : ℕ). Some n) (sym d.0))) | inr d ↦ rw d.1 refl ]
 
+-- ---- what is kept of the sessions that were born here
+
+module _ (l : Ledger) (m : KeptKeyings) (fact : Fact) where
+  -- something is kept of the session with the fact's peer, which was born here
+  pub kept_put : (k : KeptKeying) → ((q : List ℕ) → (peer_of fact ≡ q → ⊥) → is_some (get m q) ≡ is_born_here (held_with l q)) →
+      is_born_here (held_with (noted l fact) (peer_of fact)) ≡ true → AreKept (noted l fact) (insert m (peer_of fact) k)
+  kept_put k others born q = ap is_some (get_put m (peer_of fact) k q) ∙ elim (same_end (peer_of fact) q) [
+    | inl d ↦ ap (λ b. is_some (cond b (Some k) (get m q))) d.1 ∙ sym (ap (λ p. is_born_here (held_with (noted l fact) p)) (sym d.0) ∙ born)
+    | inr d ↦ ap (λ b. is_some (cond b (Some k) (get m q))) d.1 ∙ others q d.0 ∙ sym (ap is_born_here (held_after_other l fact q d.0))
+  ]
+
+  -- what is kept of the session with the fact's peer is forgotten
+  pub kept_taken : AreKept l m → is_born_here (held_with (noted l fact) (peer_of fact)) ≡ false → AreKept (noted l fact) (remove m (peer_of fact))
+  kept_taken are gone q = ap is_some (get_taken m (peer_of fact) q) ∙ elim (same_end (peer_of fact) q) [
+    | inl d ↦ ap (λ b. is_some (cond b None (get m q))) d.1 ∙ sym (ap (λ p. is_born_here (held_with (noted l fact) p)) (sym d.0) ∙ gone)
+    | inr d ↦ ap (λ b. is_some (cond b None (get m q))) d.1 ∙ are q ∙ sym (ap is_born_here (held_after_other l fact q d.0))
+  ]
+
+  -- the fact makes no session of a thing that was none, and no other thing of one
+  pub kept_stays : AreKept l m → is_born_here (held_with (noted l fact) (peer_of fact)) ≡ is_born_here (held_with l (peer_of fact)) → AreKept (noted l fact) m
+  kept_stays are same q = elim (same_end (peer_of fact) q) [
+    | inl d ↦ are q ∙ ap (λ p. is_born_here (held_with l p)) (sym d.0) ∙ sym same ∙ ap (λ p. is_born_here (held_with (noted l fact) p)) d.0
+    | inr d ↦ are q ∙ sym (ap is_born_here (held_after_other l fact q d.0))
+  ]
+
 -- ---- a step
 
 record IsAttemptAt (thing : Option Held) (near : ℕ) : Type 0 where
@@ -95,9 +123,9 @@ attempt_is (Some (HalfOpen j)) near e = absurd (cc)
 attempt_is (Some (KeptAsResponder j)) near e = absurd (cc)
 attempt_is (Some (KeptAsInitiator j)) near e = absurd (cc)
 
--- what a fact leaves where its peer's attempt, if one was held, isn't kept
-abbrev pub stepped : StartupState → Fact → StartupState
-stepped s fact = record s { ledger = noted s.ledger fact; attempts = without s.attempts (opening_id (held_with s.ledger (peer_of fact))) }
+-- what a fact leaves where its peer's attempt, if one was held, isn't kept, with these kept keyings
+abbrev pub stepped : StartupState → Fact → KeptKeyings → StartupState
+stepped s fact kept = record s { ledger = noted s.ledger fact; attempts = without s.attempts (opening_id (held_with s.ledger (peer_of fact))); kept = kept }
 
 -- what is held as it aims at still is after a fact of a peer whose attempt, if any, is another one
 still_held : (l : Ledger) (fact : Fact) (near : ℕ) (ni : List ℕ) (aim : Aim) → (opening_id (held_with l (peer_of fact)) ≡ Some near → ⊥) → IsHeldAs l near ni aim → IsHeldAs (noted l fact) near ni aim
@@ -106,8 +134,9 @@ still_held l fact near ni (AtPeer peer n) other is =
 still_held l fact near ni (ByName name) other is = tt
 
 -- Where a fact leaves no attempt with its peer, and that attempt isn't kept, all is sound.
-pub sound_after : (s : StartupState) (fact : Fact) → IsSound s → opening_id (held_with (noted s.ledger fact) (peer_of fact)) ≡ None → IsSound (stepped s fact)
-sound_after s fact sound none =
+pub sound_after : (s : StartupState) (fact : Fact) (kept : KeptKeyings) → IsSound s → opening_id (held_with (noted s.ledger fact) (peer_of fact)) ≡ None → AreKept (noted s.ledger fact) kept →
+    IsSound (stepped s fact kept)
+sound_after s fact kept sound none are =
     let p = peer_of fact in
     let gone = opening_id (held_with s.ledger p) in
     record {
@@ -130,47 +159,56 @@ sound_after s fact sound none =
                 d.0 (cc)))
                 ∙ old
           ];
+      kept = are;
     }
 
 -- ---- a birth
 
 -- a held attempt, or a session, is ended first
-ended_is_sound : (s : StartupState) (fact : Fact) → IsSound s → after fact (held_with s.ledger (peer_of fact)) ≡ None → IsSound (stepped s fact)
-ended_is_sound s fact sound ends = sound_after s fact sound (ap opening_id (held_after_own s.ledger fact ∙ ends))
+ended_is_sound : (s : StartupState) (fact : Fact) → IsSound s → after fact (held_with s.ledger (peer_of fact)) ≡ None → IsSound (stepped s fact (remove s.kept (peer_of fact)))
+ended_is_sound s fact sound ends = sound_after s fact (remove s.kept (peer_of fact)) sound (ap opening_id (held_after_own s.ledger fact ∙ ends))
+    (kept_taken s.ledger s.kept fact sound.kept (ap is_born_here (held_after_own s.ledger fact ∙ ends)))
 
 -- the session is born where nothing is held
-born_is_sound : (s : StartupState) (j : Joined) → IsSound s → IsSound (stepped s (Born j))
-born_is_sound s j sound = sound_after s (Born j) sound (ap opening_id (held_after_own s.ledger (Born j)))
+born_is_sound : (s : StartupState) (j : Joined) (kept : KeptKeyings) (k : KeptKeying) → IsSound s → ((q : List ℕ) → (j.peer ≡ q → ⊥) → is_some (get kept q) ≡ is_born_here (held_with s.ledger q)) →
+    IsSound (stepped s (Born j) (insert kept j.peer k))
+born_is_sound s j kept k sound others = sound_after s (Born j) (insert kept j.peer k) sound (ap opening_id (held_after_own s.ledger (Born j)))
+    (kept_put s.ledger kept (Born j) k others (ap is_born_here (held_after_own s.ledger (Born j))))
 
 -- what a birth leaves, by what was held
-abbrev birth_of : StartupState → Keying → ℕ → List ℕ → Option Held → StartupState
-birth_of s keying near nr thing =
-    record s { ledger = heard_noted s.ledger (Birth (way_made keying.peer thing) (born_fact s.ledger keying near nr)); attempts = without s.attempts (opening_id thing) }
+abbrev birth_of : StartupState → Keying → ℕ → List ℕ → KeptKeying → Option Held → StartupState
+birth_of s keying near nr k thing =
+    record s {
+      ledger = heard_noted s.ledger (Birth (way_made keying.peer thing) (born_fact s.ledger keying near nr));
+      attempts = without s.attempts (opening_id thing);
+      kept = insert s.kept keying.peer k;
+    }
 
 -- ended first, and then born
-two_steps : (s : StartupState) (keying : Keying) (near : ℕ) (nr : List ℕ) (id : ℕ) (why : Why) (thing : Option Held) → IsSound s → held_with s.ledger keying.peer ≡ thing
-    → IsSound (record s { ledger = noted (noted s.ledger (Ended keying.peer id why)) (born_fact s.ledger keying near nr); attempts = without s.attempts (opening_id thing) })
-two_steps s keying near nr id why thing sound is =
+two_steps : (s : StartupState) (keying : Keying) (near : ℕ) (nr : List ℕ) (k : KeptKeying) (id : ℕ) (why : Why) (thing : Option Held) → IsSound s → held_with s.ledger keying.peer ≡ thing
+    → IsSound (record s { ledger = noted (noted s.ledger (Ended keying.peer id why)) (born_fact s.ledger keying near nr); attempts = without s.attempts (opening_id thing); kept = insert s.kept keying.peer k })
+two_steps s keying near nr k id why thing sound is =
     let ended : Fact = Ended keying.peer id why in
     let j : Joined = record { peer = keying.peer; n = keying.n; near = near; far = keying.far; ni = keying.ni; nr = nr; k = s.ledger.started } in
-    let first : StartupState = stepped s ended in
-    let second : IsSound (stepped first (Born j)) = born_is_sound first j (ended_is_sound s ended sound refl) in
+    let first : StartupState = stepped s ended (remove s.kept keying.peer) in
+    let second : IsSound (stepped first (Born j) (insert s.kept keying.peer k)) =
+    born_is_sound first j s.kept k (ended_is_sound s ended sound refl) (λ q ne. sound.kept q ∙ sym (ap is_born_here (held_after_other s.ledger ended q ne))) in
     let none : opening_id (held_with (noted s.ledger ended) keying.peer) ≡ None = ap opening_id (held_after_own s.ledger ended) in
     let left_are : without (without s.attempts (opening_id (held_with s.ledger keying.peer))) (opening_id (held_with (noted s.ledger ended) keying.peer)) ≡ without s.attempts (opening_id thing) =
     ap (without (without s.attempts (opening_id (held_with s.ledger keying.peer)))) none ∙ ap (λ t. without s.attempts (opening_id t)) is in
-    subst (λ (a : Attempts). IsSound (record s { ledger = noted (noted s.ledger ended) (Born j); attempts = a })) left_are second
+    subst (λ (a : Attempts). IsSound (record s { ledger = noted (noted s.ledger ended) (Born j); attempts = a; kept = insert s.kept keying.peer k })) left_are second
 
-birth_by : (s : StartupState) (keying : Keying) (near : ℕ) (nr : List ℕ) (thing : Option Held) → IsSound s → held_with s.ledger keying.peer ≡ thing → IsSound (birth_of s keying near nr thing)
-birth_by s keying near nr None sound is =
+birth_by : (s : StartupState) (keying : Keying) (near : ℕ) (nr : List ℕ) (k : KeptKeying) (thing : Option Held) → IsSound s → held_with s.ledger keying.peer ≡ thing → IsSound (birth_of s keying near nr k thing)
+birth_by s keying near nr k None sound is =
     let j : Joined = record { peer = keying.peer; n = keying.n; near = near; far = keying.far; ni = keying.ni; nr = nr; k = s.ledger.started } in
-    subst (λ t. IsSound (record s { ledger = noted s.ledger (Born j); attempts = without s.attempts (opening_id t) })) is (born_is_sound s j sound)
-birth_by s keying near nr (Some (Opening n id ni)) sound is = two_steps s keying near nr id ForGlare (Some (Opening n id ni)) sound is
-birth_by s keying near nr (Some (HalfOpen j)) sound is = two_steps s keying near nr j.near ForOverride (Some (HalfOpen j)) sound is
-birth_by s keying near nr (Some (KeptAsResponder j)) sound is = two_steps s keying near nr j.near ForOverride (Some (KeptAsResponder j)) sound is
-birth_by s keying near nr (Some (KeptAsInitiator j)) sound is = two_steps s keying near nr j.near ForOverride (Some (KeptAsInitiator j)) sound is
+    subst (λ t. IsSound (record s { ledger = noted s.ledger (Born j); attempts = without s.attempts (opening_id t); kept = insert s.kept keying.peer k })) is (born_is_sound s j s.kept k sound (λ q ne. sound.kept q))
+birth_by s keying near nr k (Some (Opening n id ni)) sound is = two_steps s keying near nr k id ForGlare (Some (Opening n id ni)) sound is
+birth_by s keying near nr k (Some (HalfOpen j)) sound is = two_steps s keying near nr k j.near ForOverride (Some (HalfOpen j)) sound is
+birth_by s keying near nr k (Some (KeptAsResponder j)) sound is = two_steps s keying near nr k j.near ForOverride (Some (KeptAsResponder j)) sound is
+birth_by s keying near nr k (Some (KeptAsInitiator j)) sound is = two_steps s keying near nr k j.near ForOverride (Some (KeptAsInitiator j)) sound is
 
-pub birth_is_sound : (s : StartupState) (keying : Keying) (near : ℕ) (nr : List ℕ) → IsSound s → IsSound (birth_of s keying near nr (held_with s.ledger keying.peer))
-birth_is_sound s keying near nr sound = birth_by s keying near nr (held_with s.ledger keying.peer) sound refl
+pub birth_is_sound : (s : StartupState) (keying : Keying) (near : ℕ) (nr : List ℕ) (k : KeptKeying) → IsSound s → IsSound (birth_of s keying near nr k (held_with s.ledger keying.peer))
+birth_is_sound s keying near nr k sound = birth_by s keying near nr k (held_with s.ledger keying.peer) sound refl
 
 -- what a keying gives that isn't of a held session is a birth
 pub birth_heard : (l : Ledger) (keying : Keying) (near : ℕ) (nr : List ℕ) → again_of (held_with l keying.peer) keying ≡ None
@@ -192,12 +230,13 @@ not_repeated (Some (KeptAsInitiator j)) keying e = refl
 
 -- ---- what an initiator's keying leaves
 
-keyed_by_is_sound : (s : StartupState) (keying : Keying) (near : ℕ) (nr : List ℕ) (again : Option Joined) → repeated_session (held_with s.ledger keying.peer) keying ≡ again
-    → IsSound s → IsSound (after_again_or_birth s keying near nr again)
-keyed_by_is_sound s keying near nr (Some j) is sound = sound
-keyed_by_is_sound s keying near nr None is sound =
-    subst (λ (h : Heard). IsSound (record s { ledger = heard_noted s.ledger h; attempts = without s.attempts (opening_id (held_with s.ledger keying.peer)) }))
-    (sym (birth_heard s.ledger keying near nr (not_repeated (held_with s.ledger keying.peer) keying is))) (birth_is_sound s keying near nr sound)
+keyed_by_is_sound : (s : StartupState) (keying : Keying) (near : ℕ) (nr : List ℕ) (g : GroupSecret) (again : Option Joined) → repeated_session (held_with s.ledger keying.peer) keying ≡ again
+    → IsSound s → IsSound (after_again_or_birth s keying near nr g again)
+keyed_by_is_sound s keying near nr g (Some j) is sound = sound
+keyed_by_is_sound s keying near nr g None is sound =
+    let k : KeptKeying = kept_keying s (born_session s.ledger keying near nr) g in
+    subst (λ (h : Heard). IsSound (record s { ledger = heard_noted s.ledger h; attempts = without s.attempts (opening_id (held_with s.ledger keying.peer)); kept = insert s.kept keying.peer k }))
+    (sym (birth_heard s.ledger keying near nr (not_repeated (held_with s.ledger keying.peer) keying is))) (birth_is_sound s keying near nr k sound)
 
 -- ---- what a responder's keying leaves
 
@@ -207,31 +246,35 @@ pub after_opening_is_sound : (s : StartupState) (near : ℕ) (peer : List ℕ) (
 after_opening_is_sound s near peer n ni keying sound held_is =
     let fact : Fact = opened_with near keying peer n ni in
     let none : opening_id (held_with (noted s.ledger fact) peer) ≡ None = ap opening_id (held_after_own s.ledger fact ∙ ap (after fact) held_is) in
-    subst (λ (t : Option ℕ). IsSound (record s { ledger = noted s.ledger fact; attempts = without s.attempts t })) (ap opening_id held_is) (sound_after s fact sound none)
+    let same : is_born_here (held_with (noted s.ledger fact) peer) ≡ is_born_here (held_with s.ledger peer) =
+    ap is_born_here (held_after_own s.ledger fact ∙ ap (after fact) held_is) ∙ sym (ap is_born_here held_is) in
+    subst (λ (t : Option ℕ). IsSound (record s { ledger = noted s.ledger fact; attempts = without s.attempts t })) (ap opening_id held_is)
+    (sound_after s fact s.kept sound none (kept_stays s.ledger s.kept fact sound.kept same))
 
 -- ---- a birth in the code
 
 -- the ledger heard a keying of which no session is held, and the attempt left
-pub born_is_kept_sound : (s : StartupState) (keying : Keying) (near : ℕ) (nr : List ℕ) (answer : Heard) (ledger : Ledger) (attempts : Attempts) → IsSound s
+pub born_is_kept_sound : (s : StartupState) (keying : Keying) (near : ℕ) (nr : List ℕ) (g : GroupSecret) (answer : Heard) (ledger : Ledger) (attempts : Attempts) (kept : KeptKeyings) → IsSound s
     → repeated_session (held_with s.ledger keying.peer) keying ≡ None → answer ≡ heard s.ledger keying near nr → ledger ≡ heard_noted s.ledger answer
     → attempts ≡ without s.attempts (opening_id (held_with s.ledger keying.peer))
-    → IsSound (record s { ledger = ledger; attempts = attempts })
-born_is_kept_sound s keying near nr answer ledger attempts sound fresh is noted_is left_is =
+    → kept ≡ insert s.kept keying.peer (kept_keying s (born_session s.ledger keying near nr) g)
+    → IsSound (record s { ledger = ledger; attempts = attempts; kept = kept })
+born_is_kept_sound s keying near nr g answer ledger attempts kept sound fresh is noted_is left_is kept_is =
     let ledgers : ledger ≡ heard_noted s.ledger (heard s.ledger keying near nr) = noted_is ∙ ap (heard_noted s.ledger) is in
-    let states : record s { ledger = ledger; attempts = attempts } ≡ after_again_or_birth s keying near nr None = λ i. record s { ledger = ledgers i; attempts = left_is i } in
-    subst IsSound (sym states) (keyed_by_is_sound s keying near nr None fresh sound)
+    let states : record s { ledger = ledger; attempts = attempts; kept = kept } ≡ after_again_or_birth s keying near nr g None = λ i. record s { ledger = ledgers i; attempts = left_is i; kept = kept_is i } in
+    subst IsSound (sym states) (keyed_by_is_sound s keying near nr g None fresh sound)
 
 -- and what it gave is the birth
-pub born_is_birth : (s : StartupState) (keying : Keying) (from : AddressParts) (near : ℕ) (nr : List ℕ) (ended : Option Fact) (born : Fact) (answer : Answer)
+pub born_is_birth : (s : StartupState) (keying : Keying) (from : AddressParts) (near : ℕ) (nr : List ℕ) (g : GroupSecret) (ended : Option Fact) (born : Fact) (answer : Answer)
     → repeated_session (held_with s.ledger keying.peer) keying ≡ None → Birth ended born ≡ heard s.ledger keying near nr
-    → answer ≡ session_answer s (born_session s.ledger keying near nr) from
-    → BirthKeyed ended born answer ≡ again_or_birth s keying from near nr None
-born_is_birth s keying from near nr ended born answer fresh is told =
+    → answer ≡ session_answer s (born_session s.ledger keying near nr) from g
+    → Some (BirthKeyed ended born answer) ≡ again_or_birth s keying from near nr g None
+born_is_birth s keying from near nr g ended born answer fresh is told =
     let same : Birth ended born ≡ Birth (way_made keying.peer (held_with s.ledger keying.peer)) (born_fact s.ledger keying near nr) =
     is ∙ birth_heard s.ledger keying near nr (not_repeated (held_with s.ledger keying.peer) keying fresh) in
     let ends : ended ≡ way_made keying.peer (held_with s.ledger keying.peer) = cc in
     let borns : born ≡ born_fact s.ledger keying near nr = cc in
-    λ i. BirthKeyed (ends i) (borns i) (told i)
+    λ i. Some (BirthKeyed (ends i) (borns i) (told i))
 
 -- ---- an opening in the code
 
@@ -302,3 +345,11 @@ gone_is_opening s keying near nr ended born fresh is =
     is ∙ birth_heard s.ledger keying near nr (not_repeated (held_with s.ledger keying.peer) keying fresh) in
     let ends : ended ≡ way_made keying.peer (held_with s.ledger keying.peer) = cc in
     ap attempt_gone ends ∙ way_of keying.peer (held_with s.ledger keying.peer)
+
+-- a repeated session was born here
+pub repeated_is_born : (thing : Option Held) (keying : Keying) (j : Joined) → repeated_session thing keying ≡ Some j → is_born_here thing ≡ true
+repeated_is_born None keying j e = absurd (cc)
+repeated_is_born (Some (Opening n near ni)) keying j e = absurd (cc)
+repeated_is_born (Some (HalfOpen i)) keying j e = refl
+repeated_is_born (Some (KeptAsResponder i)) keying j e = refl
+repeated_is_born (Some (KeptAsInitiator i)) keying j e = absurd (cc)

@@ -3,6 +3,7 @@ use Rattle.std.proofs.Common.{ℕ, List, [], ◌∷◌, ◌≡◌, Bool, true, f
 use Rattle.std.specs.Str.{bytes_eq}
 use Rattle.std.proofs.lemmas.Slice.Eq.{bytes_eq-Decides}
 use Rattle.sha2.specs.Sha256.{sha256}
+use Rattle.crypto_profile.specs.declared.group.GroupSecret.{GroupSecret}
 use Rattle.rtmfp_forms.specs.Address.{AddressParts}
 use Rattle.identity.specs.Order.{is_above}
 use Rattle.cookies.specs.declared.CookieTest.TheVariants.{Current}
@@ -121,9 +122,9 @@ named s full keying none =
       heard = unheard full refused (hear_is_not s.ledger (keying_of keying) (is_none full)) (third_none wrong own (heard_cause full refused) none);
     }
 
-pub no_cause_is_heard : (s : StartupState) (payload : List ℕ) (from : AddressParts) (now : ℕ) (full : Option ℕ) (keying : InitiatorKeying)
-    → initiator_cause s payload from now full keying ≡ None → cookie_test s.cookie_secret keying.cookie from now ≡ Current → IsHeard s full keying
-no_cause_is_heard s payload from now full keying none current =
-    let signed : Option Cause = where_true (not (is_signed s.secret payload keying.sign)) BadSignature in
+pub no_cause_is_heard : (s : StartupState) (payload : List ℕ) (from : AddressParts) (now : ℕ) (full : Option ℕ) (g : GroupSecret) (keying : InitiatorKeying)
+    → initiator_cause s payload from now full g keying ≡ None → cookie_test s.cookie_secret keying.cookie from now ≡ Current → IsHeard s full keying
+no_cause_is_heard s payload from now full g keying none current =
+    let signed : Option Cause = where_true (not (is_signed g.secret payload keying.sign)) BadSignature in
     let tested : Option Cause = cookie_cause (cookie_test s.cookie_secret keying.cookie from now) (named_cause s keying full) in
     named s full keying (sym (ap (λ t. cookie_cause t (named_cause s keying full)) current) ∙ third_none signed (wide keying.cookie) tested none)

@@ -37,12 +37,12 @@ module _ (attempts : Attempts) (near : ℕ) (are : AreSized attempts) where
 
 recookied_is_narrow : (new : List ℕ) (s : Stage) → length new ≤ 128 → cookie_length (with_cookie new s) ≤ 128
 recookied_is_narrow new Hello narrow = omega arith
-recookied_is_narrow new (Keying at old) narrow = narrow
+recookied_is_narrow new (Keying at old under) narrow = narrow
 
 -- there is room for what comes with a change
 pub change_is_sized : (change : Change) (moment : ℕ) (a : AttemptState) → Allows change a → IsSized a → IsSized (change_of change moment a)
-change_is_sized (Answered from cookie) moment a allows is = record { tag = is.tag; cookie = allows }
-change_is_sized (Met peer n from cookie) moment a allows is = record { tag = is.tag; cookie = allows }
+change_is_sized (Answered from cookie under) moment a allows is = record { tag = is.tag; cookie = allows }
+change_is_sized (Met peer n from cookie under) moment a allows is = record { tag = is.tag; cookie = allows }
 change_is_sized (Recookied new) moment a allows is = record { tag = is.tag; cookie = recookied_is_narrow new.now a.stage allows }
 change_is_sized (Extended new) moment a allows is = record { tag = is.tag; cookie = is.cookie }
 change_is_sized Repeated moment a allows is = record { tag = is.tag; cookie = is.cookie }
@@ -57,7 +57,7 @@ no_such_tag attempts tag are other = none_is_first (has_tag tag) attempts (λ j 
 
 isnt_cookie : (cookie : List ℕ) (s : Stage) → 128 < length cookie → cookie_length s ≤ 128 → is_cookie_of cookie s ≡ false
 isnt_cookie cookie Hello wide narrow = refl
-isnt_cookie cookie (Keying at kept) wide narrow = elim (same_end kept cookie) [
+isnt_cookie cookie (Keying at kept under) wide narrow = elim (same_end kept cookie) [
   | inl same ↦ absurd (let e : length kept ≡ length cookie = ap (λ (l : List ℕ). length l) same.0 in omega (arith, e, wide, narrow))
   | inr apart ↦ apart.1
 ]

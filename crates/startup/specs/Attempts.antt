@@ -4,6 +4,7 @@ use Rattle.std.specs.List.{find, fold, list_any}
 use Rattle.std.specs.Str.{bytes_eq}
 use Rattle.std.specs.FinMap.{get, insert, remove, entries}
 use Rattle.sha2.specs.Sha256.{sha256}
+use Rattle.crypto_profile.specs.declared.group.GroupSecret.{GroupSecret}
 use Rattle.crypto_profile.specs.Keys.{sign_key_of}
 use Rattle.rtmfp_forms.specs.Address.{AddressParts, is_same_place}
 use Rattle.glare_core.specs.declared.facts.Why.{Why}
@@ -26,6 +27,7 @@ use Rattle.startup.specs.declared.aim.Aim.{Aim}
 use Rattle.startup.specs.declared.aim.Aim.TheVariants.{AtPeer, ByName}
 use Rattle.startup.specs.Aims.{is_search, is_numbered, discriminator_of_aim, keying_of_aim, end_of_aim}
 use Rattle.startup.specs.State.{AttemptState, Attempts, StartupState, SpreadParts}
+use Rattle.startup.specs.Answers.{answer_under}
 use Rattle.startup_packets.specs.Packets.{ihello_packet, iikeying_signed}
 
 -- ---- finding attempts
@@ -43,7 +45,7 @@ has_tag tag a = bytes_eq a.tag tag
 -- An attempt has a cookie in the keying stage alone.
 abbrev pub is_cookie_of : List ℕ → Stage → Bool
 is_cookie_of cookie Hello = false
-is_cookie_of cookie (Keying at kept) = bytes_eq kept cookie
+is_cookie_of cookie (Keying at kept under) = bytes_eq kept cookie
 
 abbrev pub has_cookie : List ℕ → AttemptState → Bool
 has_cookie cookie a = is_cookie_of cookie a.stage
@@ -77,17 +79,11 @@ without_attempt s near fact = record s {
 abbrev pub hello_spread : AttemptState → List AddressParts → SpreadParts
 hello_spread a to = record { to = to; plain = ihello_packet (discriminator_of_aim a.aim) a.tag }
 
--- the keying of an attempt, to an address with a cookie: under the signature key, with the own
--- certificate
-abbrev pub keying_signed : List ℕ → List ℕ → ℕ → AttemptState → AddressParts → List ℕ → Answer
-keying_signed key cert near a to cookie = record {
-  to = to;
-  sid = 0;
-  plain = keying_of_aim key near cookie cert a.ni a.aim;
-}
-
-abbrev pub keying_answer : StartupState → ℕ → AttemptState → AddressParts → List ℕ → Answer
-keying_answer s near a to cookie = keying_signed (sign_key_of s.secret) s.cert near a to cookie
+-- the keying of an attempt, to an address with a cookie: signed and sealed under this secret of the
+-- group, with the own certificate
+abbrev pub keying_under : GroupSecret → List ℕ → ℕ → AttemptState → AddressParts → List ℕ → Answer
+keying_under g cert near a to cookie =
+    answer_under g to 0 (keying_of_aim (sign_key_of g.secret) near cookie cert a.ni a.aim)
 
 -- ---- an attempt begins
 
@@ -200,8 +196,16 @@ session_in (Some (KeptAsInitiator j)) = Some (KeptAsInitiator j)
 abbrev pub end_fact : StartupState → List ℕ → Why → Option Fact
 end_fact s peer why = ended_fact (session_in (held_with s.ledger peer)) peer why
 
+-- With the session what answers its repeated keying is forgotten.
+abbrev pub after_end_by : StartupState → List ℕ → Option Fact → StartupState
+after_end_by s peer None = s
+after_end_by s peer (Some fact) = record s {
+  ledger = noted s.ledger fact;
+  kept = remove s.kept peer;
+}
+
 abbrev pub after_end : StartupState → List ℕ → Why → StartupState
-after_end s peer why = with_ledger s (noted_if s.ledger (end_fact s peer why))
+after_end s peer why = after_end_by s peer (end_fact s peer why)
 
 -- ---- the responder's hello
 
@@ -250,7 +254,7 @@ aim_cause s (ByName name) cert = search_cause s name cert
 -- and by its stage
 abbrev pub hello_cause : StartupState → Stage → Aim → List ℕ → Option Cause
 hello_cause s Hello aim cert = aim_cause s aim cert
-hello_cause s (Keying at cookie) aim cert = Some WrongState
+hello_cause s (Keying at cookie under) aim cert = Some WrongState
 
 abbrev pub hello_cause_at : StartupState → Option (ℕ × AttemptState) → List ℕ → Option Cause
 hello_cause_at s None cert = Some NoAttempt
@@ -261,17 +265,17 @@ abbrev pub rhello_cause : StartupState → List ℕ → List ℕ → List ℕ �
 rhello_cause s tag cookie cert = first_that_stands (wide tag ∷ wide cookie
     ∷ hello_cause_at s (lowest (has_tag tag) s.attempts) cert ∷ [])
 
--- an attempt that was answered, from an address with a cookie
-abbrev pub answered : AttemptState → AddressParts → List ℕ → ℕ → AttemptState
-answered a from cookie moment = record a { stage = Keying from cookie; last = moment; gap = 0 }
+-- an attempt that was answered, from an address with a cookie, in a generation whose secret it keeps
+abbrev pub answered : AttemptState → AddressParts → List ℕ → ℕ → GroupSecret → AttemptState
+answered a from cookie moment g = record a { stage = Keying from cookie g; last = moment; gap = 0 }
 
 -- A search that was answered by an end with this fingerprint: it is the attempt towards it with
 -- this number, which starts at this moment.
-abbrev pub met : AttemptState → List ℕ → ℕ → AddressParts → List ℕ → ℕ → AttemptState
-met a peer n from cookie moment = record a {
+abbrev pub met : AttemptState → List ℕ → ℕ → AddressParts → List ℕ → ℕ → GroupSecret → AttemptState
+met a peer n from cookie moment g = record a {
   aim = AtPeer peer n;
   start = moment;
-  stage = Keying from cookie;
+  stage = Keying from cookie g;
   last = moment;
   gap = 0;
 }
@@ -288,57 +292,58 @@ answer_fact s print (Some e) = answer_fact_as s print e.0 e.1.ni e.1.aim
 
 -- a search is an attempt towards this end, whose start is noted
 abbrev pub after_start : StartupState → List ℕ → ℕ → AttemptState → AddressParts → List ℕ → ℕ →
-    StartupState
-after_start s peer near a from cookie moment =
+    GroupSecret → StartupState
+after_start s peer near a from cookie moment g =
     with_attempt (with_ledger s (noted s.ledger (started_fact s.ledger peer near a.ni))) near
-    (met a peer (s.ledger.started + 1) from cookie moment)
+    (met a peer (s.ledger.started + 1) from cookie moment g)
 
 -- what it leaves: the attempt goes on, or the search is an attempt
 abbrev pub after_answer_as : StartupState → List ℕ → ℕ × AttemptState → AddressParts → List ℕ → ℕ →
-    Aim → StartupState
-after_answer_as s print e from cookie moment (AtPeer peer n) =
-    with_attempt s e.0 (answered e.1 from cookie moment)
-after_answer_as s print e from cookie moment (ByName name) =
-    after_start s print e.0 e.1 from cookie moment
+    GroupSecret → Aim → StartupState
+after_answer_as s print e from cookie moment g (AtPeer peer n) =
+    with_attempt s e.0 (answered e.1 from cookie moment g)
+after_answer_as s print e from cookie moment g (ByName name) =
+    after_start s print e.0 e.1 from cookie moment g
 
 abbrev pub after_answer : StartupState → List ℕ → Option (ℕ × AttemptState) → AddressParts →
-    List ℕ → ℕ → StartupState
-after_answer s print None from cookie moment = s
-after_answer s print (Some e) from cookie moment =
-    after_answer_as s print e from cookie moment e.1.aim
+    List ℕ → ℕ → GroupSecret → StartupState
+after_answer s print None from cookie moment g = s
+after_answer s print (Some e) from cookie moment g =
+    after_answer_as s print e from cookie moment g e.1.aim
 
 -- the keying that goes to the end that answered, with the number that the attempt has then
-abbrev pub keying_towards : StartupState → ℕ → List ℕ → List ℕ → ℕ → AddressParts → List ℕ → Answer
-keying_towards s near ni peer n to cookie = record {
-  to = to;
-  sid = 0;
-  plain = iikeying_signed (sign_key_of s.secret) near cookie s.cert ni n peer;
-}
+abbrev pub keying_towards : StartupState → ℕ → List ℕ → List ℕ → ℕ → AddressParts → List ℕ →
+    GroupSecret → Answer
+keying_towards s near ni peer n to cookie g =
+    answer_under g to 0 (iikeying_signed (sign_key_of g.secret) near cookie s.cert ni n peer)
 
-abbrev pub answer_keying_as : StartupState → List ℕ → ℕ → List ℕ → AddressParts → List ℕ → Aim →
-    Answer
-answer_keying_as s print near ni from cookie (AtPeer peer n) =
-    keying_towards s near ni peer n from cookie
-answer_keying_as s print near ni from cookie (ByName name) =
-    keying_towards s near ni print (s.ledger.started + 1) from cookie
+abbrev pub answer_keying_as : StartupState → List ℕ → ℕ → List ℕ → AddressParts → List ℕ →
+    GroupSecret → Aim → Answer
+answer_keying_as s print near ni from cookie g (AtPeer peer n) =
+    keying_towards s near ni peer n from cookie g
+answer_keying_as s print near ni from cookie g (ByName name) =
+    keying_towards s near ni print (s.ledger.started + 1) from cookie g
 
 abbrev pub answer_keying : StartupState → List ℕ → Option (ℕ × AttemptState) → AddressParts →
-    List ℕ → Option Answer
-answer_keying s print None from cookie = None
-answer_keying s print (Some e) from cookie =
-    Some (answer_keying_as s print e.0 e.1.ni from cookie e.1.aim)
+    List ℕ → GroupSecret → Option Answer
+answer_keying s print None from cookie g = None
+answer_keying s print (Some e) from cookie g =
+    Some (answer_keying_as s print e.0 e.1.ni from cookie g e.1.aim)
 
--- what a responder's hello states, what it leaves, and the keying that answers it
+-- what a responder's hello states, what it leaves, and the keying that answers it, where it opened
+-- under this secret of the group
 abbrev pub rhello_fact : StartupState → List ℕ → List ℕ → Option Fact
 rhello_fact s tag cert = answer_fact s (sha256 cert) (lowest (has_tag tag) s.attempts)
 
-abbrev pub after_rhello : StartupState → List ℕ → List ℕ → List ℕ → AddressParts → ℕ → StartupState
-after_rhello s tag cookie cert from moment = after_answer s (sha256 cert)
-    (lowest (has_tag tag) s.attempts) from cookie moment
+abbrev pub after_rhello : StartupState → List ℕ → List ℕ → List ℕ → AddressParts → ℕ →
+    GroupSecret → StartupState
+after_rhello s tag cookie cert from moment g = after_answer s (sha256 cert)
+    (lowest (has_tag tag) s.attempts) from cookie moment g
 
-abbrev pub rhello_keying : StartupState → List ℕ → List ℕ → List ℕ → AddressParts → Option Answer
-rhello_keying s tag cookie cert from = answer_keying s (sha256 cert)
-    (lowest (has_tag tag) s.attempts) from cookie
+abbrev pub rhello_keying : StartupState → List ℕ → List ℕ → List ℕ → AddressParts → GroupSecret →
+    Option Answer
+rhello_keying s tag cookie cert from g = answer_keying s (sha256 cert)
+    (lowest (has_tag tag) s.attempts) from cookie g
 
 -- whether it starts an attempt, and so takes memory
 abbrev pub is_search_at : Option (ℕ × AttemptState) → Bool
@@ -361,21 +366,28 @@ abbrev pub changed : Attempts → ℕ → List ℕ → Option (ℕ × AttemptSta
 changed attempts sid old = if sid == 0 then lowest (has_cookie old) attempts
     else if_cookie old sid (get attempts sid)
 
-abbrev pub none_to_change : Option (ℕ × AttemptState) → Option Cause
-none_to_change None = Some NoAttempt
-none_to_change (Some e) = None
+-- whether its keyings are sent in this generation
+abbrev pub is_under : ℕ → Stage → Bool
+is_under generation Hello = false
+is_under generation (Keying at cookie under) = under.generation == generation
 
-abbrev pub change_cause_among : Attempts → ℕ → List ℕ → List ℕ → Option Cause
-change_cause_among attempts sid old new = first_that_stands
-    (wide old ∷ wide new ∷ none_to_change (changed attempts sid old) ∷ [])
+-- No attempt is chosen, or the one that is sends in another generation than the change came in.
+abbrev pub none_to_change : ℕ → Option (ℕ × AttemptState) → Option Cause
+none_to_change generation None = Some NoAttempt
+none_to_change generation (Some e) = where_true (not (is_under generation e.1.stage)) NoAttempt
 
--- why a change of a cookie is discarded
-abbrev pub cookie_change_cause : StartupState → ℕ → List ℕ → List ℕ → Option Cause
-cookie_change_cause s sid old new = change_cause_among s.attempts sid old new
+abbrev pub change_cause_among : Attempts → ℕ → List ℕ → List ℕ → ℕ → Option Cause
+change_cause_among attempts sid old new generation = first_that_stands
+    (wide old ∷ wide new ∷ none_to_change generation (changed attempts sid old) ∷ [])
+
+-- why a change of a cookie is discarded that opened in this generation
+abbrev pub cookie_change_cause : StartupState → ℕ → List ℕ → List ℕ → ℕ → Option Cause
+cookie_change_cause s sid old new generation =
+    change_cause_among s.attempts sid old new generation
 
 abbrev pub with_cookie : List ℕ → Stage → Stage
 with_cookie cookie Hello = Hello
-with_cookie cookie (Keying at old) = Keying at cookie
+with_cookie cookie (Keying at old under) = Keying at cookie under
 
 -- an attempt that sends its keying with another cookie
 abbrev pub recookied : AttemptState → List ℕ → ℕ → AttemptState
@@ -385,15 +397,15 @@ abbrev pub after_change : StartupState → Option (ℕ × AttemptState) → List
 after_change s None cookie moment = s
 after_change s (Some e) cookie moment = with_attempt s e.0 (recookied e.1 cookie moment)
 
--- the keying that goes out again, to the address that answered
-abbrev pub again_signed : List ℕ → List ℕ → ℕ → AttemptState → Stage → List ℕ → Option Answer
-again_signed key cert near a Hello cookie = None
-again_signed key cert near a (Keying at old) cookie = Some (keying_signed key cert near a at cookie)
+-- the keying that goes out again, to the address that answered, under the attempt's own secret
+abbrev pub again_under : List ℕ → ℕ → AttemptState → Stage → List ℕ → Option Answer
+again_under cert near a Hello cookie = None
+again_under cert near a (Keying at old under) cookie =
+    Some (keying_under under cert near a at cookie)
 
 abbrev pub change_keying : StartupState → Option (ℕ × AttemptState) → List ℕ → Option Answer
 change_keying s None cookie = None
-change_keying s (Some e) cookie = again_signed (sign_key_of s.secret) s.cert e.0 e.1 e.1.stage
-    cookie
+change_keying s (Some e) cookie = again_under s.cert e.0 e.1 e.1.stage cookie
 
 -- what a change of a cookie leaves, and the keying that answers it
 abbrev pub after_cookie_change : StartupState → ℕ → List ℕ → List ℕ → ℕ → StartupState
@@ -401,3 +413,17 @@ after_cookie_change s sid old new moment = after_change s (changed s.attempts si
 
 abbrev pub cookie_change_keying : StartupState → ℕ → List ℕ → List ℕ → Option Answer
 cookie_change_keying s sid old new = change_keying s (changed s.attempts sid old) new
+
+-- ---- the secret that an attempt keeps
+
+abbrev pub secret_in : Stage → Option GroupSecret
+secret_in Hello = None
+secret_in (Keying at cookie under) = Some under
+
+abbrev pub secret_of_attempt : Option AttemptState → Option GroupSecret
+secret_of_attempt None = None
+secret_of_attempt (Some a) = secret_in a.stage
+
+-- the generation and secret of the attempt with this near id, which it has in the keying stage alone
+abbrev pub secret_of : StartupState → ℕ → Option GroupSecret
+secret_of s near = secret_of_attempt (get s.attempts near)

@@ -1,7 +1,6 @@
 -- What time makes due of the attempts: their repeats, and their ends.
 use Rattle.std.specs.Prelude.{ℕ, ◌+◌, ◌==◌, ◌||◌, Bool, nat_le, if◌then◌else◌, List, length, Option, Some, None, min}
 use Rattle.rtmfp_forms.specs.Address.{AddressParts}
-use Rattle.crypto_profile.specs.Keys.{sign_key_of}
 use Rattle.glare_core.specs.declared.facts.Why.TheVariants.{Expired}
 use Rattle.glare_core.specs.declared.facts.Fact.{Fact}
 use Rattle.glare_core.specs.declared.facts.Fact.TheVariants.{Ended}
@@ -14,7 +13,7 @@ use Rattle.startup.specs.State.{AttemptState, StartupState}
 use Rattle.startup.specs.declared.aim.Aim.{Aim}
 use Rattle.startup.specs.declared.aim.Aim.TheVariants.{AtPeer, ByName}
 use Rattle.startup.specs.Aims.{end_of_aim}
-use Rattle.startup.specs.Attempts.{lowest, with_attempt, without_attempt_by, hello_spread, keying_signed}
+use Rattle.startup.specs.Attempts.{lowest, with_attempt, without_attempt_by, hello_spread, keying_under}
 
 -- how many milliseconds stand before the repeat with this number, from the last sending; the last
 -- of them stays
@@ -43,15 +42,15 @@ is_due moment a = is_over moment a || is_repeat_due moment a
 abbrev pub repeated : AttemptState → ℕ → AttemptState
 repeated a moment = record a { last = moment; gap = min (a.gap + 1) 4 }
 
--- what is sent again: the hellos to all candidates, or the keying, under the signature key with the
--- own certificate
-abbrev pub repeat_signed : List ℕ → List ℕ → ℕ → AttemptState → Stage → Due
-repeat_signed key cert near a Hello = HelloDue (hello_spread a a.candidates)
-repeat_signed key cert near a (Keying at cookie) =
-    KeyingDue (keying_signed key cert near a at cookie)
+-- what is sent again: the hellos to all candidates, or the keying, under the attempt's own secret
+-- with the own certificate
+abbrev pub repeat_under : List ℕ → ℕ → AttemptState → Stage → Due
+repeat_under cert near a Hello = HelloDue (hello_spread a a.candidates)
+repeat_under cert near a (Keying at cookie under) =
+    KeyingDue (keying_under under cert near a at cookie)
 
 abbrev pub repeat_of : StartupState → ℕ → AttemptState → Due
-repeat_of s near a = repeat_signed (sign_key_of s.secret) s.cert near a a.stage
+repeat_of s near a = repeat_under s.cert near a a.stage
 
 -- what is done at its end, by what it is towards
 abbrev pub due_end : ℕ → Aim → Due
@@ -92,7 +91,7 @@ due_count moment s = count_where (is_due moment) s.attempts
 -- the hellos of an attempt go to all candidates, and its keying to one address
 abbrev pub repeats : List AddressParts → Stage → ℕ
 repeats candidates Hello = length candidates
-repeats candidates (Keying at cookie) = 1
+repeats candidates (Keying at cookie under) = 1
 
 abbrev pub sends : ℕ → AttemptState → ℕ
 sends moment a = if is_over moment a then 0 else repeats a.candidates a.stage

@@ -1,6 +1,7 @@
 -- Short names for the values at which the rules' edges are stated.
 use Rattle.std.specs.Prelude.{◌≡◌, ℕ, List, [], ◌∷◌, false, replicate}
 use Rattle.std.specs.FinMap.{entries}
+use Rattle.crypto_profile.specs.declared.group.GroupSecret.{GroupSecret}
 use Rattle.rtmfp_forms.specs.Address.{AddressParts}
 use Rattle.startup.specs.declared.aim.Aim.TheVariants.{AtPeer, ByName}
 use Rattle.startup.specs.declared.attempt.Stage.TheVariants.{Hello, Keying}
@@ -28,12 +29,13 @@ towards peer n a = record a { aim = AtPeer peer n }
 abbrev pub searching : List ℕ → AttemptState → AttemptState
 searching name a = record a { aim = ByName name }
 
--- an attempt, but in the hello stage, or in the keying stage with an address and a cookie
+-- an attempt, but in the hello stage, or in the keying stage with an address, a cookie, and the
+-- generation and secret that it keeps
 abbrev pub in_hello : AttemptState → AttemptState
 in_hello a = record a { stage = Hello }
 
-abbrev pub in_keying : AddressParts → List ℕ → AttemptState → AttemptState
-in_keying at cookie a = record a { stage = Keying at cookie }
+abbrev pub in_keying : AddressParts → List ℕ → GroupSecret → AttemptState → AttemptState
+in_keying at cookie g a = record a { stage = Keying at cookie g }
 
 -- the attempts are two, under the near ids 5 and 6
 abbrev pub AreTwo : Attempts → AttemptState → AttemptState → Type 0

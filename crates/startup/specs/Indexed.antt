@@ -54,7 +54,7 @@ IsFoundBy test words word attempts = words.whole ≡ true → (near : ℕ) (a : 
 -- how many bytes of a cookie are kept
 abbrev pub cookie_length : Stage → ℕ
 cookie_length Hello = 0
-cookie_length (Keying at cookie) = length cookie
+cookie_length (Keying at cookie under) = length cookie
 
 -- A tag has 16 bytes, and a cookie that is kept at most 128.
 pub record IsSized (a : AttemptState) : Type 0 where

@@ -3,6 +3,7 @@ use Rattle.std.specs.Prelude.{ℕ, ◌+◌, ◌≤◌, List, length, ◌≡◌, 
 use Rattle.std.specs.FinMap.{get}
 use Rattle.std.specs.Coded.{Coded, code_by, coded×, coded_list}
 use Rattle.sha2.specs.Sha256.{sha256}
+use Rattle.crypto_profile.specs.declared.group.GroupSecret.{GroupSecret}
 use Rattle.rtmfp_forms.specs.Address.{AddressParts}
 use Rattle.cookies.specs.declared.CookieTest.{CookieTest}
 use Rattle.cookies.specs.declared.CookieTest.TheVariants.{Bad, Moved, Expired, Current}
@@ -30,7 +31,7 @@ unless_cause found (Some cause) = Err cause
 
 -- the same by what the ledger judges: its session is held, or would be born
 abbrev pub heard_as : Keying → Judged → Hearing
-heard_as keying (IsAgain j) = Again j
+heard_as keying (IsAgain j) = Again keying j
 heard_as keying (IsBirth way) = Birth keying way
 
 -- what hearing an initiator's keying would be, by the test of its cookie
@@ -44,11 +45,11 @@ hearing s keying Moved = Change
 hearing s keying Expired = Change
 
 -- the same, or why it is discarded
-abbrev pub judged_initiator : StartupState → List ℕ → AddressParts → ℕ → Option ℕ →
+abbrev pub judged_initiator : StartupState → List ℕ → AddressParts → ℕ → Option ℕ → GroupSecret →
     InitiatorKeying → Result Hearing Cause
-judged_initiator s payload from now full keying =
+judged_initiator s payload from now full g keying =
     unless_cause (hearing s keying (cookie_test s.cookie_secret keying.cookie from now))
-    (initiator_cause s payload from now full keying)
+    (initiator_cause s payload from now full g keying)
 
 -- the attempt that is chosen was found
 pub record IsFound (s : StartupState) (found : Found) (chosen : Option (ℕ × AttemptState)) :

@@ -2,8 +2,10 @@
 -- make.
 use Rattle.std.specs.Prelude.{ℕ, List, [], ◌∷◌, ◌==◌, Bool, true, false, not, Option, Some, None, is_none, Result, Ok, Err, if◌then◌else◌}
 use Rattle.std.specs.Str.{bytes_eq}
-use Rattle.std.specs.FinMap.{contains_key, get, remove}
+use Rattle.std.specs.FinMap.{contains_key, get, insert, remove}
 use Rattle.sha2.specs.Sha256.{sha256}
+use Rattle.crypto_profile.specs.declared.group.GroupSecret.{GroupSecret}
+use Rattle.crypto_profile.specs.Keys.{sign_key_of, startup_keys_of}
 use Rattle.rtmfp_forms.specs.Address.{AddressParts}
 use Rattle.rtmfp_chunks.specs.declared.kinds.TheConstants.{IIKEYING, RIKEYING}
 use Rattle.cookies.specs.declared.CookieTest.{CookieTest}
@@ -20,7 +22,7 @@ use Rattle.glare_core.specs.declared.facts.Held.TheVariants.{Opening, HalfOpen, 
 use Rattle.glare_core.specs.declared.answers.Keying.{Keying}
 use Rattle.glare_core.specs.declared.answers.HearRefusal.{HearRefusal}
 use Rattle.glare_core.specs.declared.answers.HearRefusal.TheVariants.{Stale as StaleNumber, Glare as OwnPrevails, PeersFull as NoRow, SessionsFull as NoPlace, Memory as NoMemory}
-use Rattle.glare_core.specs.Ledger.{Ledger, held_with, knows}
+use Rattle.glare_core.specs.Ledger.{Ledger, held_with}
 use Rattle.rtmfp_base.specs.Reasons.{where_true, first_that_stands}
 use Rattle.glare_core.specs.Calls.{is_born_of, hear_refusal, heard, heard_noted, way_made, born_fact}
 use Rattle.rtmfp_base.specs.declared.cause.Cause.{Cause}
@@ -33,7 +35,9 @@ use Rattle.startup.specs.declared.aim.Aim.TheVariants.{AtPeer, ByName}
 use Rattle.startup.specs.declared.attempt.Stage.{Stage}
 use Rattle.startup.specs.declared.attempt.Stage.TheVariants.{Hello, Keying as KeyingStage}
 use Rattle.startup_packets.specs.Readings.{InitiatorKeying, ResponderKeying, initiator_keying_in, responder_keying_in}
-use Rattle.startup_packets.specs.Packets.{is_signed, rhello_packet, cookiechange_packet, rikeying_packet}
+use Rattle.startup_packets.specs.Packets.{is_signed, rhello_packet, cookiechange_packet, rikeying_packet, rikeying_signature, rikeying_with}
+use Rattle.startup.specs.declared.kept.KeptKeying.{KeptKeying}
+use Rattle.startup.specs.Answers.{answer_under}
 use Rattle.startup.specs.Aims.{is_search, is_towards}
 use Rattle.startup.specs.State.{AttemptState, Attempts, StartupState}
 use Rattle.startup.specs.Attempts.{wide, is_own, without_attempt}
@@ -53,13 +57,11 @@ abbrev pub initiator_hello_cause : StartupState → List ℕ → List ℕ → Op
 initiator_hello_cause s epd tag = first_that_stands
     (wide tag ∷ where_true (not (selects (target_of epd) s.cert)) NotSelected ∷ [])
 
--- what answers it: its tag, a new cookie for the address, and the own certificate
-abbrev pub initiator_hello_answer : StartupState → List ℕ → AddressParts → ℕ → Answer
-initiator_hello_answer s tag to now = record {
-  to = to;
-  sid = 0;
-  plain = rhello_packet tag (cookie_of s.cookie_secret to now) s.cert;
-}
+-- what answers it under this secret of the group: its tag, a new cookie for the address, and the own
+-- certificate
+abbrev pub initiator_hello_answer : StartupState → List ℕ → AddressParts → ℕ → GroupSecret → Answer
+initiator_hello_answer s tag to now g =
+    answer_under g to 0 (rhello_packet tag (cookie_of s.cookie_secret to now) s.cert)
 
 -- ---- initiators' keyings
 
@@ -103,39 +105,54 @@ cookie_cause Moved later = None
 cookie_cause Expired later = None
 cookie_cause Current later = later
 
--- why a keying is discarded that reads
-abbrev pub initiator_cause : StartupState → List ℕ → AddressParts → ℕ → Option ℕ → InitiatorKeying →
-    Option Cause
-initiator_cause s payload from now full keying =
+-- why a keying is discarded that reads, and opened under this secret of the group
+abbrev pub initiator_cause : StartupState → List ℕ → AddressParts → ℕ → Option ℕ → GroupSecret →
+    InitiatorKeying → Option Cause
+initiator_cause s payload from now full g keying =
     first_that_stands (
-    where_true (not (is_signed s.secret payload keying.sign)) BadSignature
+    where_true (not (is_signed g.secret payload keying.sign)) BadSignature
     ∷ wide keying.cookie
     ∷ cookie_cause (cookie_test s.cookie_secret keying.cookie from now) (named_cause s keying full)
     ∷ [])
 
--- Why an initiator's keying is discarded, where it came from this address at this moment; full is
--- the limit on sessions where there is no room for one more. Want of memory stands behind all this.
-abbrev pub iikeying_cause : StartupState → List ℕ → AddressParts → ℕ → Option ℕ → Option Cause
-iikeying_cause s payload from now full = cause_by (initiator_cause s payload from now full)
+-- Why an initiator's keying is discarded, where it came from this address at this moment, and
+-- opened under this secret of the group; full is the limit on sessions where there is no room for
+-- one more. Want of memory stands behind all this.
+abbrev pub iikeying_cause : StartupState → List ℕ → AddressParts → ℕ → Option ℕ → GroupSecret →
+    Option Cause
+iikeying_cause s payload from now full g = cause_by (initiator_cause s payload from now full g)
     (initiator_keying_in payload)
 
 -- a new cookie for the address, in place of that of the keying
-abbrev pub change_answer : StartupState → InitiatorKeying → AddressParts → ℕ → Answer
-change_answer s keying from now =
+abbrev pub change_answer : StartupState → InitiatorKeying → AddressParts → ℕ → GroupSecret → Answer
+change_answer s keying from now g = answer_under g from keying.near
+    (cookiechange_packet keying.cookie (cookie_of s.cookie_secret from now))
+
+-- the responder's keying of a session that is born, under the secret of the group under which its
+-- initiator's keying opened
+abbrev pub session_answer : StartupState → Joined → AddressParts → GroupSecret → Answer
+session_answer s j from g = answer_under g from j.far
+    (rikeying_packet g.secret j.near j.nr j.k (sha256 s.cert) j.ni)
+
+-- what of it is kept for repeats: the generation and its startup keys, and the signature
+abbrev pub kept_keying : StartupState → Joined → GroupSecret → KeptKeying
+kept_keying s j g =
     record {
-      to = from;
-      sid = keying.near;
-      plain = cookiechange_packet keying.cookie
-          (cookie_of s.cookie_secret from now);
+      generation = g.generation;
+      keys = startup_keys_of g;
+      sign = rikeying_signature (sign_key_of g.secret) j.near j.nr j.k (sha256 s.cert) j.ni;
     }
 
--- the responder's keying of a session
-abbrev pub session_answer : StartupState → Joined → AddressParts → Answer
-session_answer s j from = record {
-  to = from;
-  sid = j.far;
-  plain = rikeying_packet s.secret j.near j.nr j.k (sha256 s.cert) j.ni;
-}
+-- the responder's keying of a session again, as it was kept
+abbrev pub kept_answer : StartupState → Joined → AddressParts → KeptKeying → Answer
+kept_answer s j from kept =
+    record {
+      to = from;
+      sid = j.far;
+      plain = rikeying_with j.near j.nr j.k (sha256 s.cert) j.ni kept.sign;
+      generation = kept.generation;
+      keys = kept.keys;
+    }
 
 -- the held session that was born of this very keying
 abbrev pub repeated_session : Option Held → Keying → Option Joined
@@ -158,33 +175,41 @@ born_session l keying near nr =
       k = l.started;
     }
 
-abbrev pub again_or_birth : StartupState → Keying → AddressParts → ℕ → List ℕ → Option Joined →
-    Keyed
-again_or_birth s keying from near nr (Some j) = Again (session_answer s j from)
-again_or_birth s keying from near nr None =
-    Birth (way_made keying.peer (held_with s.ledger keying.peer))
+-- A repeated keying is answered as it was kept, whatever it opened under.
+abbrev pub again_by : StartupState → Joined → AddressParts → Option KeptKeying → Option Keyed
+again_by s j from None = None
+again_by s j from (Some kept) = Some (Again (kept_answer s j from kept))
+
+abbrev pub again_or_birth : StartupState → Keying → AddressParts → ℕ → List ℕ → GroupSecret →
+    Option Joined → Option Keyed
+again_or_birth s keying from near nr g (Some j) = again_by s j from (get s.kept keying.peer)
+again_or_birth s keying from near nr g None =
+    Some (Birth (way_made keying.peer (held_with s.ledger keying.peer))
     (born_fact s.ledger keying near nr)
-    (session_answer s (born_session s.ledger keying near nr) from)
+    (session_answer s (born_session s.ledger keying near nr) from g))
 
-abbrev pub keyed_with : StartupState → AddressParts → ℕ → ℕ → List ℕ → InitiatorKeying →
-    CookieTest → Keyed
-keyed_with s from now near nr keying Current =
-    again_or_birth s (keying_of keying) from near nr
+abbrev pub keyed_with : StartupState → AddressParts → ℕ → ℕ → List ℕ → GroupSecret →
+    InitiatorKeying → CookieTest → Option Keyed
+keyed_with s from now near nr g keying Current =
+    again_or_birth s (keying_of keying) from near nr g
     (repeated_session (held_with s.ledger (sha256 keying.cert)) (keying_of keying))
-keyed_with s from now near nr keying Bad = Change (change_answer s keying from now)
-keyed_with s from now near nr keying Moved = Change (change_answer s keying from now)
-keyed_with s from now near nr keying Expired = Change (change_answer s keying from now)
+keyed_with s from now near nr g keying Bad = Some (Change (change_answer s keying from now g))
+keyed_with s from now near nr g keying Moved = Some (Change (change_answer s keying from now g))
+keyed_with s from now near nr g keying Expired = Some (Change (change_answer s keying from now g))
 
-abbrev pub keyed_reading : StartupState → AddressParts → ℕ → ℕ → List ℕ →
+abbrev pub keyed_reading : StartupState → AddressParts → ℕ → ℕ → List ℕ → GroupSecret →
     Result InitiatorKeying Cause → Option Keyed
-keyed_reading s from now near nr (Ok keying) =
-    Some (keyed_with s from now near nr keying (cookie_test s.cookie_secret keying.cookie from now))
-keyed_reading s from now near nr (Err cause) = None
+keyed_reading s from now near nr g (Ok keying) =
+    keyed_with s from now near nr g keying (cookie_test s.cookie_secret keying.cookie from now)
+keyed_reading s from now near nr g (Err cause) = None
 
--- What an initiator's keying gives that isn't discarded: a new cookie, the keying of its held
--- session again, or the birth of a session with this near id and nonce. None where it doesn't read.
-abbrev pub keyed : StartupState → List ℕ → AddressParts → ℕ → ℕ → List ℕ → Option Keyed
-keyed s payload from now near nr = keyed_reading s from now near nr (initiator_keying_in payload)
+-- What an initiator's keying gives that isn't discarded, and opened under this secret of the group:
+-- a new cookie, the keying of its held session again, or the birth of a session with this near id
+-- and nonce. None where it doesn't read, or nothing is kept of its held session.
+abbrev pub keyed : StartupState → List ℕ → AddressParts → ℕ → ℕ → List ℕ → GroupSecret →
+    Option Keyed
+keyed s payload from now near nr g = keyed_reading s from now near nr g
+    (initiator_keying_in payload)
 
 -- the near id of a held attempt
 abbrev pub opening_id : Option Held → Option ℕ
@@ -209,49 +234,54 @@ abbrev pub without : Attempts → Option ℕ → Attempts
 without attempts None = attempts
 without attempts (Some near) = remove attempts near
 
-abbrev pub after_again_or_birth : StartupState → Keying → ℕ → List ℕ → Option Joined → StartupState
-after_again_or_birth s keying near nr (Some j) = s
-after_again_or_birth s keying near nr None =
+abbrev pub after_again_or_birth : StartupState → Keying → ℕ → List ℕ → GroupSecret →
+    Option Joined → StartupState
+after_again_or_birth s keying near nr g (Some j) = s
+after_again_or_birth s keying near nr g None =
     record s {
       ledger = heard_noted s.ledger (heard s.ledger keying near nr);
       attempts = without s.attempts (opening_id (held_with s.ledger keying.peer));
+      kept = insert s.kept keying.peer
+          (kept_keying s (born_session s.ledger keying near nr) g);
     }
 
-abbrev pub after_keyed_with : StartupState → ℕ → List ℕ → InitiatorKeying → CookieTest →
-    StartupState
-after_keyed_with s near nr keying Current =
-    after_again_or_birth s (keying_of keying) near nr
+abbrev pub after_keyed_with : StartupState → ℕ → List ℕ → GroupSecret → InitiatorKeying →
+    CookieTest → StartupState
+after_keyed_with s near nr g keying Current =
+    after_again_or_birth s (keying_of keying) near nr g
     (repeated_session (held_with s.ledger (sha256 keying.cert)) (keying_of keying))
-after_keyed_with s near nr keying Bad = s
-after_keyed_with s near nr keying Moved = s
-after_keyed_with s near nr keying Expired = s
+after_keyed_with s near nr g keying Bad = s
+after_keyed_with s near nr g keying Moved = s
+after_keyed_with s near nr g keying Expired = s
 
-abbrev pub after_keyed_reading : StartupState → AddressParts → ℕ → ℕ → List ℕ →
+abbrev pub after_keyed_reading : StartupState → AddressParts → ℕ → ℕ → List ℕ → GroupSecret →
     Result InitiatorKeying Cause → StartupState
-after_keyed_reading s from now near nr (Ok keying) =
-    after_keyed_with s near nr keying (cookie_test s.cookie_secret keying.cookie from now)
-after_keyed_reading s from now near nr (Err cause) = s
+after_keyed_reading s from now near nr g (Ok keying) =
+    after_keyed_with s near nr g keying (cookie_test s.cookie_secret keying.cookie from now)
+after_keyed_reading s from now near nr g (Err cause) = s
 
 -- What it leaves: only a birth changes anything. An attempt that makes way for the session isn't
--- kept.
-abbrev pub after_keying : StartupState → List ℕ → AddressParts → ℕ → ℕ → List ℕ → StartupState
-after_keying s payload from now near nr = after_keyed_reading s from now near nr
+-- kept, and what answers a repeat of this keying is.
+abbrev pub after_keying : StartupState → List ℕ → AddressParts → ℕ → ℕ → List ℕ → GroupSecret →
+    StartupState
+after_keying s payload from now near nr g = after_keyed_reading s from now near nr g
     (initiator_keying_in payload)
 
--- Whether it takes memory: for the row of a peer that has none.
-abbrev pub needs_row_with : StartupState → InitiatorKeying → CookieTest → Bool
-needs_row_with s keying Current = not (knows s.ledger (sha256 keying.cert))
-needs_row_with s keying Bad = false
-needs_row_with s keying Moved = false
-needs_row_with s keying Expired = false
+-- Whether it takes memory: where a session is born.
+abbrev pub bears_with : StartupState → InitiatorKeying → CookieTest → Bool
+bears_with s keying Current = is_none
+    (repeated_session (held_with s.ledger (sha256 keying.cert)) (keying_of keying))
+bears_with s keying Bad = false
+bears_with s keying Moved = false
+bears_with s keying Expired = false
 
-abbrev pub needs_row_reading : StartupState → AddressParts → ℕ → Result InitiatorKeying Cause → Bool
-needs_row_reading s from now (Ok keying) = needs_row_with s keying
+abbrev pub bears_reading : StartupState → AddressParts → ℕ → Result InitiatorKeying Cause → Bool
+bears_reading s from now (Ok keying) = bears_with s keying
     (cookie_test s.cookie_secret keying.cookie from now)
-needs_row_reading s from now (Err cause) = false
+bears_reading s from now (Err cause) = false
 
-abbrev pub needs_row : StartupState → List ℕ → AddressParts → ℕ → Bool
-needs_row s payload from now = needs_row_reading s from now (initiator_keying_in payload)
+abbrev pub bears : StartupState → List ℕ → AddressParts → ℕ → Bool
+bears s payload from now = bears_reading s from now (initiator_keying_in payload)
 
 -- the facts that it gave, the newest first
 abbrev pub keyed_facts : Keyed → List Fact
@@ -264,7 +294,7 @@ keyed_facts (Birth (Some ended) born answer) = born ∷ ended ∷ []
 
 abbrev pub is_in_hello : Stage → Bool
 is_in_hello Hello = true
-is_in_hello (KeyingStage at cookie) = false
+is_in_hello (KeyingStage at cookie under) = false
 
 -- why a responder's keying doesn't open this attempt; a search it never opens
 abbrev pub attempt_cause : ResponderKeying → Option AttemptState → Option Cause
@@ -277,21 +307,25 @@ attempt_cause keying (Some a) =
     ∷ where_true (not (bytes_eq keying.part.ni a.ni)) NoAttempt
     ∷ [])
 
-abbrev pub responder_cause : StartupState → ℕ → List ℕ → ResponderKeying → Option Cause
-responder_cause s near payload keying =
+-- why it is discarded, where it opened under this secret of the group
+abbrev pub responder_cause : StartupState → ℕ → List ℕ → GroupSecret → ResponderKeying →
+    Option Cause
+responder_cause s near payload g keying =
     first_that_stands (
-    where_true (not (is_signed s.secret payload keying.sign)) BadSignature
+    where_true (not (is_signed g.secret payload keying.sign)) BadSignature
     ∷ attempt_cause keying (get s.attempts near)
     ∷ [])
 
 -- the same where the attempt is looked up first: no signature is tested where none is there
-abbrev pub opening_cause : StartupState → ℕ → List ℕ → ResponderKeying → Option Cause
-opening_cause s near payload keying = if contains_key s.attempts near then
-    responder_cause s near payload keying else Some NoAttempt
+abbrev pub opening_cause : StartupState → ℕ → List ℕ → GroupSecret → ResponderKeying →
+    Option Cause
+opening_cause s near payload g keying = if contains_key s.attempts near then
+    responder_cause s near payload g keying else Some NoAttempt
 
--- why a responder's keying is discarded that came under this near id
-abbrev pub rikeying_cause : StartupState → ℕ → List ℕ → Option Cause
-rikeying_cause s near payload = cause_by (responder_cause s near payload)
+-- why a responder's keying is discarded that came under this near id, and opened under this secret
+-- of the group
+abbrev pub rikeying_cause : StartupState → ℕ → List ℕ → GroupSecret → Option Cause
+rikeying_cause s near payload g = cause_by (responder_cause s near payload g)
     (responder_keying_in payload)
 
 -- the session of an attempt towards a peer, with a number and a nonce, that this keying opens

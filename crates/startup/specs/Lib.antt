@@ -1,6 +1,8 @@
 pub mod Words
 pub mod Aims
 pub mod State
+pub mod Answers
+pub mod Kept
 pub mod Rows
 pub mod Attempts
 pub mod Due

@@ -77,7 +77,7 @@ Stands marks mark = StandsFrom marks 0 mark
 -- An attempt has a mark in the keying stage alone.
 abbrev pub mark_in : Stage → ℕ → Option Mark
 mark_in Hello near = None
-mark_in (Keying at cookie) near = Some (record { word = cookie_word cookie; near = near })
+mark_in (Keying at cookie under) near = Some (record { word = cookie_word cookie; near = near })
 
 abbrev pub mark_of : AttemptState → ℕ → Option Mark
 mark_of a near = mark_in a.stage near

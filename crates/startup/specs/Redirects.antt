@@ -2,6 +2,7 @@
 -- how many there may be, and what an empty list says, is own).
 use Rattle.std.specs.Prelude.{ℕ, ◌+◌, nat_lt, not, if◌then◌else◌, List, [], ◌∷◌, ◌++◌, length, Option, Some, None}
 use Rattle.std.specs.List.{fold, list_any}
+use Rattle.crypto_profile.specs.declared.group.GroupSecret.{GroupSecret}
 use Rattle.rtmfp_forms.specs.Address.{AddressParts, is_same_place}
 use Rattle.rtmfp_chunks.specs.FieldReading.{addresses_in}
 use Rattle.rtmfp_base.specs.Reasons.{where_true, first_that_stands}
@@ -10,6 +11,7 @@ use Rattle.rtmfp_base.specs.declared.cause.Cause.{Cause}
 use Rattle.rtmfp_base.specs.declared.cause.Cause.TheVariants.{NoAttempt, WrongState, CandidatesFull}
 use Rattle.startup.specs.State.{AttemptState, Attempts, StartupState, SpreadParts}
 use Rattle.startup.specs.Attempts.{lowest, has_tag, wide, joined, with_attempt, hello_spread}
+use Rattle.startup.specs.Answers.{answer_under}
 use Rattle.startup.specs.Keyings.{is_in_hello}
 use Rattle.startup_packets.specs.Packets.{redirect_packet}
 
@@ -103,10 +105,7 @@ adds s tag list from =
 
 -- ---- the redirect of an introducer
 
--- the redirect that answers a hello with this tag, to where it came from
-abbrev pub redirect_answer : List ℕ → List AddressParts → AddressParts → Answer
-redirect_answer tag addresses to = record {
-  to = to;
-  sid = 0;
-  plain = redirect_packet tag addresses;
-}
+-- the redirect that answers a hello with this tag, to where it came from, under the secret of the
+-- group under which the hello opened
+abbrev pub redirect_answer : List ℕ → List AddressParts → AddressParts → GroupSecret → Answer
+redirect_answer tag addresses to g = answer_under g to 0 (redirect_packet tag addresses)

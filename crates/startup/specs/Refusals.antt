@@ -1,6 +1,7 @@
 -- Why a chunk of startup that an end takes would be discarded, by its type and payload: what the
 -- calls for these chunks answer, without making them.
 use Rattle.std.specs.Prelude.{ℕ, ◌-◌, ◌==◌, List, length, Option, Some, None, is_some, Result, Ok, Err, if◌then◌else◌}
+use Rattle.crypto_profile.specs.declared.group.GroupSecret.{GroupSecret}
 use Rattle.rtmfp_forms.specs.Address.{AddressParts}
 use Rattle.rtmfp_chunks.specs.declared.kinds.TheConstants.{RHELLO, REDIRECT, COOKIE_CHANGE, IIKEYING, RIKEYING}
 use Rattle.rtmfp_chunks.specs.declared.reading.ChunkFault.{ChunkFault}
@@ -40,23 +41,26 @@ redirect_refusal_reading s from (Err fault) = Some (fault_cause fault)
 unfoldable pub redirect_refusal : StartupState → List ℕ → AddressParts → Option Cause
 redirect_refusal s payload from = redirect_refusal_reading s from (chunk_reading REDIRECT payload)
 
-abbrev pub cookie_change_refusal_reading : StartupState → ℕ → Result Chunk ChunkFault → Option Cause
-cookie_change_refusal_reading s sid (Ok (CookieChange old new)) = cookie_change_cause s sid old new
-cookie_change_refusal_reading s sid (Ok chunk) = Some (UnknownChunk COOKIE_CHANGE)
-cookie_change_refusal_reading s sid (Err fault) = Some (fault_cause fault)
+abbrev pub cookie_change_refusal_reading : StartupState → ℕ → ℕ → Result Chunk ChunkFault →
+    Option Cause
+cookie_change_refusal_reading s sid generation (Ok (CookieChange old new)) =
+    cookie_change_cause s sid old new generation
+cookie_change_refusal_reading s sid generation (Ok chunk) = Some (UnknownChunk COOKIE_CHANGE)
+cookie_change_refusal_reading s sid generation (Err fault) = Some (fault_cause fault)
 
-unfoldable pub cookie_change_refusal : StartupState → ℕ → List ℕ → Option Cause
-cookie_change_refusal s sid payload = cookie_change_refusal_reading s sid
+unfoldable pub cookie_change_refusal : StartupState → ℕ → List ℕ → ℕ → Option Cause
+cookie_change_refusal s sid payload generation = cookie_change_refusal_reading s sid generation
     (chunk_reading COOKIE_CHANGE payload)
 
 -- The cause with which a responder's hello, a redirect, a change of a cookie or a keying would be
--- discarded that came under this session ID from this address at this moment. There is none for
--- other types.
-abbrev pub refusal : StartupState → ℕ → ℕ → List ℕ → AddressParts → ℕ → Option ℕ → Option Cause
-refusal s sid kind payload from now full =
+-- discarded that came under this session ID from this address at this moment, and opened under
+-- this secret of the group. There is none for other types.
+abbrev pub refusal : StartupState → ℕ → ℕ → List ℕ → AddressParts → ℕ → Option ℕ → GroupSecret →
+    Option Cause
+refusal s sid kind payload from now full g =
     if kind == RHELLO then rhello_refusal s payload
     else if kind == REDIRECT then redirect_refusal s payload from
-    else if kind == COOKIE_CHANGE then cookie_change_refusal s sid payload
-    else if kind == IIKEYING then iikeying_cause s payload from now full
-    else if kind == RIKEYING then rikeying_cause s sid payload
+    else if kind == COOKIE_CHANGE then cookie_change_refusal s sid payload g.generation
+    else if kind == IIKEYING then iikeying_cause s payload from now full g
+    else if kind == RIKEYING then rikeying_cause s sid payload g
     else None

@@ -55,24 +55,25 @@ pub record IsExtension (attempts : Attempts) (tag : List ℕ) (told : List Addre
 
 -- what a change leaves of an attempt at a moment
 abbrev pub change_of : Change → ℕ → AttemptState → AttemptState
-change_of (Answered from cookie) moment a = answered a from.now cookie.now moment
-change_of (Met peer n from cookie) moment a = met a peer.now n from.now cookie.now moment
+change_of (Answered from cookie under) moment a = answered a from.now cookie.now moment under.now
+change_of (Met peer n from cookie under) moment a =
+    met a peer.now n from.now cookie.now moment under.now
 change_of (Recookied new) moment a = recookied a new.now moment
 change_of (Extended new) moment a = extended a new.now moment
 change_of Repeated moment a = repeated a moment
 
 -- there is room for what comes with a change
 abbrev pub Allows : Change → AttemptState → Type 0
-Allows (Answered from cookie) a = length cookie.now ≤ 128
-Allows (Met peer n from cookie) a = length cookie.now ≤ 128
+Allows (Answered from cookie under) a = length cookie.now ≤ 128
+Allows (Met peer n from cookie under) a = length cookie.now ≤ 128
 Allows (Recookied new) a = length new.now ≤ 128
 Allows (Extended new) a = length a.candidates + length new.now ≤ 16
 Allows Repeated a = 0 ≤ 0
 
 -- the number that an attempt gets by it, where it does
 abbrev pub number_got : Change → Option ℕ
-number_got (Answered from cookie) = None
-number_got (Met peer n from cookie) = Some n
+number_got (Answered from cookie under) = None
+number_got (Met peer n from cookie under) = Some n
 number_got (Recookied new) = None
 number_got (Extended new) = None
 number_got Repeated = None

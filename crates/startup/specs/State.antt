@@ -1,17 +1,20 @@
--- What an end keeps of the sessions that it opens: its attempts, beside what it holds with its
--- peers.
-use Rattle.std.specs.Prelude.{ℕ, List, Option, Some, None, ◌≡◌, refl}
+-- What an end keeps of the sessions that it opens, and that are born of others' attempts: its
+-- attempts, and what answers repeated keyings, beside what it holds with its peers.
+use Rattle.std.specs.Prelude.{ℕ, List, Bool, true, false, Option, Some, None, is_some, ◌≡◌, refl}
 use Rattle.std.specs.Ordering.{nat_cmp}
+use Rattle.std.specs.Cmp.Lexicographic.{slice_cmp}
 use Rattle.std.specs.FinMap.{FinMap, get, empty, code}
 use Rattle.std.specs.Coded.{Coded, code_by, coded×, coded_ℕ, coded_list}
 use Rattle.sha2.specs.Sha256.{sha256}
 use Rattle.rtmfp_forms.specs.Address.{AddressParts}
-use Rattle.glare_core.specs.declared.facts.Held.TheVariants.{Opening}
+use Rattle.glare_core.specs.declared.facts.Held.{Held}
+use Rattle.glare_core.specs.declared.facts.Held.TheVariants.{Opening, HalfOpen, KeptAsResponder, KeptAsInitiator}
 use Rattle.glare_core.specs.Ledger.{Ledger, new_ledger, held_with}
 use Rattle.startup.specs.declared.aim.Aim.{Aim}
 use Rattle.startup.specs.declared.aim.Aim.TheVariants.{AtPeer, ByName}
 use Rattle.startup.specs.declared.attempt.Stage.{Stage}
 use Rattle.startup.specs.declared.attempt.Stage.TheVariants.{Hello, Keying}
+use Rattle.startup.specs.declared.kept.KeptKeying.{KeptKeying}
 use Rattle.startup.specs.Aims.{peer_of_aim, IsHeldAs}
 
 -- one packet for several addresses, in this order
@@ -31,7 +34,8 @@ pub record AttemptState : Type 0 where
   pub start : ℕ
   -- where its hellos go
   pub candidates : List AddressParts
-  -- whether hellos or keyings are sent, and for keyings the address and the cookie
+  -- whether hellos or keyings are sent, and for keyings the address, the cookie, and the generation
+  -- and secret that they are sent under
   pub stage : Stage
   -- the moment of the last sending
   pub last : ℕ
@@ -42,25 +46,28 @@ pub record AttemptState : Type 0 where
 abbrev pub Attempts : Type 0
 Attempts = FinMap nat_cmp AttemptState
 
+-- what answers repeated keyings, by the fingerprints of the peers whose sessions were born here
+abbrev pub KeptKeyings : Type 0
+KeptKeyings = FinMap (slice_cmp nat_cmp) KeptKeying
+
 pub record StartupState : Type 0 where
   -- the own certificate
   pub cert : List ℕ
-  -- the secret of the group
-  pub secret : List ℕ
   -- the secret of the own cookies
   pub cookie_secret : List ℕ
   -- what is held with each peer
   pub ledger : Ledger
   pub attempts : Attempts
+  pub kept : KeptKeyings
 
-abbrev pub new_startup : List ℕ → List ℕ → List ℕ → ℕ → StartupState
-new_startup cert secret cookie_secret max_peers =
+abbrev pub new_startup : List ℕ → List ℕ → ℕ → StartupState
+new_startup cert cookie_secret max_peers =
     record {
       cert = cert;
-      secret = secret;
       cookie_secret = cookie_secret;
       ledger = new_ledger (sha256 cert) max_peers 0;
       attempts = empty;
+      kept = empty;
     }
 
 -- the peer of the attempt, where there is one and its peer is known
@@ -72,9 +79,22 @@ peer_of_attempt (Some a) = peer_of_aim a.aim
 abbrev pub FitsStage : Aim → Stage → Type 0
 FitsStage (AtPeer peer n) stage = Unit {0}
 FitsStage (ByName name) Hello = Unit {0}
-FitsStage (ByName name) (Keying at cookie) = ⊥
+FitsStage (ByName name) (Keying at cookie under) = ⊥
 
--- The attempts and the ledger name the same things.
+-- whether what is held is a session that was born here
+abbrev pub is_born_here : Option Held → Bool
+is_born_here None = false
+is_born_here (Some (Opening n near ni)) = false
+is_born_here (Some (HalfOpen j)) = true
+is_born_here (Some (KeptAsResponder j)) = true
+is_born_here (Some (KeptAsInitiator j)) = false
+
+-- What answers a repeated keying is kept of each session that was born here, and of nothing else.
+abbrev pub AreKept : Ledger → KeptKeyings → Type 0
+AreKept ledger kept = (peer : List ℕ) →
+    is_some (get kept peer) ≡ is_born_here (held_with ledger peer)
+
+-- The attempts, the kept keyings and the ledger name the same things.
 pub record IsSound (s : StartupState) : Type 0 where
   -- the ledger is of the own fingerprint
   pub own : s.ledger.own ≡ sha256 s.cert
@@ -88,6 +108,7 @@ pub record IsSound (s : StartupState) : Type 0 where
   pub there : (peer : List ℕ) (n near : ℕ) (ni : List ℕ) →
       held_with s.ledger peer ≡ Some (Opening n near ni) →
       peer_of_attempt (get s.attempts near) ≡ Some peer
+  pub kept : AreKept s.ledger s.kept
 
 -- ---- how these are stored: as the tuples of their fields
 
@@ -114,17 +135,17 @@ attempt_code aim address stage =
     })
     (λ _. refl)
 
-abbrev pub startup_code : Coded Ledger → Coded AttemptState → Coded StartupState
-startup_code ledger attempt =
-    code_by (List ℕ × (List ℕ × (List ℕ × (Ledger × Attempts))))
+abbrev pub startup_code : Coded Ledger → Coded AttemptState → Coded KeptKeying → Coded StartupState
+startup_code ledger attempt kept =
+    code_by (List ℕ × (List ℕ × (Ledger × (Attempts × KeptKeyings))))
     (coded× (coded_list coded_ℕ) (coded× (coded_list coded_ℕ)
-    (coded× (coded_list coded_ℕ) (coded× ledger (code coded_ℕ attempt)))))
-    (λ s. (s.cert, (s.secret, (s.cookie_secret, (s.ledger, s.attempts)))))
+    (coded× ledger (coded× (code coded_ℕ attempt) (code (coded_list coded_ℕ) kept)))))
+    (λ s. (s.cert, (s.cookie_secret, (s.ledger, (s.attempts, s.kept)))))
     (λ p. record {
       cert = p.0;
-      secret = p.1.0;
-      cookie_secret = p.1.1.0;
-      ledger = p.1.1.1.0;
-      attempts = p.1.1.1.1;
+      cookie_secret = p.1.0;
+      ledger = p.1.1.0;
+      attempts = p.1.1.1.0;
+      kept = p.1.1.1.1;
     })
     (λ _. refl)

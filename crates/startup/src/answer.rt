@@ -1,12 +1,13 @@
 //! What opening sessions answers, and what it sends.
 
+use crypto_profile::{Generation, Keys};
 use glare_core::Fact;
 use rtmfp_base::Cause;
 use rtmfp_forms::{Address, Outgoing};
 use std::marker::Model;
 use thiserror::Error;
 
-/// A plain packet for one address, under a session ID.
+/// A plain packet for one address, under a session ID, and what it is sealed with.
 #[derive(Drop)]
 pub struct Answer {
     /// Where it goes.
@@ -15,6 +16,28 @@ pub struct Answer {
     pub sid: u32,
     /// The packet.
     pub plain: Outgoing,
+    /// The generation of the group's secret under which it is sealed.
+    pub generation: u64,
+    /// The startup keys of that generation.
+    pub keys: Keys,
+}
+
+impl Answer {
+    ghost use Rattle.std.specs.Prelude.{◌≡◌};
+    ghost use Rattle.startup.specs.Answers.{answer_under};
+
+    /// A packet that is sealed in this generation.
+    pub(crate) fn under(under: &Generation, to: &Address, sid: u32, plain: Outgoing) -> Answer
+        ensures { result ≡ answer_under under.now to.now sid plain }
+    {
+        Answer {
+            to: *to,
+            sid,
+            plain,
+            generation: under.number(),
+            keys: under.startup().copy(),
+        }
+    }
 }
 
 /// One plain packet for several addresses, under session ID 0.
@@ -85,7 +108,7 @@ pub enum Due {
 pub enum Keyed {
     /// Its cookie was made for another place or too long ago: a new one.
     Change(Answer),
-    /// It is the keying of the held session: the responder's keying, again.
+    /// It is the keying of the held session: the responder's keying, again, as it was at first.
     Again(Answer),
     /// A session was born.
     Birth {

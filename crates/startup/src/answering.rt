@@ -7,13 +7,14 @@ ghost use Rattle.std.specs.FinMap.{get};
 ghost use Rattle.sha2.specs.Sha256.{sha256};
 ghost use Rattle.glare_core.specs.Calls.{start_refusal, started_fact};
 ghost use Rattle.startup.specs.State.{AttemptState};
-ghost use Rattle.startup.specs.Attempts.{lowest, has_tag, has_search, changed};
+ghost use Rattle.startup.specs.Attempts.{lowest, has_tag, has_search, is_search_at, changed};
 ghost use Rattle.startup.specs.Attempts.{search_cause, aim_cause, hello_cause, rhello_cause};
 ghost use Rattle.startup.specs.Attempts.{rhello_fact, rhello_keying, after_rhello, rhello_starts};
 ghost use Rattle.startup.specs.Attempts.{answer_fact, answer_keying, after_answer};
 ghost use Rattle.startup.specs.Attempts.{keying_towards, after_start};
 ghost use Rattle.startup.specs.Attempts.{cookie_change_cause, cookie_change_keying};
 ghost use Rattle.startup.specs.Attempts.{after_cookie_change, change_keying, after_change};
+ghost use Rattle.startup.specs.Answers.{group_of};
 ghost use Rattle.startup.specs.Judging.{IsFound, IsGreeted};
 
 use crate::aim::Aim;
@@ -24,6 +25,7 @@ use crate::leaving::{Found, Greeting};
 use crate::rows::{FoundAttempt, Sought};
 use crate::sending::keying_again;
 use crate::startup::Startup;
+use crypto_profile::{Generation, GroupSecret};
 use glare_core::Fact;
 use identity::ServiceName;
 use rtmfp_base::{Cause, Memory};
@@ -126,7 +128,8 @@ impl Startup {
         }
     }
 
-    /// The keying of the attempt with this near id and nonce towards a peer, with its number.
+    /// The keying of the attempt with this near id and nonce towards a peer, with its number, in
+    /// this generation.
     fn keying_towards(
         &self,
         near: u32,
@@ -135,15 +138,15 @@ impl Startup {
         n: u64,
         to: &Address,
         cookie: &[u8],
+        under: &Generation,
     ) -> Answer
         requires { length cookie.now ≤ 128 }
-        ensures { result ≡ keying_towards self.now near ni.now peer.now n to.now cookie.now }
+        ensures { result ≡ keying_towards self.now near ni.now peer.now n to.now cookie.now
+            under.now }
     {
-        Answer {
-            to: *to,
-            sid: 0,
-            plain: iikeying_packet(&self.sign, near, cookie, self.cert.bytes(), ni, n, peer),
-        }
+        let cert = self.cert.bytes();
+        let plain = iikeying_packet(under.sign(), near, cookie, cert, ni, n, peer);
+        Answer::under(under, to, 0, plain)
     }
 
     /// A search that was found starts as an attempt towards the end with this fingerprint; Started
@@ -155,6 +158,7 @@ impl Startup {
         from: &Address,
         cookie: &[u8],
         moment: u64,
+        under: &GroupSecret,
     ) -> Result<Fact, Memory>
         requires search { has_search self.old near ≡ true }
         requires free { start_refusal self.old.ledger print.now ≡ None }
@@ -164,7 +168,8 @@ impl Startup {
             fact ≡ started_fact self.old.ledger print.now near a.ni) }
         ensures after { IfOk result (λ fact. (a : AttemptState) →
             get self.old.attempts near ≡ Some a →
-            self.new ≡ after_start self.old print.now near a from.now cookie.now moment) }
+            self.new ≡ after_start self.old print.now near a from.now cookie.now moment
+            under.now) }
         ensures err { OnErr result (self.new ≡ self.old) }
     {
         let ni = match self.attempts.get(near) {
@@ -187,15 +192,16 @@ impl Startup {
                 n,
                 from,
                 cookie,
+                under,
             },
             moment,
         );
         Ok(fact)
     }
 
-    /// An attempt or a search that was found is answered from an address with a cookie: a search
-    /// starts as an attempt, whose Started is given; it goes on to keyings, and its keying is
-    /// given.
+    /// An attempt or a search that was found is answered from an address with a cookie, in this
+    /// generation: a search starts as an attempt, whose Started is given; it goes on to keyings in
+    /// this generation, whose secret it keeps, and its keying is given.
     ///
     /// Only a search takes memory, for the row of its peer and for its number; where there is none,
     /// all is as before.
@@ -205,6 +211,7 @@ impl Startup {
         cookie: &[u8],
         from: &Address,
         moment: u64,
+        under: &Generation,
     ) -> Result<(Option<Fact>, Answer), Memory>
         requires greeted { (chosen : Option (ℕ × AttemptState)) × ((cert : List ℕ) ×
             IsGreeted self.old greeting.now chosen cert) }
@@ -214,12 +221,14 @@ impl Startup {
             told.0 ≡ answer_fact self.old greeting.now.print chosen) }
         ensures answer { IfOk result (λ told. (chosen : Option (ℕ × AttemptState)) →
             IsFound self.old greeting.now.found chosen →
-            answer_keying self.old greeting.now.print chosen from.now cookie.now ≡ Some told.1) }
+            answer_keying self.old greeting.now.print chosen from.now cookie.now under.now
+            ≡ Some told.1) }
         ensures after { IfOk result (λ _. (chosen : Option (ℕ × AttemptState)) →
             IsFound self.old greeting.now.found chosen →
             self.new ≡ after_answer self.old greeting.now.print chosen from.now cookie.now
-            moment) }
-        ensures memory { OnErr result (has_search self.old greeting.now.found.near ≡ true) }
+            moment under.now) }
+        ensures memory { OnErr result ((chosen : Option (ℕ × AttemptState)) →
+            IsFound self.old greeting.now.found chosen → is_search_at chosen ≡ true) }
         ensures err { OnErr result (self.new ≡ self.old) }
     {
         let near = greeting.found.near;
@@ -230,26 +239,30 @@ impl Startup {
         let ni = attempt.ni;
         match aim {
             Aim::AtPeer { peer, n } => {
-                let answer = self.keying_towards(near, &ni, &peer, n, from, cookie);
+                let answer = self.keying_towards(near, &ni, &peer, n, from, cookie, under);
+                let group = under.plain();
                 self.attempts
-                    .change(near, &Change::Answered(from, cookie), moment);
+                    .change(near, &Change::Answered(from, cookie, &group), moment);
                 Ok((None, answer))
             }
             Aim::ByName { .. } => {
-                let fact = match self.start_search(near, &greeting.print, from, cookie, moment) {
+                let print = &greeting.print;
+                let group = under.plain();
+                let fact = match self.start_search(near, print, from, cookie, moment, &group) {
                     Ok(fact) => fact,
                     Err(Memory) => return Err(Memory),
                 };
                 let n = self.peers.started();
-                let answer = self.keying_towards(near, &ni, &greeting.print, n, from, cookie);
+                let answer = self.keying_towards(near, &ni, print, n, from, cookie, under);
                 Ok((Some(fact), answer))
             }
         }
     }
 
     /// Hears a responder's hello with this tag, cookie and certificate, from an address: the
-    /// attempt goes on to keyings, and its keying is given. A search starts as an attempt towards
-    /// the end whose hello it is, and its Started is given, too; it lasts from this moment on.
+    /// attempt goes on to keyings in the generation in which the hello opened, whose secret it
+    /// keeps, and its keying is given. A search starts as an attempt towards the end whose hello it
+    /// is, and its Started is given, too; it lasts from this moment on.
     ///
     /// The causes, in their order, are a wide tag or cookie, no attempt or search with this tag (of
     /// several the one with the lowest near id counts), an attempt that was answered already, and
@@ -264,12 +277,15 @@ impl Startup {
         cert: &[u8],
         from: &Address,
         moment: u64,
+        generation: u64,
+        secret: &[u8; 32],
     ) -> Result<(Option<Fact>, Answer), KeyRefusal>
         ensures fact { IfOk result (λ told. told.0 ≡ rhello_fact self.old tag.now cert.now) }
         ensures answer { IfOk result (λ told. rhello_keying self.old tag.now cookie.now cert.now
-            from.now ≡ Some told.1) }
+            from.now (group_of generation secret.now) ≡ Some told.1) }
         ensures after { IfOk result (λ _. self.new
-            ≡ after_rhello self.old tag.now cookie.now cert.now from.now moment) }
+            ≡ after_rhello self.old tag.now cookie.now cert.now from.now moment
+            (group_of generation secret.now)) }
         ensures refused { IfSome (rhello_cause self.old tag.now cookie.now cert.now)
             (λ cause. result ≡ Err (KeyRefusal.Cause cause)) }
         ensures memory { IfNone (rhello_cause self.old tag.now cookie.now cert.now)
@@ -281,34 +297,49 @@ impl Startup {
             Ok(greeting) => greeting,
             Err(cause) => return Err(KeyRefusal::Cause(cause)),
         };
-        match self.apply_responder_hello(&greeting, cookie, from, moment) {
+        let under = Generation::of(generation, secret);
+        match self.apply_responder_hello(&greeting, cookie, from, moment, &under) {
             Ok(told) => Ok(told),
             Err(Memory) => Err(KeyRefusal::Memory),
         }
     }
 
-    /// The attempt whose cookie a change under this session ID replaces, or why the change is
-    /// discarded.
+    /// The attempt whose cookie a change under this session ID replaces that opened in this
+    /// generation, or why the change is discarded.
     ///
     /// The causes are those of `cookie_change`, in their order. It changes nothing and takes no
     /// memory.
-    pub fn judge_cookie_change(&self, sid: u32, old: &[u8], new: &[u8]) -> Result<Found, Cause>
+    pub fn judge_cookie_change(
+        &self,
+        sid: u32,
+        old: &[u8],
+        new: &[u8],
+        under: &Generation,
+    ) -> Result<Found, Cause>
         ensures found { IfOk result (λ found. IsFound self.now found
             (changed self.now.attempts sid old.now)) }
         ensures cookie { IfOk result (λ _. length new.now ≤ 128) }
-        ensures none { IfOk result (λ _. cookie_change_cause self.now sid old.now new.now ≡ None) }
+        ensures none { IfOk result (λ _. cookie_change_cause self.now sid old.now new.now
+            under.now.generation ≡ None) }
         ensures refused { IfErr result (λ cause. cookie_change_cause self.now sid old.now new.now
-            ≡ Some cause) }
+            under.now.generation ≡ Some cause) }
     {
-        match changed_near(&self.attempts, sid, old, new) {
+        match changed_near(&self.attempts, sid, old, new, under.number()) {
             Ok(near) => Ok(Found { near }),
             Err(cause) => Err(cause),
         }
     }
 
     /// The keying of an attempt that was found, which is in the keying stage, goes out again with
-    /// another cookie. It takes no memory.
-    pub fn apply_cookie_change(&mut self, found: Found, new: &[u8], moment: u64) -> Answer
+    /// another cookie, in the generation of the attempt. It takes no memory. Where that generation
+    /// is given, nothing is hashed for its keys; what is given doesn't depend on it.
+    pub fn apply_cookie_change(
+        &mut self,
+        found: Found,
+        new: &[u8],
+        moment: u64,
+        under: &Generation,
+    ) -> Answer
         requires found { (sid : ℕ) × ((old : List ℕ) × IsFound self.old found
             (changed self.old.attempts sid old)) }
         requires cookie { length new.now ≤ 128 }
@@ -319,7 +350,7 @@ impl Startup {
     {
         let near = found.near;
         let again = match self.attempts.get(near) {
-            Some(attempt) => keying_again(near, attempt, &self.sign, &self.cert, new),
+            Some(attempt) => keying_again(near, attempt, &self.cert, new, under),
             None => unreachable!(),
         };
         let answer = match again {
@@ -334,26 +365,31 @@ impl Startup {
     ///
     /// Under 0 it is of the attempt with the lowest near id that has the old cookie, else of the
     /// attempt with that near id alone. The causes, in their order, are a wide cookie, the old one
-    /// before the new one, and no such attempt in the keying stage; where one stands, all is as
-    /// before. It takes no memory.
+    /// before the new one, and no such attempt in the keying stage, or one in another generation
+    /// than that in which the change opened; where one stands, all is as before. It takes no
+    /// memory.
     pub fn cookie_change(
         &mut self,
         sid: u32,
         old: &[u8],
         new: &[u8],
         moment: u64,
+        generation: u64,
+        secret: &[u8; 32],
     ) -> Result<Answer, Cause>
         ensures answer { IfOk result (λ answer. cookie_change_keying self.old sid old.now new.now
             ≡ Some answer) }
         ensures after { IfOk result (λ _. self.new
             ≡ after_cookie_change self.old sid old.now new.now moment) }
-        ensures refused { IfSome (cookie_change_cause self.old sid old.now new.now) (λ cause. result
-            ≡ Err cause) }
-        ensures heard { IfNone (cookie_change_cause self.old sid old.now new.now) (IsOk result) }
+        ensures refused { IfSome (cookie_change_cause self.old sid old.now new.now generation)
+            (λ cause. result ≡ Err cause) }
+        ensures heard { IfNone (cookie_change_cause self.old sid old.now new.now generation)
+            (IsOk result) }
         ensures err { OnErr result (self.new ≡ self.old) }
     {
-        match self.judge_cookie_change(sid, old, new) {
-            Ok(found) => Ok(self.apply_cookie_change(found, new, moment)),
+        let under = Generation::of(generation, secret);
+        match self.judge_cookie_change(sid, old, new, &under) {
+            Ok(found) => Ok(self.apply_cookie_change(found, new, moment, &under)),
             Err(cause) => Err(cause),
         }
     }

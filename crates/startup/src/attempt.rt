@@ -2,6 +2,7 @@
 
 use crate::aim::Aim;
 use crate::words::cookie_word;
+use crypto_profile::GroupSecret;
 use rtmfp_base::limits::CANDIDATES;
 use rtmfp_forms::Address;
 use std::marker::Model;
@@ -70,8 +71,13 @@ impl KeptCookie {
 pub(crate) enum Stage {
     /// Hellos go to all candidates.
     Hello,
-    /// The responder answered from this address with this cookie, and keyings go there.
-    Keying { at: Address, cookie: KeptCookie },
+    /// The responder answered from this address with this cookie, and keyings go there, under the
+    /// secret of the group under which its answer opened.
+    Keying {
+        at: Address,
+        cookie: KeptCookie,
+        under: GroupSecret,
+    },
 }
 
 /// An attempt.
@@ -134,34 +140,36 @@ impl Attempt {
         ensures { self.new ≡ change_of change.now moment self.old }
     {
         match change {
-            Change::Answered(from, cookie) => self.answer(from, cookie, moment),
+            Change::Answered(from, cookie, under) => self.answer(from, cookie, moment, under),
             Change::Met {
                 peer,
                 n,
                 from,
                 cookie,
-            } => self.meet(peer, *n, from, cookie, moment),
+                under,
+            } => self.meet(peer, *n, from, cookie, moment, under),
             Change::Recookied(new) => self.recookie(new, moment),
             Change::Extended(new) => self.extend(new, moment),
             Change::Repeated => self.repeat(moment),
         }
     }
 
-    /// The responder answered from this address with this cookie.
-    pub(crate) fn answer(&mut self, from: &Address, cookie: &[u8], moment: u64)
+    /// The responder answered from this address with this cookie, under this secret of the group.
+    pub(crate) fn answer(&mut self, from: &Address, cookie: &[u8], moment: u64, under: &GroupSecret)
         requires { length cookie.now ≤ 128 }
-        ensures { self.new ≡ answered self.old from.now cookie.now moment }
+        ensures { self.new ≡ answered self.old from.now cookie.now moment under.now }
     {
         self.stage = Stage::Keying {
             at: *from,
             cookie: KeptCookie::of(cookie),
+            under: *under,
         };
         self.last = moment;
         self.gap = 0;
     }
 
-    /// The search was answered by this end, from this address with this cookie: it is the attempt
-    /// towards it with this number, which starts now.
+    /// The search was answered by this end, from this address with this cookie, under this secret
+    /// of the group: it is the attempt towards it with this number, which starts now.
     pub(crate) fn meet(
         &mut self,
         peer: &[u8; 32],
@@ -169,13 +177,14 @@ impl Attempt {
         from: &Address,
         cookie: &[u8],
         moment: u64,
+        under: &GroupSecret,
     )
         requires { length cookie.now ≤ 128 }
-        ensures { self.new ≡ met self.old peer.now n from.now cookie.now moment }
+        ensures { self.new ≡ met self.old peer.now n from.now cookie.now moment under.now }
     {
         self.aim = Aim::AtPeer { peer: *peer, n };
         self.start = moment;
-        self.answer(from, cookie, moment);
+        self.answer(from, cookie, moment, under);
     }
 
     /// Its keying goes out with another cookie from now on.
@@ -183,10 +192,11 @@ impl Attempt {
         requires { length new.now ≤ 128 }
         ensures { self.new ≡ recookied self.old new.now moment }
     {
-        if let Stage::Keying { at, .. } = &self.stage {
+        if let Stage::Keying { at, under, .. } = &self.stage {
             self.stage = Stage::Keying {
                 at: *at,
                 cookie: KeptCookie::of(new),
+                under: *under,
             };
         }
         self.last = moment;
@@ -228,15 +238,16 @@ impl Attempt {
 /// How an attempt changes.
 #[derive(Drop)]
 pub(crate) enum Change<'a> {
-    /// The responder answered from this address with this cookie.
-    Answered(&'a Address, &'a [u8]),
-    /// The search was answered from this address with this cookie, and is the attempt with this
-    /// number towards this end.
+    /// The responder answered from this address with this cookie, under this secret of the group.
+    Answered(&'a Address, &'a [u8], &'a GroupSecret),
+    /// The search was answered from this address with this cookie, under this secret of the group,
+    /// and is the attempt with this number towards this end.
     Met {
         peer: &'a [u8; 32],
         n: u64,
         from: &'a Address,
         cookie: &'a [u8],
+        under: &'a GroupSecret,
     },
     /// Its keying goes out with this cookie from now on.
     Recookied(&'a [u8]),

@@ -122,8 +122,8 @@ impl Startup {
         self.peers.confirm(peer)
     }
 
-    /// Ends the session with the peer; None exactly where no session is held with it. It takes no
-    /// memory.
+    /// Ends the session with the peer; None exactly where no session is held with it. What answers
+    /// its repeated keying is forgotten. It takes no memory.
     ///
     /// A half-open session may end here with Unconfirmed, Near or Far, a kept one with Near, Far or
     /// Idle.
@@ -131,10 +131,10 @@ impl Startup {
         ensures fact { result ≡ end_fact self.old peer.now why }
         ensures after { self.new ≡ after_end self.old peer.now why }
     {
-        if holds_session(&self.peers, peer) {
-            self.peers.end(peer, why)
-        } else {
-            None
+        if !holds_session(&self.peers, peer) {
+            return None;
         }
+        self.kept.forget(peer);
+        self.peers.end(peer, why)
     }
 }

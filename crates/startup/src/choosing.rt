@@ -5,9 +5,10 @@ ghost use Rattle.std.specs.FinMap.{get};
 ghost use Rattle.std.specs.Str.{bytes_eq};
 ghost use Rattle.glare_core.specs.Ledger.{held_with};
 ghost use Rattle.glare_core.specs.Things.{near_of};
-ghost use Rattle.startup.specs.Attempts.{wide, changed, if_cookie, change_cause_among, held_cause, spent_cause, start_cause};
+ghost use Rattle.startup.specs.Attempts.{wide, changed, if_cookie, change_cause_among, is_under, held_cause, spent_cause, start_cause};
 ghost use Rattle.startup.specs.Sought.{IsChosenNear, IsChosenAt};
 
+use crate::attempt::Stage;
 use crate::indexed::IndexedAttempts;
 use crate::rows::{Sought, has_cookie};
 use glare_core::{Held, Peers, StartRefusal};
@@ -115,21 +116,32 @@ fn chosen_near(attempts: &IndexedAttempts, sid: u32, old: &[u8]) -> Option<u32>
     }
 }
 
-/// The near id of the attempt whose cookie a change under this session ID replaces, or why it is
-/// discarded.
+/// Whether keyings are sent in this generation.
+fn is_under(stage: &Stage, generation: u64) -> bool
+    ensures { result ≡ is_under generation stage.now }
+{
+    match stage {
+        Stage::Hello => false,
+        Stage::Keying { under, .. } => under.generation == generation,
+    }
+}
+
+/// The near id of the attempt whose cookie a change under this session ID replaces that opened in
+/// this generation, or why it is discarded.
 pub(crate) fn changed_near(
     attempts: &IndexedAttempts,
     sid: u32,
     old: &[u8],
     new: &[u8],
+    generation: u64,
 ) -> Result<u32, Cause>
     ensures ok { IfOk result (IsChosenAt (changed attempts.now.attempts sid old.now)
         attempts.now.attempts) }
     ensures cookie { IfOk result (λ _. length new.now ≤ 128) }
     ensures cause { IfOk result (λ _. change_cause_among attempts.now.attempts sid old.now new.now
-        ≡ None) }
+        generation ≡ None) }
     ensures refused { IfErr result (λ e. change_cause_among attempts.now.attempts sid old.now
-        new.now ≡ Some e) }
+        new.now generation ≡ Some e) }
 {
     match wide(old) {
         Some(cause) => return Err(cause),
@@ -139,8 +151,17 @@ pub(crate) fn changed_near(
         Some(cause) => return Err(cause),
         None => {}
     }
-    match chosen_near(attempts, sid, old) {
-        Some(near) => Ok(near),
-        None => Err(Cause::NoAttempt),
+    let Some(near) = chosen_near(attempts, sid, old) else {
+        return Err(Cause::NoAttempt);
+    };
+    match attempts.get(near) {
+        Some(attempt) => {
+            if is_under(&attempt.stage, generation) {
+                Ok(near)
+            } else {
+                Err(Cause::NoAttempt)
+            }
+        }
+        None => unreachable!(),
     }
 }

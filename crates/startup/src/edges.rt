@@ -5,6 +5,8 @@
 ghost use Rattle.std.specs.Prelude.{◌≡◌, ◌∷◌, ◌++◌, ◌+◌, ℕ, List, [], true, false, Option, Some, None, Err, is_none, length, replicate};
 ghost use Rattle.std.specs.Str.{bytes_eq};
 ghost use Rattle.std.specs.FinMap.{entries, get};
+ghost use Rattle.crypto_profile.specs.declared.group.GroupSecret.{GroupSecret};
+ghost use Rattle.crypto_profile.specs.Keys.{sign_key_of, startup_keys_of};
 ghost use Rattle.rtmfp_forms.specs.Address.{AddressParts};
 ghost use Rattle.sha2.specs.Sha256.{sha256};
 ghost use Rattle.cookies.specs.declared.CookieTest.TheVariants.{Bad, Moved, Expired, Current};
@@ -21,8 +23,8 @@ ghost use Rattle.rtmfp_base.specs.declared.cause.Cause.{Cause};
 ghost use Rattle.rtmfp_base.specs.declared.cause.Cause.TheVariants.{BadCookie, BadSignature, CandidatesFull, Malformed, NoAttempt, OwnCertificate, SessionsFull as CauseFull, Wide, WrongPeer, WrongResponder, WrongState};
 ghost use Rattle.startup.specs.declared.answer.Due.TheVariants.{Ended as EndDue, Hello as HelloDue, Keying as KeyingDue};
 ghost use Rattle.startup.specs.State.{AttemptState, Attempts, StartupState};
-ghost use Rattle.startup.specs.Attempts.{after_answer, after_change, answered, begun_attempt, change_cause_among, changed, has_tag, hello_cause, rhello_cause, is_own, keying_signed, lowest, distinct_candidates, recookied, wide, with_attempt, without_attempt};
-ghost use Rattle.startup.specs.Due.{after_due_of, due_of, gap_of, is_over, is_repeat_due, repeat_signed, repeated, sends};
+ghost use Rattle.startup.specs.Attempts.{after_answer, after_change, answered, begun_attempt, change_cause_among, changed, has_tag, hello_cause, rhello_cause, is_own, keying_under, lowest, distinct_candidates, recookied, wide, with_attempt, without_attempt};
+ghost use Rattle.startup.specs.Due.{after_due_of, due_of, gap_of, is_over, is_repeat_due, repeat_under, repeated, sends};
 ghost use Rattle.startup_packets.specs.Readings.{InitiatorKeying, ResponderKeying};
 ghost use Rattle.startup.specs.Keyings.{attempt_cause, change_answer, cookie_cause, heard_cause, initiator_cause, initiator_hello_answer, keying_of, named_cause, responder_cause, session_answer};
 ghost use Rattle.startup.specs.Refusals.{rhello_refusal_with};
@@ -68,19 +70,19 @@ pub fn an_attempt_is_over_after_95_seconds()
 /// Hellos are repeated to all candidates, in their order, and a keying to the address that
 /// answered.
 pub fn a_repeat_goes_to_all_candidates()
-    ensures hello { (key cert : List ℕ) (near : ℕ) (a : AttemptState) (peer : List ℕ) (n : ℕ) →
-        repeat_signed key cert near (towards peer n a) Hello ≡ HelloDue
+    ensures hello { (cert : List ℕ) (near : ℕ) (a : AttemptState) (peer : List ℕ) (n : ℕ) →
+        repeat_under cert near (towards peer n a) Hello ≡ HelloDue
         (record { to = a.candidates; plain = ihello_packet (1 ∷ peer) a.tag }) }
-    ensures keying { (key cert : List ℕ) (near : ℕ) (a : AttemptState) (at : AddressParts)
-        (cookie : List ℕ) → repeat_signed key cert near a (Keying at cookie)
-        ≡ KeyingDue (keying_signed key cert near a at cookie) }
+    ensures keying { (cert : List ℕ) (near : ℕ) (a : AttemptState) (at : AddressParts)
+        (cookie : List ℕ) (g : GroupSecret) → repeat_under cert near a (Keying at cookie g)
+        ≡ KeyingDue (keying_under g cert near a at cookie) }
     ensures places { distinct_candidates (v4 0 2 ∷ v4 0 1 ∷ v4 0 2 ∷ v4 2 1 ∷ v4 0 3 ∷ [])
         ≡ v4 0 2 ∷ v4 0 1 ∷ v4 0 3 ∷ [] }
     ensures two { (a : AttemptState) →
         sends 1000 (in_hello (record (timed 0 0 0 a) { candidates = v4 0 1 ∷ v4 0 2 ∷ [] })) ≡ 2 }
-    ensures one { (a : AttemptState) (at : AddressParts) (cookie : List ℕ) →
+    ensures one { (a : AttemptState) (at : AddressParts) (cookie : List ℕ) (g : GroupSecret) →
         sends 1000
-        (in_keying at cookie (record (timed 0 0 0 a) { candidates = v4 0 1 ∷ v4 0 2 ∷ [] })) ≡ 1 }
+        (in_keying at cookie g (record (timed 0 0 0 a) { candidates = v4 0 1 ∷ v4 0 2 ∷ [] })) ≡ 1 }
 {}
 
 /// An attempt begins with its hello as its last sending, and its number is one more than that of
@@ -104,16 +106,18 @@ pub fn an_attempt_begins_with_its_hello()
 /// long as before.
 pub fn the_keying_stage_begins_again_at_the_first_gap()
     ensures kept { (s : StartupState) (a : AttemptState) (print peer : List ℕ) (n : ℕ)
-        (from : AddressParts) (cookie : List ℕ) (moment : ℕ) →
-        after_answer s print (Some (5, towards peer n a)) from cookie moment
-        ≡ with_attempt s 5 (answered (towards peer n a) from cookie moment) }
-    ensures answered { (a : AttemptState) (from : AddressParts) (cookie : List ℕ) →
-        answered (in_hello (timed 0 1000 3 a)) from cookie 3000
-        ≡ in_keying from cookie (timed 0 3000 0 a) }
-    ensures before { (a : AttemptState) (from : AddressParts) (cookie : List ℕ) →
-        is_repeat_due 3999 (answered (timed 0 1000 3 a) from cookie 3000) ≡ false }
-    ensures again { (a : AttemptState) (from : AddressParts) (cookie : List ℕ) →
-        is_repeat_due 4000 (answered (timed 0 1000 3 a) from cookie 3000) ≡ true }
+        (from : AddressParts) (cookie : List ℕ) (moment : ℕ) (g : GroupSecret) →
+        after_answer s print (Some (5, towards peer n a)) from cookie moment g
+        ≡ with_attempt s 5 (answered (towards peer n a) from cookie moment g) }
+    ensures answered { (a : AttemptState) (from : AddressParts) (cookie : List ℕ)
+        (g : GroupSecret) → answered (in_hello (timed 0 1000 3 a)) from cookie 3000 g
+        ≡ in_keying from cookie g (timed 0 3000 0 a) }
+    ensures before { (a : AttemptState) (from : AddressParts) (cookie : List ℕ)
+        (g : GroupSecret) →
+        is_repeat_due 3999 (answered (timed 0 1000 3 a) from cookie 3000 g) ≡ false }
+    ensures again { (a : AttemptState) (from : AddressParts) (cookie : List ℕ)
+        (g : GroupSecret) →
+        is_repeat_due 4000 (answered (timed 0 1000 3 a) from cookie 3000 g) ≡ true }
 {}
 
 /// A change of a cookie counts as a sending, and leaves the gap as it was: only a repeat goes on to
@@ -121,13 +125,15 @@ pub fn the_keying_stage_begins_again_at_the_first_gap()
 pub fn a_change_of_a_cookie_counts_as_a_sending()
     ensures kept { (s : StartupState) (a : AttemptState) (cookie : List ℕ) (moment : ℕ) →
         after_change s (Some (5, a)) cookie moment ≡ with_attempt s 5 (recookied a cookie moment) }
-    ensures changed { (a : AttemptState) (at : AddressParts) (old new : List ℕ) →
-        recookied (in_keying at old (timed 0 1000 2 a)) new 3000
-        ≡ in_keying at new (timed 0 3000 2 a) }
-    ensures before { (a : AttemptState) (at : AddressParts) (old new : List ℕ) →
-        is_repeat_due 5249 (recookied (in_keying at old (timed 0 1000 2 a)) new 3000) ≡ false }
-    ensures again { (a : AttemptState) (at : AddressParts) (old new : List ℕ) →
-        is_repeat_due 5250 (recookied (in_keying at old (timed 0 1000 2 a)) new 3000) ≡ true }
+    ensures changed { (a : AttemptState) (at : AddressParts) (old new : List ℕ)
+        (g : GroupSecret) → recookied (in_keying at old g (timed 0 1000 2 a)) new 3000
+        ≡ in_keying at new g (timed 0 3000 2 a) }
+    ensures before { (a : AttemptState) (at : AddressParts) (old new : List ℕ)
+        (g : GroupSecret) →
+        is_repeat_due 5249 (recookied (in_keying at old g (timed 0 1000 2 a)) new 3000) ≡ false }
+    ensures again { (a : AttemptState) (at : AddressParts) (old new : List ℕ)
+        (g : GroupSecret) →
+        is_repeat_due 5250 (recookied (in_keying at old g (timed 0 1000 2 a)) new 3000) ≡ true }
 {}
 
 /// A redirect adds those of its addresses that aren't candidates yet, each place once, in their
@@ -174,9 +180,9 @@ pub fn an_attempt_has_at_most_16_candidates()
         redirect_cause_among all (replicate 129 0) addresses ≡ Some (Wide 129) }
     ensures none { (all : Attempts) (addresses : List AddressParts) → entries all ≡ [] →
         redirect_cause_among all (replicate 128 0) addresses ≡ Some NoAttempt }
-    ensures stage { (a : AttemptState) (at : AddressParts) (cookie : List ℕ)
+    ensures stage { (a : AttemptState) (at : AddressParts) (cookie : List ℕ) (g : GroupSecret)
         (addresses : List AddressParts) →
-        redirect_cause_at (Some (5, in_keying at cookie a)) addresses ≡ Some WrongState }
+        redirect_cause_at (Some (5, in_keying at cookie g a)) addresses ≡ Some WrongState }
     ensures full { (a : AttemptState) →
         redirect_cause_at (Some (5, in_hello (record a { candidates = replicate 16 (v4 0 1) })))
         (v4 0 2 ∷ [])
@@ -186,24 +192,26 @@ pub fn an_attempt_has_at_most_16_candidates()
 /// A change under an attempt's near id is of that attempt alone; one under 0 is of the attempt with
 /// the lowest near id that has the old cookie. In the hello stage an attempt has none.
 pub fn a_change_under_a_near_id_is_of_that_attempt_alone()
-    ensures own { (all : Attempts) (a : AttemptState) (at : AddressParts) →
-        get all 6 ≡ Some (in_keying at (8 ∷ []) a) →
-        changed all 6 (8 ∷ []) ≡ Some (6, in_keying at (8 ∷ []) a) }
-    ensures other { (all : Attempts) (a : AttemptState) (at : AddressParts) →
-        get all 5 ≡ Some (in_keying at (7 ∷ []) a) → changed all 5 (8 ∷ []) ≡ None }
+    ensures own { (all : Attempts) (a : AttemptState) (at : AddressParts) (g : GroupSecret) →
+        get all 6 ≡ Some (in_keying at (8 ∷ []) g a) →
+        changed all 6 (8 ∷ []) ≡ Some (6, in_keying at (8 ∷ []) g a) }
+    ensures other { (all : Attempts) (a : AttemptState) (at : AddressParts) (g : GroupSecret) →
+        get all 5 ≡ Some (in_keying at (7 ∷ []) g a) → changed all 5 (8 ∷ []) ≡ None }
     ensures hello { (all : Attempts) (a : AttemptState) → get all 5 ≡ Some (in_hello a) →
         changed all 5 [] ≡ None }
     ensures unknown { (all : Attempts) (cookie : List ℕ) → get all 5 ≡ None →
         changed all 5 cookie ≡ None }
-    ensures lowest { (all : Attempts) (a b : AttemptState) (at : AddressParts) →
-        AreTwo all (in_keying at (8 ∷ []) a) (in_keying at (8 ∷ []) b) →
-        changed all 0 (8 ∷ []) ≡ Some (5, in_keying at (8 ∷ []) a) }
-    ensures by_cookie { (all : Attempts) (a b : AttemptState) (at : AddressParts) →
-        AreTwo all (in_keying at (7 ∷ []) a) (in_keying at (8 ∷ []) b) →
-        changed all 0 (8 ∷ []) ≡ Some (6, in_keying at (8 ∷ []) b) }
-    ensures by_stage { (all : Attempts) (a b : AttemptState) (at : AddressParts) →
-        AreTwo all (in_hello a) (in_keying at [] b) →
-        changed all 0 [] ≡ Some (6, in_keying at [] b) }
+    ensures lowest { (all : Attempts) (a b : AttemptState) (at : AddressParts)
+        (g : GroupSecret) →
+        AreTwo all (in_keying at (8 ∷ []) g a) (in_keying at (8 ∷ []) g b) →
+        changed all 0 (8 ∷ []) ≡ Some (5, in_keying at (8 ∷ []) g a) }
+    ensures by_cookie { (all : Attempts) (a b : AttemptState) (at : AddressParts)
+        (g : GroupSecret) →
+        AreTwo all (in_keying at (7 ∷ []) g a) (in_keying at (8 ∷ []) g b) →
+        changed all 0 (8 ∷ []) ≡ Some (6, in_keying at (8 ∷ []) g b) }
+    ensures by_stage { (all : Attempts) (a b : AttemptState) (at : AddressParts)
+        (g : GroupSecret) → AreTwo all (in_hello a) (in_keying at [] g b) →
+        changed all 0 [] ≡ Some (6, in_keying at [] g b) }
 {}
 
 /// Of several attempts that have a tag, the one with the lowest near id counts, also where it can't
@@ -231,12 +239,15 @@ pub fn a_field_of_129_bytes_is_wide()
         rhello_cause s (replicate 128 0) (replicate 130 0) cert ≡ Some (Wide 130) }
     ensures then_attempt { (s : StartupState) (cert : List ℕ) → entries s.attempts ≡ [] →
         rhello_cause s (replicate 128 0) (replicate 128 0) cert ≡ Some NoAttempt }
-    ensures old_first { (attempts : Attempts) (sid : ℕ) →
-        change_cause_among attempts sid (replicate 129 0) (replicate 130 0) ≡ Some (Wide 129) }
-    ensures then_new { (attempts : Attempts) (sid : ℕ) →
-        change_cause_among attempts sid (replicate 128 0) (replicate 130 0) ≡ Some (Wide 130) }
-    ensures then_none { (all : Attempts) → entries all ≡ [] →
-        change_cause_among all 0 (replicate 128 0) (replicate 128 0) ≡ Some NoAttempt }
+    ensures old_first { (attempts : Attempts) (sid generation : ℕ) →
+        change_cause_among attempts sid (replicate 129 0) (replicate 130 0) generation
+        ≡ Some (Wide 129) }
+    ensures then_new { (attempts : Attempts) (sid generation : ℕ) →
+        change_cause_among attempts sid (replicate 128 0) (replicate 130 0) generation
+        ≡ Some (Wide 130) }
+    ensures then_none { (all : Attempts) (generation : ℕ) → entries all ≡ [] →
+        change_cause_among all 0 (replicate 128 0) (replicate 128 0) generation
+        ≡ Some NoAttempt }
 {}
 
 /// A responder's hello meets an attempt in the hello stage, of the end whose certificate it has;
@@ -247,8 +258,9 @@ pub fn a_hello_meets_the_hello_stage()
     ensures peer { (s : StartupState) (peer cert : List ℕ) (n : ℕ) →
         bytes_eq (sha256 cert) peer ≡ false →
         hello_cause s Hello (AtPeer peer n) cert ≡ Some WrongPeer }
-    ensures stage { (s : StartupState) (at : AddressParts) (cookie cert : List ℕ) (aim : Aim) →
-        hello_cause s (Keying at cookie) aim cert ≡ Some WrongState }
+    ensures stage { (s : StartupState) (at : AddressParts) (cookie cert : List ℕ)
+        (g : GroupSecret) (aim : Aim) → hello_cause s (Keying at cookie g) aim cert
+        ≡ Some WrongState }
 {}
 
 /// What is no certificate in a responder's hello is told at its offset.
@@ -263,18 +275,18 @@ pub fn a_hello_without_a_certificate_is_told()
 /// says.
 pub fn a_keying_is_tested_from_its_signature_on()
     ensures signature { (s : StartupState) (payload : List ℕ) (from : AddressParts) (now : ℕ)
-        (full : Option ℕ) (keying : InitiatorKeying) →
-        is_signed s.secret payload keying.sign ≡ false →
-        initiator_cause s payload from now full keying ≡ Some BadSignature }
+        (full : Option ℕ) (g : GroupSecret) (keying : InitiatorKeying) →
+        is_signed g.secret payload keying.sign ≡ false →
+        initiator_cause s payload from now full g keying ≡ Some BadSignature }
     ensures wide { (s : StartupState) (payload : List ℕ) (from : AddressParts) (now : ℕ)
-        (full : Option ℕ) (keying : InitiatorKeying) →
-        is_signed s.secret payload keying.sign ≡ true → length keying.cookie ≡ 129 →
-        initiator_cause s payload from now full keying ≡ Some (Wide 129) }
+        (full : Option ℕ) (g : GroupSecret) (keying : InitiatorKeying) →
+        is_signed g.secret payload keying.sign ≡ true → length keying.cookie ≡ 129 →
+        initiator_cause s payload from now full g keying ≡ Some (Wide 129) }
     ensures cookie { (s : StartupState) (payload : List ℕ) (from : AddressParts) (now : ℕ)
-        (full : Option ℕ) (keying : InitiatorKeying) →
-        is_signed s.secret payload keying.sign ≡ true → length keying.cookie ≡ 128 →
+        (full : Option ℕ) (g : GroupSecret) (keying : InitiatorKeying) →
+        is_signed g.secret payload keying.sign ≡ true → length keying.cookie ≡ 128 →
         cookie_test s.cookie_secret keying.cookie from now ≡ Bad →
-        initiator_cause s payload from now full keying ≡ Some BadCookie }
+        initiator_cause s payload from now full g keying ≡ Some BadCookie }
     ensures moved { (later : Option Cause) → cookie_cause Moved later ≡ None }
     ensures expired { (later : Option Cause) → cookie_cause Expired later ≡ None }
     ensures current { (later : Option Cause) → cookie_cause Current later ≡ later }
@@ -303,48 +315,61 @@ pub fn an_answer_needs_the_stage_the_peer_and_the_nonce()
     ensures stage { (keying : ResponderKeying) (a : AttemptState) (peer : List ℕ) (n : ℕ) →
         attempt_cause keying (Some (towards peer n (in_hello a))) ≡ Some WrongState }
     ensures peer { (keying : ResponderKeying) (a : AttemptState) (at : AddressParts)
-        (cookie peer : List ℕ) (n : ℕ) → bytes_eq keying.part.responder peer ≡ false →
-        attempt_cause keying (Some (towards peer n (in_keying at cookie a))) ≡ Some WrongPeer }
+        (cookie peer : List ℕ) (n : ℕ) (g : GroupSecret) →
+        bytes_eq keying.part.responder peer ≡ false →
+        attempt_cause keying (Some (towards peer n (in_keying at cookie g a))) ≡ Some WrongPeer }
     ensures nonce { (keying : ResponderKeying) (a : AttemptState) (at : AddressParts)
-        (cookie peer : List ℕ) (n : ℕ) → bytes_eq keying.part.responder peer ≡ true →
-        bytes_eq keying.part.ni a.ni ≡ false →
-        attempt_cause keying (Some (towards peer n (in_keying at cookie a))) ≡ Some NoAttempt }
+        (cookie peer : List ℕ) (n : ℕ) (g : GroupSecret) →
+        bytes_eq keying.part.responder peer ≡ true → bytes_eq keying.part.ni a.ni ≡ false →
+        attempt_cause keying (Some (towards peer n (in_keying at cookie g a))) ≡ Some NoAttempt }
     ensures right { (keying : ResponderKeying) (a : AttemptState) (at : AddressParts)
-        (cookie peer : List ℕ) (n : ℕ) → bytes_eq keying.part.responder peer ≡ true →
-        bytes_eq keying.part.ni a.ni ≡ true →
-        attempt_cause keying (Some (towards peer n (in_keying at cookie a))) ≡ None }
-    ensures signature { (s : StartupState) (near : ℕ) (payload : List ℕ)
-        (keying : ResponderKeying) → is_signed s.secret payload keying.sign ≡ false →
-        responder_cause s near payload keying ≡ Some BadSignature }
+        (cookie peer : List ℕ) (n : ℕ) (g : GroupSecret) →
+        bytes_eq keying.part.responder peer ≡ true → bytes_eq keying.part.ni a.ni ≡ true →
+        attempt_cause keying (Some (towards peer n (in_keying at cookie g a))) ≡ None }
+    ensures signature { (s : StartupState) (near : ℕ) (payload : List ℕ) (g : GroupSecret)
+        (keying : ResponderKeying) → is_signed g.secret payload keying.sign ≡ false →
+        responder_cause s near payload g keying ≡ Some BadSignature }
 {}
 
 /// A hello, an initiator's keying and their answers go under session ID 0, or under that which the
-/// other end named.
+/// other end named, and are sealed in the generation that is given.
 pub fn answers_go_where_they_are_taken()
-    ensures hello { (s : StartupState) (tag : List ℕ) (to : AddressParts) (now : ℕ) →
-        initiator_hello_answer s tag to now ≡ record {
-          to = to;
-          sid = 0;
-          plain = rhello_packet tag (cookie_of s.cookie_secret to now) s.cert;
-        } }
-    ensures keying { (key cert : List ℕ) (near : ℕ) (a : AttemptState) (to : AddressParts)
-        (peer cookie : List ℕ) (n : ℕ) → keying_signed key cert near (towards peer n a) to cookie
+    ensures hello { (s : StartupState) (tag : List ℕ) (to : AddressParts) (now : ℕ)
+        (g : GroupSecret) → initiator_hello_answer s tag to now g
         ≡ record {
           to = to;
           sid = 0;
-          plain = iikeying_signed key near cookie cert a.ni n
-              peer;
+          plain = rhello_packet tag (cookie_of s.cookie_secret to now) s.cert;
+          generation = g.generation;
+          keys = startup_keys_of g;
         } }
-    ensures change { (s : StartupState) (keying : InitiatorKeying) (from : AddressParts) (now : ℕ) →
-        change_answer s keying from now ≡ record {
+    ensures keying { (cert : List ℕ) (near : ℕ) (a : AttemptState) (to : AddressParts)
+        (peer cookie : List ℕ) (n : ℕ) (g : GroupSecret) →
+        keying_under g cert near (towards peer n a) to cookie
+        ≡ record {
+          to = to;
+          sid = 0;
+          plain = iikeying_signed (sign_key_of g.secret) near cookie cert a.ni n
+              peer;
+          generation = g.generation;
+          keys = startup_keys_of g;
+        } }
+    ensures change { (s : StartupState) (keying : InitiatorKeying) (from : AddressParts) (now : ℕ)
+        (g : GroupSecret) → change_answer s keying from now g
+        ≡ record {
           to = from;
           sid = keying.near;
           plain = cookiechange_packet keying.cookie (cookie_of s.cookie_secret from now);
+          generation = g.generation;
+          keys = startup_keys_of g;
         } }
-    ensures again { (s : StartupState) (j : Joined) (from : AddressParts) →
-        session_answer s j from ≡ record {
+    ensures born { (s : StartupState) (j : Joined) (from : AddressParts) (g : GroupSecret) →
+        session_answer s j from g
+        ≡ record {
           to = from;
           sid = j.far;
-          plain = rikeying_packet s.secret j.near j.nr j.k (sha256 s.cert) j.ni;
+          plain = rikeying_packet g.secret j.near j.nr j.k (sha256 s.cert) j.ni;
+          generation = g.generation;
+          keys = startup_keys_of g;
         } }
 {}

@@ -11,7 +11,7 @@ ghost use Rattle.startup_packets.specs.Readings.{initiator_keying_in, responder_
 ghost use Rattle.startup.specs.Keyings.{keying_of};
 ghost use Rattle.startup.specs.Attempts.{is_own};
 ghost use Rattle.startup.specs.Keyings.{heard_cause, named_cause, keyed, after_keying};
-ghost use Rattle.startup.specs.Keyings.{needs_row, keyed_facts, iikeying_cause};
+ghost use Rattle.startup.specs.Keyings.{bears, keyed_facts, iikeying_cause};
 ghost use Rattle.startup.specs.Keyings.{is_in_hello, attempt_cause, responder_cause, opening_cause};
 ghost use Rattle.startup.specs.Keyings.{rikeying_cause, opened, after_opening};
 ghost use Rattle.startup_packets.specs.Packets.{is_signed};
@@ -25,6 +25,7 @@ use crate::attempt::{Attempt, Stage};
 use crate::choosing::wide;
 use crate::startup::Startup;
 use cookies::CookieTest;
+use crypto_profile::Generation;
 use glare_core::{Fact, HearRefusal, Joined, Judged, Keying, Way};
 use rtmfp_base::Cause;
 use rtmfp_forms::Address;
@@ -37,8 +38,8 @@ use startup_packets::{
 pub enum Hearing {
     /// Its cookie was made for another place or too long ago: a new one is sent.
     Change,
-    /// It is the keying of this held session: the responder's keying is sent again.
-    Again(Joined),
+    /// It is this keying, of this held session: the responder's keying is sent again.
+    Again(Keying, Joined),
     /// Its session is born, in this way.
     Birth(Keying, Way),
 }
@@ -74,9 +75,16 @@ fn heard_as(keying: Keying, judged: Judged) -> Hearing
     ensures { result ≡ heard_as keying judged }
 {
     match judged {
-        Judged::Again(session) => Hearing::Again(session),
+        Judged::Again(session) => Hearing::Again(keying, session),
         Judged::Birth(way) => Hearing::Birth(keying, way),
     }
+}
+
+/// Whether the signature that a payload ends with is one of the group in this generation.
+fn has_signed(payload: &[u8], sign: &[u8], under: &Generation) -> bool
+    ensures { result ≡ is_signed under.now.secret payload.now sign.now }
+{
+    is_signed(under.sign(), payload, sign)
 }
 
 /// Whether hellos are sent.
@@ -134,13 +142,6 @@ impl Startup {
         *cert == *self.cert.bytes() || *print == self.print
     }
 
-    /// Whether the signature that a payload ends with is one of the group.
-    pub(crate) fn has_signed(&self, payload: &[u8], sign: &[u8]) -> bool
-        ensures { result ≡ is_signed self.now.secret payload.now sign.now }
-    {
-        is_signed(&self.sign, payload, sign)
-    }
-
     /// What hearing a keying with a good cookie would be, or why it is discarded.
     fn judge_named(&self, fields: &InitiatorFields<'_>, full: Option<u32>) -> Result<Hearing, Cause>
         ensures { result ≡ unless_cause (hearing self.now (initiator_of fields.now) Current)
@@ -159,8 +160,9 @@ impl Startup {
         }
     }
 
-    /// What hearing an initiator's keying would be, which came from an address, or why it is
-    /// discarded; `full` is the limit on sessions where there is no room for one more.
+    /// What hearing an initiator's keying would be, which came from an address and opened in this
+    /// generation, or why it is discarded; `full` is the limit on sessions where there is no room
+    /// for one more.
     ///
     /// The causes are those of `initiator_keying`, in their order. It changes nothing and takes no
     /// memory.
@@ -170,11 +172,12 @@ impl Startup {
         from: &Address,
         moment: u64,
         full: Option<u32>,
+        under: &Generation,
     ) -> Result<Hearing, Cause>
         ensures { result ≡ judged_initiator self.now fields.now.payload.now from.now moment full
-            (initiator_of fields.now) }
+            under.now (initiator_of fields.now) }
     {
-        if !self.has_signed(fields.payload, fields.sign) {
+        if !has_signed(fields.payload, fields.sign, under) {
             return Err(Cause::BadSignature);
         }
         match wide(fields.cookie) {
@@ -191,7 +194,8 @@ impl Startup {
 
     /// Hears an initiator's keying that was found to be this, and isn't discarded.
     ///
-    /// Only the row of a peer that has none takes memory; where there is none all is as before.
+    /// Only a birth takes memory, for the row of a peer that has none and for what is kept; where
+    /// there is none all is as before.
     pub fn apply_initiator_keying(
         &mut self,
         fields: &InitiatorFields<'_>,
@@ -200,22 +204,25 @@ impl Startup {
         moment: u64,
         near: u32,
         nr: [u8; 16],
+        under: &Generation,
     ) -> Result<Keyed, KeyRefusal>
         requires reads { initiator_keying_in fields.now.payload.now ≡ Ok (initiator_of fields.now) }
         requires judged { (full : Option ℕ) × (judged_initiator self.old fields.now.payload.now
-            from.now moment full (initiator_of fields.now) ≡ Ok hearing.now) }
+            from.now moment full under.now (initiator_of fields.now) ≡ Ok hearing.now) }
         ensures ok { IfOk result (λ a. (keyed self.old fields.now.payload.now from.now moment near
-            nr ≡ Some a) ×
-            (self.new ≡ after_keying self.old fields.now.payload.now from.now moment near nr)) }
+            nr under.now ≡ Some a) × (self.new
+            ≡ after_keying self.old fields.now.payload.now from.now moment near nr under.now)) }
         ensures memory { IfErr result (λ refusal. (refusal ≡ KeyRefusal.Memory) ×
-            IsTrue (needs_row self.old fields.now.payload.now from.now moment)) }
+            IsTrue (bears self.old fields.now.payload.now from.now moment)) }
         ensures err { OnErr result (self.new ≡ self.old) }
         ensures gave { IfOk result (λ a. Gave self.old.ledger (keyed_facts a) self.new.ledger) }
     {
         match hearing {
-            Hearing::Change => Ok(Keyed::Change(self.change_answer(fields, from, moment))),
-            Hearing::Again(session) => Ok(Keyed::Again(self.session_answer(session, from))),
-            Hearing::Birth(keying, way) => self.bear(keying, way, from, near, nr),
+            Hearing::Change => Ok(Keyed::Change(self.change_answer(fields, from, moment, under))),
+            Hearing::Again(keying, session) => {
+                Ok(Keyed::Again(self.again(&keying.peer, session, from)))
+            }
+            Hearing::Birth(keying, way) => self.bear(keying, way, from, near, nr, under),
         }
     }
 
@@ -226,19 +233,20 @@ impl Startup {
         from: &Address,
         moment: u64,
         full: Option<u32>,
+        under: &Generation,
     ) -> Option<Cause>
-        ensures { result ≡ iikeying_cause self.now payload.now from.now moment full }
+        ensures { result ≡ iikeying_cause self.now payload.now from.now moment full under.now }
     {
         match read_initiator_keying(payload) {
             Ok(fields) => self
-                .judge_initiator_keying(&fields, from, moment, full)
+                .judge_initiator_keying(&fields, from, moment, full, under)
                 .err(),
             Err(cause) => Some(cause),
         }
     }
 
-    /// The peer whose attempt with this near id a responder's keying opens, or why the keying is
-    /// discarded.
+    /// The peer whose attempt with this near id a responder's keying opens, which opened in this
+    /// generation, or why the keying is discarded.
     ///
     /// The causes are those of `responder_keying`, in their order. It changes nothing and takes no
     /// memory.
@@ -246,15 +254,16 @@ impl Startup {
         &self,
         near: u32,
         fields: &ResponderFields<'_>,
+        under: &Generation,
     ) -> Result<[u8; 32], Cause>
         ensures peer { IfOk result (λ peer. peer_of_attempt (get self.now.attempts near)
             ≡ Some peer) }
         ensures none { IfOk result (λ _. responder_cause self.now near fields.now.payload.now
-            (responder_of fields.now) ≡ None) }
+            under.now (responder_of fields.now) ≡ None) }
         ensures refused { IfErr result (λ cause. responder_cause self.now near
-            fields.now.payload.now (responder_of fields.now) ≡ Some cause) }
+            fields.now.payload.now under.now (responder_of fields.now) ≡ Some cause) }
     {
-        if !self.has_signed(fields.payload, fields.sign) {
+        if !has_signed(fields.payload, fields.sign, under) {
             return Err(Cause::BadSignature);
         }
         match self.attempts.get(near) {
@@ -268,18 +277,23 @@ impl Startup {
     ///
     /// No such attempt is the first cause then, and behind it come those of `responder_keying`, in
     /// their order. It changes nothing and takes no memory.
-    pub fn judge_opening(&self, near: u32, fields: &ResponderFields<'_>) -> Result<[u8; 32], Cause>
+    pub fn judge_opening(
+        &self,
+        near: u32,
+        fields: &ResponderFields<'_>,
+        under: &Generation,
+    ) -> Result<[u8; 32], Cause>
         ensures peer { IfOk result (λ peer. peer_of_attempt (get self.now.attempts near)
             ≡ Some peer) }
         ensures none { IfOk result (λ _. opening_cause self.now near fields.now.payload.now
-            (responder_of fields.now) ≡ None) }
+            under.now (responder_of fields.now) ≡ None) }
         ensures refused { IfErr result (λ cause. opening_cause self.now near
-            fields.now.payload.now (responder_of fields.now) ≡ Some cause) }
+            fields.now.payload.now under.now (responder_of fields.now) ≡ Some cause) }
     {
         let Some(attempt) = self.attempts.get(near) else {
             return Err(Cause::NoAttempt);
         };
-        if !self.has_signed(fields.payload, fields.sign) {
+        if !has_signed(fields.payload, fields.sign, under) {
             return Err(Cause::BadSignature);
         }
         opened_peer(attempt, fields)
@@ -312,11 +326,16 @@ impl Startup {
     }
 
     /// Why a responder's keying is discarded that came under this near id.
-    pub(crate) fn rikeying_cause(&self, near: u32, payload: &[u8]) -> Option<Cause>
-        ensures { result ≡ rikeying_cause self.now near payload.now }
+    pub(crate) fn rikeying_cause(
+        &self,
+        near: u32,
+        payload: &[u8],
+        under: &Generation,
+    ) -> Option<Cause>
+        ensures { result ≡ rikeying_cause self.now near payload.now under.now }
     {
         match read_responder_keying(payload) {
-            Ok(fields) => self.judge_responder_keying(near, &fields).err(),
+            Ok(fields) => self.judge_responder_keying(near, &fields, under).err(),
             Err(cause) => Some(cause),
         }
     }

@@ -3,11 +3,12 @@
 ghost use Rattle.std.specs.Prelude.{◌≡◌, ◌<◌, ◌^◌, is_some};
 ghost use Rattle.std.specs.FinMap.{contains_key, len};
 ghost use Rattle.startup.specs.Due.{due_sends, sends};
-ghost use Rattle.startup.specs.Attempts.{cancel_fact};
+ghost use Rattle.startup.specs.Attempts.{cancel_fact, secret_in, secret_of};
 
 use crate::attempt::{Attempt, Stage};
 use crate::rows::{Sought, is_over};
 use crate::startup::Startup;
+use crypto_profile::GroupSecret;
 
 impl Startup {
     /// How many attempts there are, searches among them.
@@ -32,6 +33,17 @@ impl Startup {
         self.attempts.find(&Sought::Number(n)).is_some()
     }
 
+    /// The generation and secret of the attempt in the keying stage with this near id; None exactly
+    /// where there is none.
+    pub fn secret_of(&self, near: u32) -> Option<GroupSecret>
+        ensures { result ≡ secret_of self.now near }
+    {
+        match self.attempts.get(near) {
+            Some(attempt) => secret_in(&attempt.stage),
+            None => None,
+        }
+    }
+
     /// How many datagrams the first thing sends that `due` would give; None exactly where nothing
     /// is due.
     pub fn due_sends(&self, moment: u64) -> Option<usize>
@@ -41,6 +53,16 @@ impl Startup {
             Some(found) => Some(sends(found.attempt, moment)),
             None => None,
         }
+    }
+}
+
+/// The generation and secret that an attempt keeps in the keying stage.
+fn secret_in(stage: &Stage) -> Option<GroupSecret>
+    ensures { result ≡ secret_in stage.now }
+{
+    match stage {
+        Stage::Hello => None,
+        Stage::Keying { under, .. } => Some(*under),
     }
 }
 

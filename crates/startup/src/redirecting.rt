@@ -20,6 +20,7 @@ use crate::leaving::Found;
 use crate::rows::{FoundAttempt, Sought};
 use crate::sending::hello_to;
 use crate::startup::Startup;
+use crypto_profile::Generation;
 use rtmfp_base::Cause;
 use rtmfp_forms::Address;
 use startup_packets::redirect_packet;
@@ -99,17 +100,19 @@ fn extension_by(
 }
 
 /// The redirect that answers a hello with this tag, to where the hello came from: the addresses, as
-/// they are (RFC 7016 section 3.5.1.4). It takes no memory.
-pub fn redirect_answer(tag: &[u8], addresses: &[Address], to: &Address) -> Answer
+/// they are (RFC 7016 section 3.5.1.4), sealed in the generation in which the hello opened. It takes
+/// no memory.
+pub fn redirect_answer(
+    tag: &[u8],
+    addresses: &[Address],
+    to: &Address,
+    under: &Generation,
+) -> Answer
     requires tag { length tag.now ≤ 128 }
     requires few { length addresses.now ≤ 16 }
-    ensures { result ≡ redirect_answer tag.now addresses.now to.now }
+    ensures { result ≡ redirect_answer tag.now addresses.now to.now under.now }
 {
-    Answer {
-        to: *to,
-        sid: 0,
-        plain: redirect_packet(tag, addresses),
-    }
+    Answer::under(under, to, 0, redirect_packet(tag, addresses))
 }
 
 impl Startup {
@@ -176,13 +179,16 @@ impl Startup {
     ///
     /// The causes, in their order, are a wide tag, no attempt with this tag (of several the one
     /// with the lowest near id counts), an attempt that was answered already, and more than 16
-    /// candidates with the new ones; where one stands, or nothing is added, all is as before.
+    /// candidates with the new ones; where one stands, or nothing is added, all is as before. The
+    /// generation in which it opened isn't used: its hellos are sealed in the current one.
     pub fn redirect(
         &mut self,
         tag: &[u8],
         list: &[u8],
         from: &Address,
         moment: u64,
+        _generation: u64,
+        _secret: &[u8; 32],
     ) -> Result<Spread, Cause>
         ensures spread { IfOk result (λ spread. redirect_spread self.old tag.now list.now from.now
             ≡ Some spread) }

@@ -4,8 +4,10 @@ ghost use Rattle.std.specs.Prelude.{◌≡◌};
 ghost use Rattle.startup.specs.Refusals.{rhello_refusal_with, rhello_refusal, cookie_change_refusal, redirect_refusal, refusal};
 ghost use Rattle.startup.specs.Attempts.{cookie_change_cause};
 ghost use Rattle.startup.specs.Redirects.{redirect_cause};
+ghost use Rattle.startup.specs.Answers.{group_of};
 
 use crate::startup::Startup;
+use crypto_profile::Generation;
 use identity::Certificate;
 use rtmfp_base::Cause;
 use rtmfp_chunks::kinds::{COOKIE_CHANGE, IIKEYING, REDIRECT, RHELLO, RIKEYING};
@@ -16,8 +18,8 @@ use startup_packets::fault_cause;
 impl Startup {
     /// The cause with which `responder_hello`, `redirect`, `cookie_change`, `initiator_keying` or
     /// `responder_keying` would refuse the chunk of this type and payload, which came under this
-    /// session ID; `full` is the limit on sessions where there is no room for one more. None
-    /// exactly where that call would give no cause, and for other types.
+    /// session ID and opened in this generation; `full` is the limit on sessions where there is no
+    /// room for one more. None exactly where that call would give no cause, and for other types.
     ///
     /// A payload that doesn't read, and a responder's hello whose certificate has no form, are
     /// malformed. It changes nothing and takes no memory.
@@ -29,15 +31,19 @@ impl Startup {
         from: &Address,
         moment: u64,
         full: Option<u32>,
+        generation: u64,
+        secret: &[u8; 32],
     ) -> Option<Cause>
-        ensures { result ≡ refusal self.now sid kind payload.now from.now moment full }
+        ensures { result ≡ refusal self.now sid kind payload.now from.now moment full
+            (group_of generation secret.now) }
     {
+        let under = Generation::of(generation, secret);
         match kind {
             RHELLO => self.rhello_refusal(payload),
             REDIRECT => self.redirect_refusal(payload, from),
-            COOKIE_CHANGE => self.cookie_change_refusal(sid, payload),
-            IIKEYING => self.iikeying_cause(payload, from, moment, full),
-            RIKEYING => self.rikeying_cause(sid, payload),
+            COOKIE_CHANGE => self.cookie_change_refusal(sid, payload, &under),
+            IIKEYING => self.iikeying_cause(payload, from, moment, full, &under),
+            RIKEYING => self.rikeying_cause(sid, payload, &under),
             _ => None,
         }
     }
@@ -93,21 +99,23 @@ impl Startup {
 
     /// Why a change of a cookie would be discarded.
     #[tactic(auto, unfolding(crate::specs::Refusals::cookie_change_refusal))]
-    fn cookie_change_refusal(&self, sid: u32, payload: &[u8]) -> Option<Cause>
-        ensures { result ≡ cookie_change_refusal self.now sid payload.now }
+    fn cookie_change_refusal(&self, sid: u32, payload: &[u8], under: &Generation) -> Option<Cause>
+        ensures { result ≡ cookie_change_refusal self.now sid payload.now under.now.generation }
     {
         match read_chunk(COOKIE_CHANGE, payload) {
-            Ok(ChunkView::CookieChange { old, new }) => self.change_refusal(sid, old, new),
+            Ok(ChunkView::CookieChange { old, new }) => {
+                self.change_refusal(sid, old, new, under)
+            }
             Ok(_) => Some(Cause::UnknownChunk(COOKIE_CHANGE)),
             Err(fault) => Some(fault_cause(fault)),
         }
     }
 
     /// Why a change of this cookie would be discarded.
-    fn change_refusal(&self, sid: u32, old: &[u8], new: &[u8]) -> Option<Cause>
-        ensures { result ≡ cookie_change_cause self.now sid old.now new.now }
+    fn change_refusal(&self, sid: u32, old: &[u8], new: &[u8], under: &Generation) -> Option<Cause>
+        ensures { result ≡ cookie_change_cause self.now sid old.now new.now under.now.generation }
     {
-        match self.judge_cookie_change(sid, old, new) {
+        match self.judge_cookie_change(sid, old, new, under) {
             Ok(_) => None,
             Err(cause) => Some(cause),
         }

@@ -6,7 +6,8 @@ ghost use Rattle.std.specs.Prelude.{◌≡◌, ◌∷◌, ◌+◌, ℕ, List, []
 ghost use Rattle.std.specs.Str.{bytes_eq};
 ghost use Rattle.std.specs.FinMap.{get, remove};
 ghost use Rattle.sha2.specs.Sha256.{sha256};
-ghost use Rattle.crypto_profile.specs.Keys.{sign_key_of};
+ghost use Rattle.crypto_profile.specs.declared.group.GroupSecret.{GroupSecret};
+ghost use Rattle.crypto_profile.specs.Keys.{sign_key_of, startup_keys_of};
 ghost use Rattle.rtmfp_forms.specs.Address.{AddressParts};
 ghost use Rattle.rtmfp_base.specs.declared.cause.Cause.TheVariants.{AlreadyHeld, AttemptsSpent, NoAttempt, OwnCertificate, PeersFull, WrongPeer, WrongState};
 ghost use Rattle.glare_core.specs.declared.facts.Fact.TheVariants.{Started};
@@ -87,29 +88,35 @@ pub fn a_search_starts_where_it_is_answered()
     ensures no_fact { (s : StartupState) (a : AttemptState) (peer print : List ℕ) (n : ℕ) →
         answer_fact s print (Some (5, towards peer n a)) ≡ None }
     ensures noted { (s : StartupState) (a : AttemptState) (name print cookie : List ℕ)
-        (from : AddressParts) (moment : ℕ) →
-        after_answer s print (Some (5, searching name a)) from cookie moment
+        (from : AddressParts) (moment : ℕ) (g : GroupSecret) →
+        after_answer s print (Some (5, searching name a)) from cookie moment g
         ≡ with_attempt
         (with_ledger s (noted s.ledger (Started print (s.ledger.started + 1) 5 a.ni))) 5
-        (met (searching name a) print (s.ledger.started + 1) from cookie moment) }
+        (met (searching name a) print (s.ledger.started + 1) from cookie moment g) }
     ensures keying { (s : StartupState) (a : AttemptState) (name print cookie : List ℕ)
-        (from : AddressParts) →
-        answer_keying s print (Some (5, searching name a)) from cookie
+        (from : AddressParts) (g : GroupSecret) →
+        answer_keying s print (Some (5, searching name a)) from cookie g
         ≡ Some (record {
           to = from;
           sid = 0;
-          plain = iikeying_signed (sign_key_of s.secret) 5 cookie s.cert a.ni
+          plain = iikeying_signed (sign_key_of g.secret) 5 cookie s.cert a.ni
               (s.ledger.started + 1) print;
+          generation = g.generation;
+          keys = startup_keys_of g;
         }) }
-    ensures met { (a : AttemptState) (name peer cookie : List ℕ) (from : AddressParts) →
-        met (searching name (in_hello (timed 1000 91000 3 a))) peer 7 from cookie 94000
-        ≡ towards peer 7 (in_keying from cookie (timed 94000 94000 0 a)) }
-    ensures lasts { (a : AttemptState) (peer cookie : List ℕ) (from : AddressParts) →
-        is_over 96000 (met (timed 1000 91000 3 a) peer 7 from cookie 94000) ≡ false }
-    ensures last { (a : AttemptState) (peer cookie : List ℕ) (from : AddressParts) →
-        is_over 188999 (met (timed 1000 91000 3 a) peer 7 from cookie 94000) ≡ false }
-    ensures over { (a : AttemptState) (peer cookie : List ℕ) (from : AddressParts) →
-        is_over 189000 (met (timed 1000 91000 3 a) peer 7 from cookie 94000) ≡ true }
+    ensures met { (a : AttemptState) (name peer cookie : List ℕ) (from : AddressParts)
+        (g : GroupSecret) →
+        met (searching name (in_hello (timed 1000 91000 3 a))) peer 7 from cookie 94000 g
+        ≡ towards peer 7 (in_keying from cookie g (timed 94000 94000 0 a)) }
+    ensures lasts { (a : AttemptState) (peer cookie : List ℕ) (from : AddressParts)
+        (g : GroupSecret) →
+        is_over 96000 (met (timed 1000 91000 3 a) peer 7 from cookie 94000 g) ≡ false }
+    ensures last { (a : AttemptState) (peer cookie : List ℕ) (from : AddressParts)
+        (g : GroupSecret) →
+        is_over 188999 (met (timed 1000 91000 3 a) peer 7 from cookie 94000 g) ≡ false }
+    ensures over { (a : AttemptState) (peer cookie : List ℕ) (from : AddressParts)
+        (g : GroupSecret) →
+        is_over 189000 (met (timed 1000 91000 3 a) peer 7 from cookie 94000 g) ≡ true }
 {}
 
 /// The hello of an end with another name doesn't answer a search, whatever else holds; that of the
@@ -154,8 +161,8 @@ pub fn the_last_number_is_spent_before_the_rows_are()
 /// it can't be answered.
 pub fn an_attempt_and_a_search_have_one_order()
     ensures attempt { (s : StartupState) (all : Attempts) (a b : AttemptState) (at : AddressParts)
-        (name cookie cert peer : List ℕ) (n : ℕ) →
-        AreTwo all (towards peer n (in_keying at cookie (record a { tag = 7 ∷ [] })))
+        (name cookie cert peer : List ℕ) (n : ℕ) (g : GroupSecret) →
+        AreTwo all (towards peer n (in_keying at cookie g (record a { tag = 7 ∷ [] })))
         (searching name (in_hello (record b { tag = 7 ∷ [] }))) →
         hello_cause_at s (lowest (has_tag (7 ∷ [])) all) cert ≡ Some WrongState }
     ensures search { (s : StartupState) (all : Attempts) (a b : AttemptState)

@@ -3,13 +3,13 @@
 ghost use Rattle.std.specs.Prelude.{◌≡◌, ◌≤◌, false, length, take};
 ghost use Rattle.startup.specs.Aims.{is_search};
 ghost use Rattle.startup.specs.State.{FitsStage};
-ghost use Rattle.startup.specs.Attempts.{keying_signed, again_signed, hello_spread};
-ghost use Rattle.startup.specs.Due.{repeat_signed};
+ghost use Rattle.startup.specs.Attempts.{keying_under, again_under, hello_spread};
+ghost use Rattle.startup.specs.Due.{repeat_under};
 
 use crate::aim::Aim;
 use crate::answer::{Answer, Due, Spread};
 use crate::attempt::{Attempt, Stage};
-use crypto_profile::HmacKey;
+use crypto_profile::{Generation, GroupSecret};
 use identity::Certificate;
 use rtmfp_base::limits::CANDIDATES;
 use rtmfp_forms::Address;
@@ -35,60 +35,82 @@ pub(crate) fn hello_spread(attempt: &Attempt) -> Spread
     hello_to(attempt, &attempt.candidates, attempt.count)
 }
 
-/// The keying of an attempt under the signature key, to an address with a cookie. It is no search.
-pub(crate) fn keying_answer(
+/// The keying of an attempt in this generation, to an address with a cookie. It is no search.
+fn keying_in(
     near: u32,
     attempt: &Attempt,
-    key: &HmacKey,
     cert: &Certificate,
     to: &Address,
     cookie: &[u8],
+    under: &Generation,
 ) -> Answer
     requires aims { is_search attempt.now.aim ≡ false }
     requires cookie { length cookie.now ≤ 128 }
-    ensures { result ≡ keying_signed key.now cert.now near attempt.now to.now cookie.now }
+    ensures { result ≡ keying_under under.now cert.now near attempt.now to.now cookie.now }
 {
+    let key = under.sign();
     let plain = match &attempt.aim {
         Aim::AtPeer { peer, n } => {
             iikeying_packet(key, near, cookie, cert.bytes(), &attempt.ni, *n, peer)
         }
         Aim::ByName { .. } => unreachable!(),
     };
-    Answer {
-        to: *to,
-        sid: 0,
-        plain,
-    }
+    Answer::under(under, to, 0, plain)
 }
 
-/// The keying of an attempt, to the address that answered, with another cookie; None in the hello
-/// stage.
+/// The keying of an attempt under its own secret of the group, to an address with a cookie. It is
+/// no search. The secret is hashed where it isn't that of the generation that is given.
+fn keying_under(
+    near: u32,
+    attempt: &Attempt,
+    cert: &Certificate,
+    to: &Address,
+    cookie: &[u8],
+    under: &GroupSecret,
+    given: &Generation,
+) -> Answer
+    requires aims { is_search attempt.now.aim ≡ false }
+    requires cookie { length cookie.now ≤ 128 }
+    ensures { result ≡ keying_under under.now cert.now near attempt.now to.now cookie.now }
+{
+    if given.is(under) {
+        return keying_in(near, attempt, cert, to, cookie, given);
+    }
+    let own = Generation::of(under.generation, &under.secret);
+    keying_in(near, attempt, cert, to, cookie, &own)
+}
+
+/// The keying of an attempt under its own secret of the group, to the address that answered, with
+/// another cookie; None in the hello stage.
 pub(crate) fn keying_again(
     near: u32,
     attempt: &Attempt,
-    key: &HmacKey,
     cert: &Certificate,
     cookie: &[u8],
+    given: &Generation,
 ) -> Option<Answer>
     requires fits { FitsStage attempt.now.aim attempt.now.stage }
     requires cookie { length cookie.now ≤ 128 }
-    ensures { result ≡ again_signed key.now cert.now near attempt.now attempt.now.stage cookie.now }
+    ensures { result ≡ again_under cert.now near attempt.now attempt.now.stage cookie.now }
 {
     match &attempt.stage {
         Stage::Hello => None,
-        Stage::Keying { at, .. } => Some(keying_answer(near, attempt, key, cert, at, cookie)),
+        Stage::Keying { at, under, .. } => Some(keying_under(
+            near, attempt, cert, at, cookie, under, given,
+        )),
     }
 }
 
-/// What an attempt sends again.
-pub(crate) fn repeat_of(near: u32, attempt: &Attempt, key: &HmacKey, cert: &Certificate) -> Due
+/// What an attempt sends again, a keying under its own secret of the group.
+pub(crate) fn repeat_of(near: u32, attempt: &Attempt, cert: &Certificate, given: &Generation) -> Due
     requires { FitsStage attempt.now.aim attempt.now.stage }
-    ensures { result ≡ repeat_signed key.now cert.now near attempt.now attempt.now.stage }
+    ensures { result ≡ repeat_under cert.now near attempt.now attempt.now.stage }
 {
     match &attempt.stage {
         Stage::Hello => Due::Hello(hello_spread(attempt)),
-        Stage::Keying { at, cookie } => {
-            Due::Keying(keying_answer(near, attempt, key, cert, at, cookie.bytes()))
+        Stage::Keying { at, cookie, under } => {
+            let kept = cookie.bytes();
+            Due::Keying(keying_under(near, attempt, cert, at, kept, under, given))
         }
     }
 }

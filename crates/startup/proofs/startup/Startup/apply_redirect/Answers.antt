@@ -19,6 +19,6 @@ invariant_of-self c =
     let i = c.self.inside in
     let near = c.extension.inside.found.near in
     let is = subst (λ e. Extends c.args.self.now e) (sym c.extension.view_is) c.requires in
-    changed_is_kept i.cert i.print i.secret i.sign i.cookies i.peers i.attempts.attempts c.self.invariant near is.attempt (ap (λ (t : StartupState). get t.attempts near) c.self.view_is ∙ is.there)
+    changed_is_kept i.cert i.print i.cookies i.peers i.attempts.attempts i.kept.keyings c.self.invariant near is.attempt (ap (λ (t : StartupState). get t.attempts near) c.self.view_is ∙ is.there)
     (λ a. extended a (take c.extension.inside.new.count c.extension.inside.new.to) c.args.moment) c.change.new.self.attempts c.change.ensures
     (record { aim = λ a. refl; ni = λ a. refl }) (c.self.invariant.sound.stages near is.attempt (ap (λ (t : StartupState). get t.attempts near) c.self.view_is ∙ is.there))

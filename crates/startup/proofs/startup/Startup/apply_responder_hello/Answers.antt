@@ -6,7 +6,8 @@ use Rattle.startup.specs.declared.attempt.Stage.TheVariants.{Keying}
 use Rattle.startup.specs.declared.answer.Answer.{Answer}
 use Rattle.glare_core.specs.declared.facts.Fact.{Fact}
 use Rattle.startup.specs.State.{AttemptState, StartupState}
-use Rattle.startup.specs.Attempts.{answered, keying_towards, with_attempt}
+use Rattle.crypto_profile.specs.declared.group.GroupSecret.{GroupSecret}
+use Rattle.startup.specs.Attempts.{after_start, answered, keying_towards, with_attempt}
 use Rattle.startup.proofs.Choices.{got_is, never_none}
 use Rattle.startup.proofs.Greeted.{greeted_starts, has_it, search_after, search_fact, search_keying, towards_after, towards_fact, towards_keying}
 use Rattle.startup.proofs.Keeping.{peer_fits}
@@ -32,9 +33,9 @@ invariant_of-self c =
     let there : get i.attempts.attempts near ≡ Some found.attempt = ap (λ (t : StartupState). get t.attempts near) c.self.view_is ∙ found.there in
     let same : c.in-Some.attempt.now ≡ found.attempt = got_is i.attempts.attempts near c.in-Some.attempt.now found.attempt (sym c.in-Some.ensures) there in
     let inner : c.attempt.inside.aim ≡ found.attempt.aim = ap (λ (x : AttemptState). x.aim) (c.attempt.view_is ∙ same) in
-    changed_is_kept i.cert i.print i.secret i.sign i.cookies i.peers i.attempts.attempts c.self.invariant near found.attempt there
-    (λ a. answered a c.args.from.now c.args.cookie.now c.args.moment) c.change.new.self.attempts c.change.ensures (record { aim = λ a. refl; ni = λ a. refl })
-    (peer_fits found.attempt.aim c.in-AtPeer.peer c.in-AtPeer.n (Keying c.args.from.now c.args.cookie.now) (sym inner ∙ c.in-AtPeer.is))
+    changed_is_kept i.cert i.print i.cookies i.peers i.attempts.attempts i.kept.keyings c.self.invariant near found.attempt there
+    (λ a. answered a c.args.from.now c.args.cookie.now c.args.moment c.plain-group.result) c.change.new.self.attempts c.change.ensures (record { aim = λ a. refl; ni = λ a. refl })
+    (peer_fits found.attempt.aim c.in-AtPeer.peer c.in-AtPeer.n (Keying c.args.from.now c.args.cookie.now c.plain-group.result) (sym inner ∙ c.in-AtPeer.is))
 
 pub returns-in-AtPeer-clause-fact : goal.returns-in-AtPeer-clause-fact
 returns-in-AtPeer-clause-fact c chosen found =
@@ -54,8 +55,8 @@ returns-in-AtPeer-clause-answer c chosen found =
     let there : get i.attempts.attempts near ≡ Some found.attempt = ap (λ (t : StartupState). get t.attempts near) c.self.view_is ∙ found.there in
     let same : c.in-Some.attempt.now ≡ found.attempt = got_is i.attempts.attempts near c.in-Some.attempt.now found.attempt (sym c.in-Some.ensures) there in
     let inner : c.attempt.inside.aim ≡ found.attempt.aim = ap (λ (x : AttemptState). x.aim) (c.attempt.view_is ∙ same) in
-    towards_keying s c.args.greeting.now.print c.args.greeting.now.found chosen found c.in-AtPeer.peer c.in-AtPeer.n (sym inner ∙ c.in-AtPeer.is) c.args.from.now c.args.cookie.now
-    ∙ ap (λ (x : Answer). Some x) (sym (c.keying_towards-answer.ensures ∙ ap (λ (x : AttemptState). keying_towards s near x.ni c.in-AtPeer.peer c.in-AtPeer.n c.args.from.now c.args.cookie.now) (c.attempt.view_is ∙ same)))
+    towards_keying s c.args.greeting.now.print c.args.greeting.now.found chosen found c.in-AtPeer.peer c.in-AtPeer.n (sym inner ∙ c.in-AtPeer.is) c.args.from.now c.args.cookie.now c.args.under.now
+    ∙ ap (λ (x : Answer). Some x) (sym (c.keying_towards-answer.ensures ∙ ap (λ (x : AttemptState). keying_towards s near x.ni c.in-AtPeer.peer c.in-AtPeer.n c.args.from.now c.args.cookie.now c.args.under.now) (c.attempt.view_is ∙ same)))
 
 pub returns-in-AtPeer-clause-after : goal.returns-in-AtPeer-clause-after
 returns-in-AtPeer-clause-after c chosen found =
@@ -65,10 +66,11 @@ returns-in-AtPeer-clause-after c chosen found =
     let there : get i.attempts.attempts near ≡ Some found.attempt = ap (λ (t : StartupState). get t.attempts near) c.self.view_is ∙ found.there in
     let same : c.in-Some.attempt.now ≡ found.attempt = got_is i.attempts.attempts near c.in-Some.attempt.now found.attempt (sym c.in-Some.ensures) there in
     let inner : c.attempt.inside.aim ≡ found.attempt.aim = ap (λ (x : AttemptState). x.aim) (c.attempt.view_is ∙ same) in
-    changed_state i.cert i.print i.secret i.sign i.cookies i.peers i.attempts.attempts c.self.invariant near found.attempt there
-    (λ a. answered a c.args.from.now c.args.cookie.now c.args.moment) c.change.new.self.attempts c.change.ensures
-    ∙ ap (λ (t : StartupState). with_attempt t near (answered found.attempt c.args.from.now c.args.cookie.now c.args.moment)) c.self.view_is
-    ∙ sym (towards_after s c.args.greeting.now.print c.args.greeting.now.found chosen found c.in-AtPeer.peer c.in-AtPeer.n (sym inner ∙ c.in-AtPeer.is) c.args.from.now c.args.cookie.now c.args.moment)
+    changed_state i.cert i.print i.cookies i.peers i.attempts.attempts i.kept.keyings c.self.invariant near found.attempt there
+    (λ a. answered a c.args.from.now c.args.cookie.now c.args.moment c.plain-group.result) c.change.new.self.attempts c.change.ensures
+    ∙ ap (λ (t : StartupState). with_attempt t near (answered found.attempt c.args.from.now c.args.cookie.now c.args.moment c.plain-group.result)) c.self.view_is
+    ∙ ap (λ (g : GroupSecret). with_attempt s near (answered found.attempt c.args.from.now c.args.cookie.now c.args.moment g)) c.plain-group.ensures
+    ∙ sym (towards_after s c.args.greeting.now.print c.args.greeting.now.found chosen found c.in-AtPeer.peer c.in-AtPeer.n (sym inner ∙ c.in-AtPeer.is) c.args.from.now c.args.cookie.now c.args.moment c.args.under.now)
 
 -- ---- a search
 
@@ -115,7 +117,8 @@ returns-in-Ok-clause-after c chosen found =
     let same : c.in-Some.attempt.now ≡ found.attempt = got_is i.attempts.attempts near c.in-Some.attempt.now found.attempt (sym c.in-Some.ensures) there in
     let inner : c.attempt.inside.aim ≡ found.attempt.aim = ap (λ (x : AttemptState). x.aim) (c.attempt.view_is ∙ same) in
     c.in-Ok.ensures.after found.attempt found.there
-    ∙ sym (search_after s c.args.greeting.now.print c.args.greeting.now.found chosen found c.in-ByName.name (sym inner ∙ c.in-ByName.is) c.args.from.now c.args.cookie.now c.args.moment)
+    ∙ ap (λ (g : GroupSecret). after_start s c.args.greeting.now.print near found.attempt c.args.from.now c.args.cookie.now c.args.moment g) c.plain-group-in-ByName.ensures
+    ∙ sym (search_after s c.args.greeting.now.print c.args.greeting.now.found chosen found c.in-ByName.name (sym inner ∙ c.in-ByName.is) c.args.from.now c.args.cookie.now c.args.moment c.args.under.now)
 
 pub returns-in-Ok-clause-answer : goal.returns-in-Ok-clause-answer
 returns-in-Ok-clause-answer c chosen found =
@@ -130,8 +133,8 @@ returns-in-Ok-clause-answer c chosen found =
     let inner : c.attempt.inside.aim ≡ found.attempt.aim = ap (λ (x : AttemptState). x.aim) (c.attempt.view_is ∙ same) in
     let left = c.in-Ok.ensures.after found.attempt found.there in
     let next : c.started-n.result ≡ s.ledger.started + 1 = c.started-n.ensures.started ∙ ap (λ (t : StartupState). t.ledger.started) (c.self-in-ByName.view_is ∙ left) in
-    search_keying s print c.args.greeting.now.found chosen found c.in-ByName.name (sym inner ∙ c.in-ByName.is) from cookie
+    search_keying s print c.args.greeting.now.found chosen found c.in-ByName.name (sym inner ∙ c.in-ByName.is) from cookie c.args.under.now
     ∙ ap (λ (x : Answer). Some x) (sym (c.keying_towards-answer-in-ByName.ensures
-    ∙ ap (λ (t : StartupState). keying_towards t near c.attempt.inside.ni print c.started-n.result from cookie) left
-    ∙ ap (λ (n : ℕ). keying_towards s near c.attempt.inside.ni print n from cookie) next
-    ∙ ap (λ (x : AttemptState). keying_towards s near x.ni print (s.ledger.started + 1) from cookie) (c.attempt.view_is ∙ same)))
+    ∙ ap (λ (t : StartupState). keying_towards t near c.attempt.inside.ni print c.started-n.result from cookie c.args.under.now) left
+    ∙ ap (λ (n : ℕ). keying_towards s near c.attempt.inside.ni print n from cookie c.args.under.now) next
+    ∙ ap (λ (x : AttemptState). keying_towards s near x.ni print (s.ledger.started + 1) from cookie c.args.under.now) (c.attempt.view_is ∙ same)))

@@ -8,10 +8,9 @@ use Rattle.startup.proofs.startup.Startup.apply_responder_keying.Goals as goal
 
 pub invariant_of-self : goal.invariant_of-self
 invariant_of-self c =
-    let s : StartupState = state_of c.self.inside.cert c.self.inside.secret c.self.inside.cookies c.self.inside.peers c.self.inside.attempts.attempts in
+    let s : StartupState = state_of c.self.inside.cert c.self.inside.cookies c.self.inside.peers c.self.inside.attempts.attempts c.self.inside.kept.keyings in
     record {
       print_is = c.self.invariant.print_is;
-      sign_is = c.self.invariant.sign_is;
       sound = opened_is_kept_sound s c.args.near c.args.peer.now (responder_of c.args.fields.now) c.in-Some.fact c.answer.new.self c.forget.new.self.attempts
           c.self.invariant.sound (ap (λ (t : StartupState). peer_of_attempt (get t.attempts c.args.near)) c.self.view_is ∙ c.requires.peer)
           c.in-Some.ensures.fact c.in-Some.ensures.ledger c.forget.ensures;

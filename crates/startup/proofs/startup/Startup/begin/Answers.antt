@@ -10,14 +10,14 @@ use Rattle.startup.proofs.startup.Startup.begin.Goals as goal
 pub invariant_of-self : goal.invariant_of-self
 invariant_of-self c =
     let i = c.self.inside in
-    subst (λ a. IsStartup i.cert i.print i.secret i.sign i.cookies i.peers a) (sym c.reserve.ensures.attempts) c.self.invariant
+    subst (λ a. IsStartup i.cert i.print i.cookies i.peers a i.kept.keyings) (sym c.reserve.ensures.attempts) c.self.invariant
 
 pub invariant_of-self-2 : goal.invariant_of-self-2
 invariant_of-self-2 c =
     let i = c.self.inside in
-    let s : StartupState = state_of i.cert i.secret i.cookies i.peers i.attempts.attempts in
+    let s : StartupState = state_of i.cert i.cookies i.peers i.attempts.attempts i.kept.keyings in
     let free : get i.attempts.attempts c.args.near ≡ None = ap (λ (t : StartupState). get t.attempts c.args.near) c.self.view_is ∙ c.requires.free in
-    begun_is_kept i.cert i.print i.secret i.sign i.cookies i.peers i.attempts.attempts c.self.invariant c.args.epd.now.print c.args.ni c.args.tag c.args.candidates.now c.args.near c.args.moment
+    begun_is_kept i.cert i.print i.cookies i.peers i.attempts.attempts i.kept.keyings c.self.invariant c.args.epd.now.print c.args.ni c.args.tag c.args.candidates.now c.args.near c.args.moment
     free (sym c.start_refusal.ensures ∙ c.in-None.is) _
     (begun_attempt_is s c.args.epd.now.print c.args.candidates.now c.args.near c.args.ni c.args.tag c.args.moment _ _ c.start.new.self c.in-Ok-start.fact c.started.ensures.started c.in-Ok-start.ensures.ok.1 c.in-Ok-start.ensures.ok.0 c.distinct_candidates-to.ensures.distinct)
     c.start.new.self (c.in-Ok-start.ensures.ok.1 ∙ ap (noted i.peers) c.in-Ok-start.ensures.ok.0)
@@ -29,9 +29,9 @@ keep-requires-clause-free c = ap (λ a. get a c.args.near) c.reserve.ensures.att
 pub returns-clause-after : goal.returns-clause-after
 returns-clause-after c =
     let i = c.self.inside in
-    let s : StartupState = state_of i.cert i.secret i.cookies i.peers i.attempts.attempts in
+    let s : StartupState = state_of i.cert i.cookies i.peers i.attempts.attempts i.kept.keyings in
     let free : get i.attempts.attempts c.args.near ≡ None = ap (λ (t : StartupState). get t.attempts c.args.near) c.self.view_is ∙ c.requires.free in
-    begun_state i.cert i.print i.secret i.sign i.cookies i.peers i.attempts.attempts c.self.invariant c.args.epd.now.print c.args.ni c.args.tag c.args.candidates.now c.args.near c.args.moment
+    begun_state i.cert i.print i.cookies i.peers i.attempts.attempts i.kept.keyings c.self.invariant c.args.epd.now.print c.args.ni c.args.tag c.args.candidates.now c.args.near c.args.moment
     free (sym c.start_refusal.ensures ∙ c.in-None.is) _
     (begun_attempt_is s c.args.epd.now.print c.args.candidates.now c.args.near c.args.ni c.args.tag c.args.moment _ _ c.start.new.self c.in-Ok-start.fact c.started.ensures.started c.in-Ok-start.ensures.ok.1 c.in-Ok-start.ensures.ok.0 c.distinct_candidates-to.ensures.distinct)
     c.start.new.self (c.in-Ok-start.ensures.ok.1 ∙ ap (noted i.peers) c.in-Ok-start.ensures.ok.0)

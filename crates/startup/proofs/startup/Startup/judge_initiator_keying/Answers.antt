@@ -13,7 +13,7 @@ returns-in-Current c =
     let current : cookie_test c.args.self.now.cookie_secret read.cookie c.args.from.now c.args.moment ≡ Current =
     sym (c.test.ensures.exact ∙ ap (λ (t : StartupState). cookie_test t.cookie_secret read.cookie c.args.from.now c.args.moment) c.self.view_is) ∙ c.in-Current.is in
     c.judge_named.ensures
-    ∙ current_judged c.args.self.now c.args.fields.now.payload.now c.args.from.now c.args.moment c.args.full read (sym c.has_signed.ensures ∙ c.if-not-has_signed.false) (sym c.wide.ensures ∙ c.in-None.is) current
+    ∙ current_judged c.args.self.now c.args.fields.now.payload.now c.args.from.now c.args.moment c.args.full c.args.under.now read (sym c.has_signed.ensures ∙ c.if-not-has_signed.false) (sym c.wide.ensures ∙ c.in-None.is) current
 
 -- so that a wrong body is refused fast
 pub returns-in-Moved : goal.returns-in-Moved

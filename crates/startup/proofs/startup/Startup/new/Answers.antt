@@ -1,10 +1,8 @@
-use Rattle.std.proofs.Common.{◌∙◌}
 use Rattle.startup.proofs.Sound.{new_is_sound}
 use Rattle.startup.proofs.startup.Startup.new.Goals as goal
 
 pub invariant_of-result : goal.invariant_of-result
-invariant_of-result c = rw (c.of.ensures, c.new-2.ensures.ledger, c.new-3.ensures) (record {
+invariant_of-result c = rw (c.new-2.ensures.ledger, c.new-3.ensures, c.new-4.ensures) (record {
   print_is = c.print-print.ensures;
-  sign_is = c.of-2.ensures ∙ c.sign_key.ensures;
-  sound = rw (c.print-print.ensures) (new_is_sound _ _ _ _);
+  sound = rw (c.print-print.ensures) (new_is_sound _ _ _);
 })

@@ -11,7 +11,7 @@ use Rattle.startup.proofs.startup.Startup.search_cause.Goals as goal
 pub spent_cause-requires-clause-other : goal.spent_cause-requires-clause-other
 spent_cause-requires-clause-other c =
     let i = c.self.inside in
-    let s : StartupState = state_of i.cert i.secret i.cookies i.peers i.attempts.attempts in
+    let s : StartupState = state_of i.cert i.cookies i.peers i.attempts.attempts i.kept.keyings in
     let other : is_own s c.args.cert.now ≡ false = ap (λ (t : StartupState). is_own t c.args.cert.now) c.self.view_is ∙ sym c.is_own.ensures ∙ c.if-is_own.false in
     ap (λ (p : List ℕ). bytes_eq p i.peers.own) c.requires ∙ other_print s c.args.cert.now c.self.invariant.sound.own other
 

@@ -9,13 +9,13 @@ use Rattle.startup.proofs.startup.Startup.seek.Goals as goal
 pub invariant_of-self : goal.invariant_of-self
 invariant_of-self c =
     let i = c.self.inside in
-    subst (λ a. IsStartup i.cert i.print i.secret i.sign i.cookies i.peers a) (sym c.reserve.ensures.attempts) c.self.invariant
+    subst (λ a. IsStartup i.cert i.print i.cookies i.peers a i.kept.keyings) (sym c.reserve.ensures.attempts) c.self.invariant
 
 pub invariant_of-self-2 : goal.invariant_of-self-2
 invariant_of-self-2 c =
     let i = c.self.inside in
     let free : get i.attempts.attempts c.args.near ≡ None = ap (λ (t : StartupState). get t.attempts c.args.near) c.self.view_is ∙ c.requires.free in
-    sought_is_kept i.cert i.print i.secret i.sign i.cookies i.peers i.attempts.attempts c.self.invariant c.args.name.now c.args.ni c.args.tag c.args.candidates.now c.args.near c.args.moment free _
+    sought_is_kept i.cert i.print i.cookies i.peers i.attempts.attempts i.kept.keyings c.self.invariant c.args.name.now c.args.ni c.args.tag c.args.candidates.now c.args.near c.args.moment free _
     (begun_search_is c.args.name.now c.args.candidates.now c.args.ni c.args.tag c.args.moment _ c.distinct_candidates-to.ensures.distinct)
     c.reserve.new.self.attempts c.keep.new.self.attempts c.reserve.ensures.attempts c.keep.ensures
 
@@ -26,7 +26,7 @@ pub returns-clause-after : goal.returns-clause-after
 returns-clause-after c =
     let i = c.self.inside in
     let free : get i.attempts.attempts c.args.near ≡ None = ap (λ (t : StartupState). get t.attempts c.args.near) c.self.view_is ∙ c.requires.free in
-    sought_state i.cert i.print i.secret i.sign i.cookies i.peers i.attempts.attempts c.self.invariant c.args.name.now c.args.ni c.args.tag c.args.candidates.now c.args.near c.args.moment free _
+    sought_state i.cert i.print i.cookies i.peers i.attempts.attempts i.kept.keyings c.self.invariant c.args.name.now c.args.ni c.args.tag c.args.candidates.now c.args.near c.args.moment free _
     (begun_search_is c.args.name.now c.args.candidates.now c.args.ni c.args.tag c.args.moment _ c.distinct_candidates-to.ensures.distinct)
     c.reserve.new.self.attempts c.keep.new.self.attempts c.reserve.ensures.attempts c.keep.ensures
     ∙ ap (λ (t : StartupState). after_seek t c.args.name.now c.args.candidates.now c.args.near c.args.ni c.args.tag c.args.moment) c.self.view_is

@@ -18,7 +18,7 @@ unreachable-requires c =
 pub invariant_of-self : goal.invariant_of-self
 invariant_of-self c =
     let i = c.self.inside in
-    subst (λ (t : Table). IsStartup i.cert i.print i.secret i.sign i.cookies i.peers t.attempts) (sym c.reserve_number.ensures) c.self.invariant
+    subst (λ (t : Table). IsStartup i.cert i.print i.cookies i.peers t.attempts i.kept.keyings) (sym c.reserve_number.ensures) c.self.invariant
 
 pub invariant_of-self-2 : goal.invariant_of-self-2
 invariant_of-self-2 c =
@@ -27,8 +27,8 @@ invariant_of-self-2 c =
     let there : get i.attempts.attempts c.args.near ≡ Some a = sym c.in-Some.ensures in
     let searches : is_search a.aim ≡ true = ap is_search_in c.in-Some.ensures ∙ ap (λ (t : StartupState). has_search t c.args.near) c.self.view_is ∙ c.requires.search in
     let startable : start_refusal i.peers c.args.print.now ≡ None = ap (λ (t : StartupState). start_refusal t.ledger c.args.print.now) c.self.view_is ∙ c.requires.free in
-    let changed = c.change.ensures ∙ ap (λ (t : Table). in_attempt (λ (b : AttemptState). met b c.args.print.now c.started-n.result c.args.from.now c.args.cookie.now c.args.moment) t.attempts c.args.near) c.reserve_number.ensures in
-    met_is_kept i.cert i.print i.secret i.sign i.cookies i.peers i.attempts.attempts c.self.invariant c.args.near a there searches c.args.print.now c.args.from.now c.args.cookie.now c.args.moment c.started-n.result startable
+    let changed = c.change.ensures ∙ ap (λ (t : Table). in_attempt (λ (b : AttemptState). met b c.args.print.now c.started-n.result c.args.from.now c.args.cookie.now c.args.moment c.args.under.now) t.attempts c.args.near) c.reserve_number.ensures in
+    met_is_kept i.cert i.print i.cookies i.peers i.attempts.attempts i.kept.keyings c.self.invariant c.args.near a there searches c.args.print.now c.args.from.now c.args.cookie.now c.args.moment c.started-n.result c.args.under.now startable
     c.start.new.self c.in-Ok-start.fact (c.in-Ok-start.ensures.ok.0 ∙ ap (λ (x : AttemptState). started_fact i.peers c.args.print.now c.args.near x.ni) c.search.view_is) c.in-Ok-start.ensures.ok.1 c.started-n.ensures.started c.change.new.self.attempts changed
 
 pub returns-clause-fact : goal.returns-clause-fact
@@ -46,9 +46,9 @@ returns-clause-after c b at =
     let there : get i.attempts.attempts c.args.near ≡ Some a = sym c.in-Some.ensures in
     let searches : is_search a.aim ≡ true = ap is_search_in c.in-Some.ensures ∙ ap (λ (t : StartupState). has_search t c.args.near) c.self.view_is ∙ c.requires.search in
     let startable : start_refusal i.peers c.args.print.now ≡ None = ap (λ (t : StartupState). start_refusal t.ledger c.args.print.now) c.self.view_is ∙ c.requires.free in
-    let changed = c.change.ensures ∙ ap (λ (t : Table). in_attempt (λ (b : AttemptState). met b c.args.print.now c.started-n.result c.args.from.now c.args.cookie.now c.args.moment) t.attempts c.args.near) c.reserve_number.ensures in
+    let changed = c.change.ensures ∙ ap (λ (t : Table). in_attempt (λ (b : AttemptState). met b c.args.print.now c.started-n.result c.args.from.now c.args.cookie.now c.args.moment c.args.under.now) t.attempts c.args.near) c.reserve_number.ensures in
     let same = got_is i.attempts.attempts c.args.near a b there (ap (λ (t : StartupState). get t.attempts c.args.near) c.self.view_is ∙ at) in
-    met_state i.cert i.print i.secret i.sign i.cookies i.peers i.attempts.attempts c.self.invariant c.args.near a there searches c.args.print.now c.args.from.now c.args.cookie.now c.args.moment c.started-n.result startable
+    met_state i.cert i.print i.cookies i.peers i.attempts.attempts i.kept.keyings c.self.invariant c.args.near a there searches c.args.print.now c.args.from.now c.args.cookie.now c.args.moment c.started-n.result c.args.under.now startable
     c.start.new.self c.in-Ok-start.fact (c.in-Ok-start.ensures.ok.0 ∙ ap (λ (x : AttemptState). started_fact i.peers c.args.print.now c.args.near x.ni) c.search.view_is) c.in-Ok-start.ensures.ok.1 c.started-n.ensures.started c.change.new.self.attempts changed
-    ∙ ap (λ (t : StartupState). after_start t c.args.print.now c.args.near a c.args.from.now c.args.cookie.now c.args.moment) c.self.view_is
-    ∙ ap (λ (x : AttemptState). after_start c.args.self.now c.args.print.now c.args.near x c.args.from.now c.args.cookie.now c.args.moment) same
+    ∙ ap (λ (t : StartupState). after_start t c.args.print.now c.args.near a c.args.from.now c.args.cookie.now c.args.moment c.args.under.now) c.self.view_is
+    ∙ ap (λ (x : AttemptState). after_start c.args.self.now c.args.print.now c.args.near x c.args.from.now c.args.cookie.now c.args.moment c.args.under.now) same
