@@ -4,7 +4,7 @@ use Rattle.std.proofs.Common.{◌≡◌, ◌⊎◌, inl, inr, Some, None, refl, 
 use Rattle.glare_core.specs.declared.facts.Fact.{Fact}
 use Rattle.endpoint_model.specs.declared.entry.Entry.{Entry}
 use Rattle.endpoint_model.specs.declared.entry.Entry.TheVariants.{Fact as FactEntry, Out}
-use Rattle.endpoint_model.specs.Event.{Call, Open, Seek, Receive, OpenCall, SeekCall, ReceiveCall, open_in, seek_in, receive_in}
+use Rattle.endpoint_model.specs.Event.{Call, Open, Receive, OpenCall, ReceiveCall, open_in, receive_in}
 use Rattle.endpoint_model.specs.Views.{Sending, fact_in, out_in}
 
 same_inside : {A : Type 0} (x y : A) → Some x ≡ Some y → x ≡ y
@@ -27,10 +27,6 @@ kind_of entry = inr (inr (record { no_fact = refl; no_out = refl }))
 pub opens_alone : (call : Call) (o : OpenCall) → open_in call ≡ Some o → call ≡ Open o.peer o.candidates o.draws
 opens_alone (Open peer candidates draws) o e = ap (λ (x : OpenCall). Open x.peer x.candidates x.draws) (same_inside (record { peer = peer; candidates = candidates; draws = draws }) o e)
 opens_alone call o e = absurd (cc)
-
-pub seeks_alone : (call : Call) (o : SeekCall) → seek_in call ≡ Some o → call ≡ Seek o.name o.candidates o.draws
-seeks_alone (Seek name candidates draws) o e = ap (λ (x : SeekCall). Seek x.name x.candidates x.draws) (same_inside (record { name = name; candidates = candidates; draws = draws }) o e)
-seeks_alone call o e = absurd (cc)
 
 pub receives_alone : (call : Call) (r : ReceiveCall) → receive_in call ≡ Some r → call ≡ Receive r.from r.datagram r.draws
 receives_alone (Receive from datagram draws) r e = ap (λ (x : ReceiveCall). Receive x.from x.datagram x.draws) (same_inside (record { from = from; datagram = datagram; draws = draws }) r e)

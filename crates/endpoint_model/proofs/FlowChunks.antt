@@ -111,12 +111,12 @@ module _ (s : State) (walk : Walk) (from : AddressParts) (draws : Draws) (c : Pl
 
   -- and where it is none of flows
   pub other_effect : (place : Place) → is_of_flows c.kind ≡ false → effect s place walk from draws c ≡
-      (if c.kind == IIKEYING then initiator_keyed s from draws c.payload
+      (if c.kind == IIKEYING then initiator_keyed s place from draws c.payload
       else if c.kind == RIKEYING then responder_keyed s (sid_at place) from c.payload
       else if is_told_in_session c.kind then told_in_session s (sid_at place) from c
       else read_done s place from (chunk_reading c.kind c.payload))
   other_effect place e =
-      ap (λ (b : Bool). if c.kind == IIKEYING then initiator_keyed s from draws c.payload
+      ap (λ (b : Bool). if c.kind == IIKEYING then initiator_keyed s place from draws c.payload
       else if c.kind == RIKEYING then responder_keyed s (sid_at place) from c.payload
       else if is_told_in_session c.kind then told_in_session s (sid_at place) from c
       else if b then flow_taken s (sid_at place) (read_as c.kind)

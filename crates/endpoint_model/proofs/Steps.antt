@@ -1,6 +1,7 @@
 -- One thing after another.
 use Rattle.std.proofs.Common.{ℕ, ◌≡◌, ◌+◌, List, [], ◌∷◌, ◌++◌, length, sym, ap, refl, ◌∙◌, subst, arith, append_assoc, length-append, zero, suc, take, drop, add-one}
 use Rattle.std.proofs.lemmas.List.{append-nil, take-append-drop}
+use Rattle.crypto_profile.specs.Keys.{startup_keys_of}
 use Rattle.rtmfp_forms.specs.Address.{AddressParts}
 use Rattle.endpoint_model.specs.declared.entry.Entry.{Entry}
 use Rattle.rtmfp_packet.specs.Walk.{Placed}
@@ -52,12 +53,15 @@ joined d next middle new before between after first second =
 
 -- ---- sending to several addresses
 
-pub each_more : (s : State) (plain : List ℕ) (places : List AddressParts) (to : AddressParts) →
-    sent_each s plain (places ++ to ∷ []) ≡ then_do (sent_each s plain places) (λ t. sent_startup t to 0 plain)
-each_more s plain [] to = then_nothing (sent_startup s to 0 plain)
+-- one packet, in the current generation
+abbrev pub sent_once : List ℕ → AddressParts → State → Did
+sent_once plain to s = sent_startup s s.group.generation (startup_keys_of s.group) to 0 plain
+
+pub each_more : (s : State) (plain : List ℕ) (places : List AddressParts) (to : AddressParts) → sent_each s plain (places ++ to ∷ []) ≡ then_do (sent_each s plain places) (sent_once plain to)
+each_more s plain [] to = then_nothing (sent_once plain to s)
 each_more s plain (first ∷ rest) to =
-    let d : Did = sent_startup s first 0 plain in
-    ap (after_entries d.entries) (each_more d.state plain rest to) ∙ sym (then_then d (λ t. sent_each t plain rest) (λ t. sent_startup t to 0 plain))
+    let d : Did = sent_once plain first s in
+    ap (after_entries d.entries) (each_more d.state plain rest to) ∙ sym (then_then d (λ t. sent_each t plain rest) (sent_once plain to))
 
 -- ---- the chunks of a datagram, one more
 

@@ -1,9 +1,9 @@
 -- How a datagram is taken, or refused as a whole.
 use Rattle.std.specs.Prelude.{ℕ, ◌+◌, ◌-◌, ◌*◌, ◌%◌, ◌==◌, nat_lt, Bool, true, false, if◌then◌else◌, List, [], ◌∷◌, length, drop, Option, Some, None, Result, Ok, Err}
 use Rattle.std.specs.FinMap.{get, contains_key}
-use Rattle.crypto_profile.specs.declared.keys.Context.TheVariants.{Startup as StartupContext}
+use Rattle.crypto_profile.specs.declared.group.GroupSecret.{GroupSecret}
 use Rattle.crypto_profile.specs.declared.sealing.SealFault.{SealFault}
-use Rattle.crypto_profile.specs.Keys.{Keys, keys_of}
+use Rattle.crypto_profile.specs.Keys.{Keys, startup_keys_of}
 use Rattle.crypto_profile.specs.Opening.{open_refusal, plain_of}
 use Rattle.packet_scramble.specs.Datagram.{sid_of}
 use Rattle.rtmfp_packet.specs.declared.head.PacketHead.{PacketHead}
@@ -22,11 +22,14 @@ use Rattle.session_core.specs.declared.hearing.Unheard.{Unheard}
 use Rattle.session_core.specs.declared.hearing.Unheard.TheVariants.{Short as ShortPart, BadTag as WrongTag, Repeated as OldNumber}
 use Rattle.session_core.specs.Session.{SessionState, with_stamps, is_opening, confirmed}
 use Rattle.session_core.specs.Hearing.{unheard, counted}
+use Rattle.startup.specs.declared.attempt.Stage.{Stage}
+use Rattle.startup.specs.declared.attempt.Stage.TheVariants.{Hello, Keying}
+use Rattle.startup.specs.State.{AttemptState}
 use Rattle.startup.specs.Attempts.{confirm_fact, after_confirm}
 use Rattle.endpoint_model.specs.declared.place.Place.{Place}
 use Rattle.endpoint_model.specs.declared.row.Row.{Row}
 use Rattle.endpoint_model.specs.declared.place.Place.TheVariants.{Startup, Attempt, Session}
-use Rattle.endpoint_model.specs.State.{State, Did, current_generation, nothing, fact_entries, with_session, with_startup}
+use Rattle.endpoint_model.specs.State.{State, Did, nothing, fact_entries, with_session, with_startup}
 
 -- ---- how a plain packet reads, as one function
 
@@ -80,15 +83,39 @@ unfoldable pub packet_in : List ℕ → Result Whole PacketFault
 packet_in [] = Err Empty
 packet_in (flags ∷ rest) = with_mode (flags ∷ rest) flags rest (mode_in flags)
 
--- ---- where a datagram belongs
+-- ---- the group's secret by its generation
 
--- session ID 0 and that of an attempt, in the current generation, or that of a session
-abbrev pub place_of : State → ℕ → Option Place
-place_of s sid =
-    if sid == 0 then Some (Startup current_generation)
-    else if contains_key s.startup.attempts sid then Some (Attempt sid current_generation)
-    else if contains_key s.sessions sid then Some (Session sid)
-    else None
+-- the one that an attempt sends and takes in: its own in the keying stage, and else the current one
+abbrev pub stage_group : GroupSecret → Stage → GroupSecret
+stage_group current Hello = current
+stage_group current (Keying at cookie under) = under
+
+abbrev pub attempt_group : GroupSecret → Option AttemptState → GroupSecret
+attempt_group current None = current
+attempt_group current (Some a) = stage_group current a.stage
+
+-- the next one where it has this number, and else the current one
+abbrev pub known_group : ℕ → Option GroupSecret → GroupSecret → GroupSecret
+known_group generation None current = current
+known_group generation (Some next) current =
+    if next.generation == generation then next else current
+
+-- ---- where a datagram may belong
+
+abbrev pub next_places : Option GroupSecret → List Place
+next_places None = []
+next_places (Some next) = Startup next.generation ∷ []
+
+-- Where a datagram under this session ID may belong, in the order in which it is tried: under 0 to
+-- startup in the current generation, and then in the next one where that is known; and else to the
+-- attempt or the session that has it.
+abbrev pub places_of : State → ℕ → List Place
+places_of s sid =
+    if sid == 0 then Startup s.group.generation ∷ next_places s.next
+    else if contains_key s.startup.attempts sid
+    then Attempt sid (attempt_group s.group (get s.startup.attempts sid)).generation ∷ []
+    else if contains_key s.sessions sid then Session sid ∷ []
+    else []
 
 -- the session ID of a place
 abbrev pub sid_at : Place → ℕ
@@ -98,17 +125,23 @@ sid_at (Session near) = near
 
 -- ---- how it opens
 
--- the keys of startup packets of a generation
-abbrev pub startup_keys : State → ℕ → Keys
-startup_keys s generation = keys_of s.startup.secret (StartupContext generation)
+-- the group's secret at a place, outside of sessions
+abbrev pub group_at : State → Place → GroupSecret
+group_at s (Startup generation) = known_group generation s.next s.group
+group_at s (Attempt near generation) = attempt_group s.group (get s.startup.attempts near)
+group_at s (Session near) = s.group
+
+-- the keys of startup packets there
+abbrev pub startup_keys : State → Place → Keys
+startup_keys s place = startup_keys_of (group_at s place)
 
 abbrev pub opened_by : Keys → List ℕ → Option SealFault → Result (List ℕ) Cause
 opened_by keys part None = Ok (plain_of keys part)
 opened_by keys part (Some fault) = Err BadTag
 
-abbrev pub opened_in_startup : State → ℕ → ℕ → List ℕ → Result (List ℕ) Cause
-opened_in_startup s generation sid part = opened_by (startup_keys s generation) part
-    (open_refusal (startup_keys s generation) sid part)
+abbrev pub opened_in_startup : State → Place → List ℕ → Result (List ℕ) Cause
+opened_in_startup s place part = opened_by (startup_keys s place) part
+    (open_refusal (startup_keys s place) (sid_at place) part)
 
 abbrev pub heard_by : SessionState → List ℕ → Option Unheard → Result (List ℕ) Cause
 heard_by session part None = Ok (plain_of session.inward part)
@@ -122,23 +155,28 @@ heard_in (Some row) part = heard_by row.session part (unheard row.session part)
 
 -- the plain packet of a sealed part at a place, or why it has none
 abbrev pub opened_at : State → Place → List ℕ → Result (List ℕ) Cause
-opened_at s (Startup generation) part = opened_in_startup s generation 0 part
-opened_at s (Attempt near generation) part = opened_in_startup s generation near part
+opened_at s (Startup generation) part = opened_in_startup s (Startup generation) part
+opened_at s (Attempt near generation) part = opened_in_startup s (Attempt near generation) part
 opened_at s (Session near) part = heard_in (get s.sessions near) part
 
-abbrev pub placed : Place → Result (List ℕ) Cause → Result (Place × List ℕ) Cause
-placed place (Ok plain) = Ok (place, plain)
-placed place (Err cause) = Err cause
+-- It opens at this place, or it is tried further for this cause.
+abbrev pub placed_or : Place → Result (List ℕ) Cause →
+    (Cause → Result (Place × List ℕ) Cause) → Result (Place × List ℕ) Cause
+placed_or place (Ok plain) further = Ok (place, plain)
+placed_or place (Err cause) further = further cause
 
-abbrev pub opened_found : State → Option Place → List ℕ → Result (Place × List ℕ) Cause
-opened_found s None part = Err UnknownSession
-opened_found s (Some place) part = placed place (opened_at s place part)
+-- The first of these places at which a sealed part opens, with its plain packet. Where it opens at
+-- none there is the cause at the last one; where there is no place, this cause.
+abbrev pub opened_first : State → Cause → List Place → List ℕ → Result (Place × List ℕ) Cause
+opened_first s cause [] part = Err cause
+opened_first s cause (place ∷ rest) part =
+    placed_or place (opened_at s place part) (λ last. opened_first s last rest part)
 
 -- The place and the plain packet of a datagram. It has 4 bytes of its session ID, and 32 before the
 -- ciphertext.
 abbrev pub opened_datagram : State → List ℕ → Result (Place × List ℕ) Cause
 opened_datagram s datagram = if nat_lt (length datagram) 36 then Err Short
-    else opened_found s (place_of s (sid_of datagram)) (drop 4 datagram)
+    else opened_first s UnknownSession (places_of s (sid_of datagram)) (drop 4 datagram)
 
 -- ---- what it leaves before its chunks
 

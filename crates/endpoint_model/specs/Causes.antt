@@ -26,7 +26,7 @@ use Rattle.endpoint_model.specs.declared.place.Place.TheVariants.{Startup, Attem
 use Rattle.endpoint_model.specs.State.{State, full}
 use Rattle.endpoint_model.specs.Introducing.{hello_cause}
 use Rattle.endpoint_model.specs.FlowChunks.{is_of_flows, data_fault, flow_cause}
-use Rattle.endpoint_model.specs.Admission.{sid_at}
+use Rattle.endpoint_model.specs.Admission.{sid_at, group_at}
 
 abbrev pub is_hello : ℕ → Bool
 is_hello kind = (kind == IHELLO) || (kind == FIHELLO)
@@ -50,7 +50,8 @@ read_fault len (Ok chunk) = view_fault len chunk
 read_fault len (Err (BadField at)) = Some (Malformed at)
 read_fault len (Err (Unknown kind)) = Some (UnknownChunk kind)
 
--- The fields and the forms of a chunk. A next chunk is read behind these numbers, if there are some.
+-- The fields and the forms of a chunk. A next chunk is read behind these numbers, if there are
+-- some.
 abbrev pub form_cause : Option Numbers → ℕ → List ℕ → Option Cause
 form_cause before kind payload =
     if (kind == IIKEYING) || (kind == RIKEYING) then keying_fault kind payload
@@ -93,27 +94,27 @@ read_cause s place from (Ok (FIHello epd reply tag)) = initiator_hello_cause s.s
 read_cause s place from (Ok (RHello tag cookie cert)) = rhello_cause s.startup tag cookie cert
 read_cause s place from (Ok (Redirect tag list)) = redirect_cause s.startup tag list from
 read_cause s place from (Ok (CookieChange old new)) =
-    cookie_change_cause s.startup (sid_at place) old new
+    cookie_change_cause s.startup (sid_at place) old new (group_at s place).generation
 read_cause s place from (Ok (Ping bytes)) =
     where_true (nat_lt 1024 (length bytes)) (Wide (length bytes))
 read_cause s place from (Ok chunk) = None
 read_cause s place from (Err fault) = None
 
 -- A keying after another one of the same datagram.
-abbrev pub initiator_keying_cause : State → Walk → AddressParts → List ℕ → Option Cause
-initiator_keying_cause s walk from payload =
+abbrev pub initiator_keying_cause : State → Place → Walk → AddressParts → List ℕ → Option Cause
+initiator_keying_cause s place walk from payload =
     if walk.keyed then Some SecondKeying else
-    iikeying_cause s.startup payload from s.moment (full s)
+    iikeying_cause s.startup payload from s.moment (full s) (group_at s place)
 
 -- Once its session is open the attempt isn't there any more.
-abbrev pub responder_keying_cause : State → ℕ → List ℕ → Option Cause
-responder_keying_cause s near payload = if contains_key s.startup.attempts near then
-    rikeying_cause s.startup near payload else Some NoAttempt
+abbrev pub responder_keying_cause : State → Place → List ℕ → Option Cause
+responder_keying_cause s place payload = if contains_key s.startup.attempts (sid_at place) then
+    rikeying_cause s.startup (sid_at place) payload (group_at s place) else Some NoAttempt
 
 abbrev pub last_cause : State → Place → Walk → AddressParts → Placed → Option Cause
 last_cause s place walk from c =
-    if c.kind == IIKEYING then initiator_keying_cause s walk from c.payload
-    else if c.kind == RIKEYING then responder_keying_cause s (sid_at place) c.payload
+    if c.kind == IIKEYING then initiator_keying_cause s place walk from c.payload
+    else if c.kind == RIKEYING then responder_keying_cause s place c.payload
     else if is_of_flows c.kind then flow_cause (get s.sessions (sid_at place))
     (data_reading walk.cursor c.kind c.payload)
     else first_that_stands (where_true (not (has_state_for s place c.kind)) WrongState

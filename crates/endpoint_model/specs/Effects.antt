@@ -2,6 +2,7 @@
 use Rattle.std.specs.Prelude.{IsSome, ℕ, zero, suc, ◌+◌, ◌⊎◌, ◌==◌, ◌||◌, ◌≡◌, nat_lt, not, Bool, true, false, if◌then◌else◌, List, [], ◌∷◌, ◌++◌, length, take, Option, Some, None, Result, Ok}
 use Rattle.std.specs.FinMap.{get, remove, insert}
 use Rattle.rtmfp_forms.specs.Address.{AddressParts}
+use Rattle.crypto_profile.specs.declared.group.GroupSecret.{GroupSecret}
 use Rattle.rtmfp_chunks.specs.declared.kinds.TheConstants.{REDIRECT, IIKEYING, RIKEYING, PING_REPLY, CLOSE, CLOSE_ACK}
 use Rattle.rtmfp_chunks.specs.declared.reading.ChunkFault.{ChunkFault}
 use Rattle.rtmfp_chunks.specs.Chunk.{Chunk, IHello, FIHello, RHello, Redirect, CookieChange, Ping, PingReply}
@@ -10,7 +11,6 @@ use Rattle.rtmfp_chunks.specs.Writing.{chunk_bytes}
 use Rattle.rtmfp_data_chunks.specs.Spelling.{before_next}
 use Rattle.rtmfp_data_chunks.specs.Reader.{data_reading}
 use Rattle.rtmfp_packet.specs.Walk.{Placed}
-use Rattle.sha2.specs.Sha256.{sha256}
 use Rattle.cookies.specs.Cookie.{observed}
 use Rattle.identity.specs.declared.discriminator.Epd.{Epd}
 use Rattle.identity.specs.Discriminators.{discriminator_of}
@@ -33,7 +33,7 @@ use Rattle.startup.specs.Redirects.{after_redirect, redirect_spread, sent_by_spr
 use Rattle.startup.specs.Due.{due, after_due}
 use Rattle.startup.specs.Keyings.{initiator_hello_answer, keyed, after_keying, opened, after_opening}
 use Rattle.session_core.specs.declared.stage.Role.TheVariants.{Initiator, Responder}
-use Rattle.session_core.specs.Session.{new_session_under}
+use Rattle.session_core.specs.Session.{new_session}
 use Rattle.endpoint_model.specs.declared.config.Draws.{Draws}
 use Rattle.endpoint_model.specs.declared.place.Place.{Place}
 use Rattle.endpoint_model.specs.declared.walk.Walk.{Walk}
@@ -46,12 +46,12 @@ use Rattle.endpoint_model.specs.declared.answers.SeekRefusal.{SeekRefusal}
 use Rattle.endpoint_model.specs.declared.answers.SeekRefusal.TheVariants.{Candidates as TooFewOrMany, SessionsFull as NoPlace}
 use Rattle.session_flows.specs.declared.refusal.CallRefusal.{CallRefusal}
 use Rattle.session_flows.specs.declared.refusal.CallRefusal.TheVariants.{NoAttempt}
-use Rattle.endpoint_model.specs.State.{State, Sessions, Did, current_generation, nothing, after_entries, then_do, fact_entries, with_startup, with_sessions, new_row, free_from, full}
+use Rattle.endpoint_model.specs.State.{State, Sessions, Did, nothing, after_entries, then_do, fact_entries, with_startup, with_sessions, new_row, free_from, full}
 use Rattle.endpoint_model.specs.Sending.{sent_answer, sent_if, sent_spread, sent_in_session}
 use Rattle.endpoint_model.specs.Introducing.{forwarded_to, redirected_to, redirect_of}
 use Rattle.endpoint_model.specs.InSessions.{sent_home, told_in_session, tested, asks_at, answers_by}
 use Rattle.endpoint_model.specs.FlowTimes.{row_due, due_row, row_due_done}
-use Rattle.endpoint_model.specs.Admission.{Admission, Rejected, Admitted, sid_at, confirming, confirms}
+use Rattle.endpoint_model.specs.Admission.{Admission, Rejected, Admitted, attempt_group, sid_at, group_at, confirming, confirms}
 use Rattle.endpoint_model.specs.FlowChunks.{is_of_flows, flow_taken, states_nothing, acked, owes_at, unowed}
 use Rattle.endpoint_model.specs.Causes.{chunk_cause}
 use Rattle.endpoint_model.specs.Keying.{chunks_of}
@@ -187,64 +187,68 @@ without_ended sessions None = sessions
 without_ended sessions (Some (Ended peer near why)) = remove sessions near
 without_ended sessions (Some fact) = sessions
 
--- the sessions with one that was born, without what ended
-abbrev pub sessions_born : Sessions → Option Fact → Fact → List ℕ → AddressParts → List ℕ → ℕ →
-    Sessions
-sessions_born sessions ended (Started peer n near ni) own from secret moment = sessions
-sessions_born sessions ended (Born j) own from secret moment =
+-- the sessions with one that was born under this secret of the group, without what ended
+abbrev pub sessions_born : Sessions → Option Fact → Fact → List ℕ → AddressParts → GroupSecret →
+    ℕ → Sessions
+sessions_born sessions ended (Started peer n near ni) own from g moment = sessions
+sessions_born sessions ended (Born j) own from g moment =
     insert (without_ended sessions ended) j.near
-    (new_row (new_session_under current_generation j own Responder from secret moment))
-sessions_born sessions ended (Opened j) own from secret moment = sessions
-sessions_born sessions ended (Confirmed peer near) own from secret moment = sessions
-sessions_born sessions ended (Ended peer near why) own from secret moment = sessions
+    (new_row (new_session j own Responder from g.generation g.secret moment))
+sessions_born sessions ended (Opened j) own from g moment = sessions
+sessions_born sessions ended (Confirmed peer near) own from g moment = sessions
+sessions_born sessions ended (Ended peer near why) own from g moment = sessions
 
 -- the session that was born is kept, half-open, at the address that its keying came from
-abbrev pub with_born : State → Option Fact → Fact → AddressParts → State
-with_born s ended born from = with_sessions s
-    (sessions_born s.sessions ended born s.startup.ledger.own from s.startup.secret s.moment)
+abbrev pub with_born : State → Option Fact → Fact → AddressParts → GroupSecret → State
+with_born s ended born from g = with_sessions s
+    (sessions_born s.sessions ended born s.startup.ledger.own from g s.moment)
 
 -- a new cookie; the keying of the held session again; or the facts of a birth, and the session's
 -- keying
-abbrev pub keying_done : State → AddressParts → Option Keyed → Did
-keying_done s from None = nothing s
-keying_done s from (Some (Change answer)) = sent_answer s answer
-keying_done s from (Some (Again answer)) = sent_answer s answer
-keying_done s from (Some (Birth ended born answer)) =
+abbrev pub keying_done : State → AddressParts → GroupSecret → Option Keyed → Did
+keying_done s from g None = nothing s
+keying_done s from g (Some (Change answer)) = sent_answer s answer
+keying_done s from g (Some (Again answer)) = sent_answer s answer
+keying_done s from g (Some (Birth ended born answer)) =
     after_entries (fact_entries ended ++ FactEntry born ∷ [])
-    (sent_answer (with_born s ended born from) answer)
+    (sent_answer (with_born s ended born from g) answer)
 
-abbrev pub initiator_keyed : State → AddressParts → Draws → List ℕ → Did
-initiator_keyed s from draws payload =
+-- A session is born under the group's secret under which the keying came.
+abbrev pub initiator_keyed : State → Place → AddressParts → Draws → List ℕ → Did
+initiator_keyed s place from draws payload =
     keying_done
     (with_startup s (after_keying s.startup payload from s.moment (free_from s draws.word)
-    draws.nonce)) from
-    (keyed s.startup payload from s.moment (free_from s draws.word) draws.nonce)
+    draws.nonce (group_at s place))) from (group_at s place)
+    (keyed s.startup payload from s.moment (free_from s draws.word) draws.nonce (group_at s place))
 
--- the sessions with one that was opened
-abbrev pub sessions_opened : Sessions → Fact → List ℕ → AddressParts → List ℕ → ℕ → Sessions
-sessions_opened sessions (Started peer n near ni) own from secret moment = sessions
-sessions_opened sessions (Born j) own from secret moment = sessions
-sessions_opened sessions (Opened j) own from secret moment =
+-- the sessions with one that was opened under this secret of the group
+abbrev pub sessions_opened : Sessions → Fact → List ℕ → AddressParts → GroupSecret → ℕ → Sessions
+sessions_opened sessions (Started peer n near ni) own from g moment = sessions
+sessions_opened sessions (Born j) own from g moment = sessions
+sessions_opened sessions (Opened j) own from g moment =
     insert sessions j.near
-    (new_row (new_session_under current_generation j own Initiator from secret moment))
-sessions_opened sessions (Confirmed peer near) own from secret moment = sessions
-sessions_opened sessions (Ended peer near why) own from secret moment = sessions
+    (new_row (new_session j own Initiator from g.generation g.secret moment))
+sessions_opened sessions (Confirmed peer near) own from g moment = sessions
+sessions_opened sessions (Ended peer near why) own from g moment = sessions
 
 -- the session that was opened is kept, at the address that its keying came from
-abbrev pub with_opened : State → Fact → AddressParts → State
-with_opened s fact from = with_sessions s
-    (sessions_opened s.sessions fact s.startup.ledger.own from s.startup.secret s.moment)
+abbrev pub with_opened : State → Fact → AddressParts → GroupSecret → State
+with_opened s fact from g = with_sessions s
+    (sessions_opened s.sessions fact s.startup.ledger.own from g s.moment)
 
 -- an Opened, then a ping without bytes
-abbrev pub opening_done : State → ℕ → AddressParts → Option Fact → Did
-opening_done s near from None = nothing s
-opening_done s near from (Some fact) =
+abbrev pub opening_done : State → ℕ → AddressParts → GroupSecret → Option Fact → Did
+opening_done s near from g None = nothing s
+opening_done s near from g (Some fact) =
     after_entries (FactEntry fact ∷ [])
-    (sent_in_session (with_opened (with_startup s (after_opening s.startup near fact)) fact from)
+    (sent_in_session (with_opened (with_startup s (after_opening s.startup near fact)) fact from g)
     near from (chunk_bytes (Ping [])))
 
+-- The session has the secret of its attempt, which isn't there any more then.
 abbrev pub responder_keyed : State → ℕ → AddressParts → List ℕ → Did
-responder_keyed s near from payload = opening_done s near from (opened s.startup near payload)
+responder_keyed s near from payload =
+    opening_done s near from (attempt_group s.group (get s.startup.attempts near))
+    (opened s.startup near payload)
 
 -- ---- hellos, redirects, changes of cookies, and pings
 
@@ -283,36 +287,38 @@ replied s place from (Introduction to body redirect) =
 
 -- A hello for another end is forwarded in that end's session, with the address that it came from as
 -- the one that was observed; and it is answered with the addresses of that end's row.
-abbrev pub introduction : State → Option Epd → List ℕ → List ℕ → AddressParts → Reply
-introduction s None epd tag from = Silence
-introduction s (Some selected) epd tag from =
+abbrev pub introduction : State → Option Epd → List ℕ → List ℕ → AddressParts → GroupSecret → Reply
+introduction s None epd tag from g = Silence
+introduction s (Some selected) epd tag from g =
     Introduction (forwarded_to s selected.print) (chunk_bytes (FIHello epd (observed from) tag))
-    (redirect_of tag from (redirected_to s selected.print))
+    (redirect_of tag from (redirected_to s selected.print) g)
 
--- A hello for this end is answered by the own hello, and does nothing else.
-abbrev pub hello_reply : State → List ℕ → List ℕ → AddressParts → Reply
-hello_reply s epd tag from =
+-- A hello for this end is answered by the own hello, and does nothing else. Both answers go out
+-- under the group's secret under which it came.
+abbrev pub hello_reply : State → List ℕ → List ℕ → AddressParts → GroupSecret → Reply
+hello_reply s epd tag from g =
     if selects (target_of epd) s.startup.cert
-    then InStartup (Some (initiator_hello_answer s.startup tag from s.moment))
-    else introduction s (discriminator_of epd) epd tag from
+    then InStartup (Some (initiator_hello_answer s.startup tag from s.moment g))
+    else introduction s (discriminator_of epd) epd tag from g
 
 -- what it leaves before it is answered
 abbrev pub read_left : State → Place → AddressParts → Result Chunk ChunkFault → State
 read_left s place from (Ok (RHello tag cookie cert)) =
-    with_startup s (after_rhello s.startup tag cookie cert from s.moment)
+    with_startup s (after_rhello s.startup tag cookie cert from s.moment (group_at s place))
 read_left s place from (Ok (Redirect tag list)) =
     with_startup s (after_redirect s.startup tag list from s.moment)
 read_left s place from (Ok (CookieChange old new)) =
     with_startup s (after_cookie_change s.startup (sid_at place) old new s.moment)
 read_left s place from read = s
 
--- and its answer
+-- And its answer. A hello that was forwarded came in a session, and so is answered in the current
+-- generation.
 abbrev pub read_reply : State → Place → AddressParts → Result Chunk ChunkFault → Reply
-read_reply s place from (Ok (IHello epd tag)) = hello_reply s epd tag from
+read_reply s place from (Ok (IHello epd tag)) = hello_reply s epd tag from (group_at s place)
 read_reply s place from (Ok (FIHello epd reply tag)) =
-    InStartup (Some (initiator_hello_answer s.startup tag reply s.moment))
+    InStartup (Some (initiator_hello_answer s.startup tag reply s.moment s.group))
 read_reply s place from (Ok (RHello tag cookie cert)) =
-    InStartup (rhello_keying s.startup tag cookie cert from)
+    InStartup (rhello_keying s.startup tag cookie cert from (group_at s place))
 read_reply s place from (Ok (Redirect tag list)) = Hellos (redirect_spread s.startup tag list from)
 read_reply s place from (Ok (CookieChange old new)) =
     InStartup (cookie_change_keying s.startup (sid_at place) old new)
@@ -332,7 +338,7 @@ is_told_in_session kind = (kind == CLOSE) || (kind == CLOSE_ACK) || (kind == PIN
 
 abbrev pub effect : State → Place → Walk → AddressParts → Draws → Placed → Did
 effect s place walk from draws c =
-    if c.kind == IIKEYING then initiator_keyed s from draws c.payload
+    if c.kind == IIKEYING then initiator_keyed s place from draws c.payload
     else if c.kind == RIKEYING then responder_keyed s (sid_at place) from c.payload
     else if is_told_in_session c.kind then told_in_session s (sid_at place) from c
     else if is_of_flows c.kind then flow_taken s (sid_at place)

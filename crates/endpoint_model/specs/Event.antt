@@ -3,6 +3,7 @@
 use Rattle.std.specs.Prelude.{ℕ, List, Option, Some, None, max}
 use Rattle.sha2.specs.Sha256.{sha256}
 use Rattle.rtmfp_forms.specs.Address.{AddressParts}
+use Rattle.crypto_profile.specs.declared.group.GroupSecret.{GroupSecret}
 use Rattle.introducer.specs.declared.refusal.RowRefusal.{RowRefusal}
 use Rattle.endpoint_model.specs.declared.config.Config.{Config}
 use Rattle.endpoint_model.specs.declared.config.Draws.{Draws}
@@ -13,17 +14,22 @@ use Rattle.endpoint_model.specs.declared.answers.Stopped.{Stopped as Stop}
 use Rattle.endpoint_model.specs.declared.entry.Entry.{Entry}
 use Rattle.endpoint_model.specs.FlowCall.{FlowCall}
 
--- what an end is given: its limits, its certificate, the secret of its group, and the secret of its
--- cookies
+-- what an end is given: its limits, its certificate, the number of its first generation, the secret
+-- of its group in that generation, and the secret of its cookies
 pub record Setup : Type 0 where
   pub config : Config
   pub cert : List ℕ
+  pub generation : ℕ
   pub secret : List ℕ
   pub cookie_secret : List ℕ
 
 -- the own fingerprint
 abbrev pub own_of : Setup → List ℕ
 own_of setup = sha256 setup.cert
+
+-- the secret of the group in the first generation, with its number
+abbrev pub first_group : Setup → GroupSecret
+first_group setup = record { generation = setup.generation; secret = setup.secret }
 
 -- A call; an open names its peer by the fingerprint, a seek by the name, and one on flows its
 -- session by the session ID.

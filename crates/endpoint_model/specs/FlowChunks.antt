@@ -2,7 +2,6 @@
 -- out after them.
 use Prim.Native.Nat.{zero, suc}
 use Rattle.std.specs.Prelude.{ℕ, ◌==◌, ◌||◌, Bool, true, false, List, map, length, drop, Option, Some, None, Result, Ok, Err}
-use Rattle.std.specs.Option.{option_map}
 use Rattle.std.specs.FinMap.{get}
 use Rattle.rtmfp_data_chunks.specs.declared.kinds.TheConstants.{DATA, NEXT, ACK_BITMAP, ACK_RANGES, PROBE, EXCEPTION}
 use Rattle.rtmfp_data_chunks.specs.declared.view.DataFault.{DataFault}

@@ -3,8 +3,8 @@
 -- own).
 use Rattle.std.specs.Prelude.{ℕ, ◌||◌, not, Bool, true, false, is_some, if◌then◌else◌, List, [], ◌∷◌, Option, Some, None}
 use Rattle.std.specs.FinMap.{get, insert}
-use Rattle.sha2.specs.Sha256.{sha256}
 use Rattle.rtmfp_forms.specs.Address.{AddressParts}
+use Rattle.crypto_profile.specs.declared.group.GroupSecret.{GroupSecret}
 use Rattle.identity.specs.declared.discriminator.Epd.{Epd}
 use Rattle.identity.specs.Discriminators.{discriminator_of}
 use Rattle.glare_core.specs.declared.facts.Held.{Held}
@@ -68,6 +68,8 @@ hello_cause s epd tag =
 
 -- ---- the redirect that answers it
 
-abbrev pub redirect_of : List ℕ → AddressParts → Option (List AddressParts) → Option Answer
-redirect_of tag to None = None
-redirect_of tag to (Some addresses) = Some (redirect_answer tag addresses to)
+-- under the group's secret under which the hello came
+abbrev pub redirect_of : List ℕ → AddressParts → Option (List AddressParts) → GroupSecret →
+    Option Answer
+redirect_of tag to None g = None
+redirect_of tag to (Some addresses) g = Some (redirect_answer tag addresses to g)

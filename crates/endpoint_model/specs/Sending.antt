@@ -4,7 +4,8 @@ use Rattle.std.specs.Int.{w64, to_be_bytes}
 use Rattle.rtmfp_forms.specs.Address.{AddressParts}
 use Rattle.rtmfp_packet.specs.Head.{head_bytes}
 use Rattle.crypto_profile.specs.declared.keys.Context.TheVariants.{Startup}
-use Rattle.crypto_profile.specs.Sealing.{sealed_in}
+use Rattle.crypto_profile.specs.Keys.{Keys, startup_keys_of}
+use Rattle.crypto_profile.specs.Sealing.{sealed}
 use Rattle.packet_scramble.specs.Datagram.{datagram}
 use Rattle.startup.specs.declared.answer.Answer.{Answer}
 use Rattle.startup.specs.State.{SpreadParts}
@@ -13,43 +14,46 @@ use Rattle.session_core.specs.Sealed.{sealed_part, after_seal}
 use Rattle.endpoint_model.specs.declared.entry.Entry.TheVariants.{Out}
 use Rattle.endpoint_model.specs.declared.row.Row.{Row}
 use Rattle.std.specs.FinMap.{get}
-use Rattle.endpoint_model.specs.State.{State, Did, current_generation, nothing, then_do, with_sealed, with_session}
+use Rattle.endpoint_model.specs.State.{State, Did, nothing, then_do, with_sealed, with_session}
 
 -- a counter that stands at its end counts nothing more, and nothing more is sealed then
 abbrev pub last_count : ℕ
 last_count = 2 ^ 64 - 1
 
--- ---- in the startup context of the current generation
+-- ---- in the startup context of a generation
 
 -- the number of a startup packet: the first 8 bytes of the own fingerprint, and its count
 abbrev pub startup_number : List ℕ → ℕ → List ℕ
 startup_number own count = take 8 own ++ to_be_bytes w64 count
 
--- the datagram of a startup packet that goes out next
-abbrev pub startup_datagram : State → ℕ → List ℕ → List ℕ
-startup_datagram s sid plain = datagram sid
-    (sealed_in s.startup.secret (Startup current_generation) sid
-    (startup_number s.startup.ledger.own (s.sealed + 1)) plain)
+-- the datagram of a startup packet that goes out next under these keys
+abbrev pub startup_datagram : State → Keys → ℕ → List ℕ → List ℕ
+startup_datagram s keys sid plain = datagram sid
+    (sealed keys sid (startup_number s.startup.ledger.own (s.sealed + 1)) plain)
 
-abbrev pub sent_startup : State → AddressParts → ℕ → List ℕ → Did
-sent_startup s to sid plain =
+abbrev pub sent_startup : State → ℕ → Keys → AddressParts → ℕ → List ℕ → Did
+sent_startup s generation keys to sid plain =
     if s.sealed == last_count then nothing s
     else record {
       state = with_sealed s (s.sealed + 1);
-      entries = Out to (startup_datagram s sid plain) (Startup current_generation) ∷ [];
+      entries = Out to (startup_datagram s keys sid plain) (Startup generation) ∷ [];
     }
 
+-- An answer tells the generation and the keys that it is sealed with.
 abbrev pub sent_answer : State → Answer → Did
-sent_answer s answer = sent_startup s answer.to answer.sid answer.plain
+sent_answer s answer =
+    sent_startup s answer.generation answer.keys answer.to answer.sid answer.plain
 
 abbrev pub sent_if : State → Option Answer → Did
 sent_if s None = nothing s
 sent_if s (Some answer) = sent_answer s answer
 
--- one packet to several addresses, in their order, under session ID 0
+-- one packet to several addresses, in their order, under session ID 0 in the current generation
 abbrev pub sent_each : State → List ℕ → List AddressParts → Did
 sent_each s plain [] = nothing s
-sent_each s plain (to ∷ rest) = then_do (sent_startup s to 0 plain) (λ t. sent_each t plain rest)
+sent_each s plain (to ∷ rest) =
+    then_do (sent_startup s s.group.generation (startup_keys_of s.group) to 0 plain)
+    (λ t. sent_each t plain rest)
 
 abbrev pub sent_spread : State → SpreadParts → Did
 sent_spread s spread = sent_each s spread.plain spread.to

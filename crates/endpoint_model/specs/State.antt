@@ -2,8 +2,9 @@
 use Rattle.std.specs.Prelude.{ℕ, zero, suc, ◌+◌, ◌%◌, ◌^◌, ◌==◌, ◌≤◌, ◌&&◌, ◌||◌, not, Bool, max, nat_le, if◌then◌else◌, List, [], ◌∷◌, ◌++◌, length, Option, Some, None, ◌≡◌, refl}
 use Rattle.std.specs.Ordering.{nat_cmp}
 use Rattle.std.specs.FinMap.{FinMap, insert, remove, empty, contains_key, len, code}
-use Rattle.std.specs.Coded.{Coded, code_by, coded×, coded_ℕ, coded_bool}
+use Rattle.std.specs.Coded.{Coded, code_by, coded×, coded_ℕ, coded_bool, coded_option}
 use Rattle.rtmfp_forms.specs.Address.{AddressParts}
+use Rattle.crypto_profile.specs.declared.group.GroupSecret.{GroupSecret}
 use Rattle.introducer.specs.Directory.{AddressRows, rows_code}
 use Rattle.glare_core.specs.declared.facts.Fact.{Fact}
 use Rattle.startup.specs.State.{StartupState, new_startup}
@@ -13,7 +14,7 @@ use Rattle.endpoint_model.specs.declared.row.Row.{Row}
 use Rattle.endpoint_model.specs.declared.config.Config.{Config}
 use Rattle.endpoint_model.specs.declared.entry.Entry.{Entry}
 use Rattle.endpoint_model.specs.declared.entry.Entry.TheVariants.{Fact as FactEntry}
-use Rattle.endpoint_model.specs.Event.{Setup}
+use Rattle.endpoint_model.specs.Event.{Setup, first_group}
 use Rattle.endpoint_model.specs.Added.{Added}
 
 -- the rows of the sessions, by their near ids
@@ -30,7 +31,10 @@ pub record State : Type 0 where
   pub moment : ℕ
   -- how many startup packets were sealed
   pub sealed : ℕ
-  -- the certificate, the secrets, what is held with the peers, and the attempts
+  -- the group's secret in the current generation, and in the next one where that is known
+  pub group : GroupSecret
+  pub next : Option GroupSecret
+  -- the certificate, the secret of the cookies, what is held with the peers, and the attempts
   pub startup : StartupState
   pub sessions : Sessions
   -- whether it forwards hellos to the ends that it keeps sessions with
@@ -38,18 +42,15 @@ pub record State : Type 0 where
   -- the addresses that hellos for other ends are answered with, by the fingerprints of these
   pub redirects : AddressRows
 
--- the generation of the group secret in which an end sends and takes startup packets, and in which
--- sessions begin
-abbrev pub current_generation : ℕ
-current_generation = 0
-
--- a new end
+-- a new end, which knows no generation but its first one
 abbrev pub fresh : Setup → State
 fresh setup = record {
   config = setup.config;
   moment = 0;
   sealed = 0;
-  startup = new_startup setup.cert setup.secret setup.cookie_secret setup.config.max_peers;
+  group = first_group setup;
+  next = None;
+  startup = new_startup setup.cert setup.cookie_secret setup.config.max_peers;
   sessions = empty;
   introduces = setup.config.introduces;
   redirects = empty;
@@ -148,19 +149,23 @@ pub record Done (d : Did) (new : State) (before after : Added) : Type 0 where
 
 -- ---- how a state is stored: as the tuple of its fields
 
-abbrev pub state_code : Coded Config → Coded StartupState → Coded Row → Coded AddressParts →
-    Coded State
-state_code config startup row address =
-    code_by (Config × (ℕ × (ℕ × (StartupState × (Sessions × (Bool × AddressRows))))))
-    (coded× config (coded× coded_ℕ (coded× coded_ℕ
-    (coded× startup (coded× (code coded_ℕ row) (coded× coded_bool (rows_code address)))))))
+abbrev pub state_code : Coded Config → Coded GroupSecret → Coded StartupState → Coded Row →
+    Coded AddressParts → Coded State
+state_code config group startup row address =
+    code_by (Config × (ℕ × (ℕ × (GroupSecret × (Option GroupSecret ×
+    (StartupState × (Sessions × (Bool × AddressRows))))))))
+    (coded× config (coded× coded_ℕ (coded× coded_ℕ (coded× group (coded× (coded_option group)
+    (coded× startup (coded× (code coded_ℕ row) (coded× coded_bool (rows_code address)))))))))
     (λ s. (
       s.config,
       (
         s.moment,
         (
           s.sealed,
-          (s.startup, (s.sessions, (s.introduces, s.redirects))),
+          (
+            s.group,
+            (s.next, (s.startup, (s.sessions, (s.introduces, s.redirects)))),
+          ),
         ),
       ),
     ))
@@ -168,9 +173,11 @@ state_code config startup row address =
       config = p.0;
       moment = p.1.0;
       sealed = p.1.1.0;
-      startup = p.1.1.1.0;
-      sessions = p.1.1.1.1.0;
-      introduces = p.1.1.1.1.1.0;
-      redirects = p.1.1.1.1.1.1;
+      group = p.1.1.1.0;
+      next = p.1.1.1.1.0;
+      startup = p.1.1.1.1.1.0;
+      sessions = p.1.1.1.1.1.1.0;
+      introduces = p.1.1.1.1.1.1.1.0;
+      redirects = p.1.1.1.1.1.1.1.1;
     })
     (λ _. refl)

@@ -2,26 +2,39 @@
 //! nothing: the contract of each states what the definitions that the other contracts cite are
 //! there. All of it is own.
 
-ghost use Rattle.std.specs.Prelude.{◌≡◌, ◌∷◌, ◌++◌, ◌-◌, ◌^◌, ℕ, List, [], false, true, Some, None, replicate};
+ghost use Rattle.std.specs.Prelude.{◌≡◌, ◌∷◌, ◌++◌, ◌+◌, ◌-◌, ◌^◌, ℕ, List, [], false, true, Some, None, Ok, Err};
+ghost use Rattle.std.specs.Prelude.{replicate};
 ghost use Rattle.rtmfp_forms.specs.Address.{AddressParts};
 ghost use Rattle.rtmfp_chunks.specs.Chunk.{FIHello};
 ghost use Rattle.rtmfp_chunks.specs.Writing.{chunk_bytes};
+ghost use Rattle.crypto_profile.specs.declared.group.GroupSecret.{GroupSecret};
+ghost use Rattle.crypto_profile.specs.declared.keys.Context.TheVariants.{Startup as StartupContext};
+ghost use Rattle.crypto_profile.specs.Keys.{Keys, startup_keys_of};
+ghost use Rattle.crypto_profile.specs.Sealing.{sealed_in};
+ghost use Rattle.packet_scramble.specs.Datagram.{datagram};
 ghost use Rattle.identity.specs.declared.discriminator.Epd.{Epd};
 ghost use Rattle.glare_core.specs.declared.facts.Held.TheVariants.{HalfOpen, KeptAsInitiator};
 ghost use Rattle.glare_core.specs.declared.facts.Held.TheVariants.{KeptAsResponder, Opening};
 ghost use Rattle.glare_core.specs.declared.facts.Joined.{Joined};
 ghost use Rattle.glare_core.specs.Ledger.{held_with};
 ghost use Rattle.startup.specs.declared.answer.Answer.{Answer};
+ghost use Rattle.startup.specs.declared.attempt.Stage.TheVariants.{Hello, Keying};
+ghost use Rattle.startup.specs.State.{AttemptState};
 ghost use Rattle.rtmfp_packet.specs.Walk.{Placed};
 ghost use Rattle.rtmfp_data_chunks.specs.Reader.{data_reading};
-ghost use Rattle.rtmfp_base.specs.declared.cause.Cause.TheVariants.{NotSelected, Wide, WrongPlace};
+ghost use Rattle.rtmfp_base.specs.declared.cause.Cause.{Cause};
+ghost use Rattle.rtmfp_base.specs.declared.cause.Cause.TheVariants.{NotSelected, UnknownSession, Wide};
+ghost use Rattle.rtmfp_base.specs.declared.cause.Cause.TheVariants.{WrongPlace};
 ghost use Rattle.startup.specs.Redirects.{redirect_answer};
 ghost use Rattle.session_core.specs.Session.{SessionState};
 ghost use Rattle.endpoint_model.specs.declared.answers.OpenRefusal.TheVariants.{Candidates};
 ghost use Rattle.endpoint_model.specs.declared.answers.SeekRefusal.TheVariants as seek;
+ghost use Rattle.endpoint_model.specs.declared.entry.Entry.TheVariants.{Out};
 ghost use Rattle.endpoint_model.specs.declared.place.Place.{Place};
 ghost use Rattle.endpoint_model.specs.declared.place.Place.TheVariants.{Attempt, Startup};
 ghost use Rattle.endpoint_model.specs.declared.walk.Walk.{Walk};
+ghost use Rattle.endpoint_model.specs.Admission.{attempt_group, known_group, opened_at, opened_first};
+ghost use Rattle.endpoint_model.specs.Admission.{places_of};
 ghost use Rattle.endpoint_model.specs.Causes.{chunk_cause};
 ghost use Rattle.endpoint_model.specs.FlowChunks.{data_fault, is_of_flows};
 ghost use Rattle.endpoint_model.specs.Effects.{Introduction, candidates_refusal, introduction};
@@ -29,8 +42,8 @@ ghost use Rattle.endpoint_model.specs.Effects.{no_place, places_refusal, replied
 ghost use Rattle.endpoint_model.specs.InSessions.{sent_home};
 ghost use Rattle.endpoint_model.specs.Introducing.{forwarded_to, hello_cause, introducing};
 ghost use Rattle.endpoint_model.specs.Introducing.{kept_id, redirect_of, redirected_to};
-ghost use Rattle.endpoint_model.specs.Sending.{sent_answer, sent_by, sent_startup};
-ghost use Rattle.endpoint_model.specs.Sending.{startup_number};
+ghost use Rattle.endpoint_model.specs.Sending.{sent_answer, sent_by, sent_each, sent_startup};
+ghost use Rattle.endpoint_model.specs.Sending.{startup_datagram, startup_number};
 ghost use Rattle.endpoint_model.specs.State.{State, is_free, new_row, next_id, nothing, then_do};
 ghost use Rattle.endpoint_model.specs.State.{with_sealed};
 
@@ -39,11 +52,12 @@ ghost use Rattle.endpoint_model.specs.State.{with_sealed};
 pub fn startup_packets_are_counted_to_the_end()
     ensures number { startup_number (replicate 8 7 ++ replicate 24 9) 258 ≡ replicate 8 7
         ++ replicate 6 0 ++ 1 ∷ 2 ∷ [] }
-    ensures last { (s : State) (to : AddressParts) (sid : ℕ) (plain : List ℕ) →
-        (sent_startup (with_sealed s (2 ^ 64 - 2)) to sid plain).state
+    ensures last { (s : State) (generation : ℕ) (keys : Keys) (to : AddressParts) (sid : ℕ)
+        (plain : List ℕ) →
+        (sent_startup (with_sealed s (2 ^ 64 - 2)) generation keys to sid plain).state
         ≡ with_sealed s (2 ^ 64 - 1) }
-    ensures none { (s : State) (to : AddressParts) (sid : ℕ) (plain : List ℕ) →
-        sent_startup (with_sealed s (2 ^ 64 - 1)) to sid plain
+    ensures none { (s : State) (generation : ℕ) (keys : Keys) (to : AddressParts) (sid : ℕ)
+        (plain : List ℕ) → sent_startup (with_sealed s (2 ^ 64 - 1)) generation keys to sid plain
         ≡ nothing (with_sealed s (2 ^ 64 - 1)) }
     ensures in_a_session { (s : State) (near : ℕ) (to : AddressParts) (body : List ℕ)
         (session : SessionState) →
@@ -97,12 +111,14 @@ pub fn a_hello_is_forwarded_and_then_answered()
     ensures wide { (s : State) (epd : List ℕ) → hello_cause s epd (replicate 129 0)
         ≡ Some (Wide 129) }
     ensures nobody { (s : State) → hello_cause s [] (replicate 128 0) ≡ Some NotSelected }
-    ensures observed { (s : State) (e : Epd) (epd tag : List ℕ) (from : AddressParts) →
-        introduction s (Some e) epd tag from ≡ Introduction (forwarded_to s e.print)
+    ensures observed { (s : State) (e : Epd) (epd tag : List ℕ) (from : AddressParts)
+        (g : GroupSecret) →
+        introduction s (Some e) epd tag from g ≡ Introduction (forwarded_to s e.print)
         (chunk_bytes (FIHello epd (record from { origin = 2 }) tag))
-        (redirect_of tag from (redirected_to s e.print)) }
-    ensures row { (tag : List ℕ) (from : AddressParts) (addresses : List AddressParts) →
-        redirect_of tag from (Some addresses) ≡ Some (redirect_answer tag addresses from) }
+        (redirect_of tag from (redirected_to s e.print) g) }
+    ensures row { (tag : List ℕ) (from : AddressParts) (addresses : List AddressParts)
+        (g : GroupSecret) →
+        redirect_of tag from (Some addresses) g ≡ Some (redirect_answer tag addresses from g) }
     ensures redirect_alone { (s : State) (place : Place) (from : AddressParts) (body : List ℕ)
         (answer : Answer) → replied s place from (Introduction None body (Some answer))
         ≡ sent_answer s answer }
@@ -121,4 +137,64 @@ pub fn flows_are_in_sessions_alone()
         (generation : ℕ) → is_of_flows c.kind ≡ true →
         data_fault (data_reading walk.cursor c.kind c.payload) ≡ None →
         chunk_cause s (Startup generation) walk from c ≡ Some WrongPlace }
+{}
+
+/// A datagram under session ID 0 is tried in the current generation, and then in the next one where
+/// that is known. One under an attempt's session ID is tried in the attempt's generation alone: the
+/// current one while it sends hellos, and its own in the keying stage.
+pub fn the_current_generation_is_tried_first()
+    ensures alone { (s : State) → places_of (record s { next = None }) 0
+        ≡ Startup s.group.generation ∷ [] }
+    ensures both { (s : State) (next : GroupSecret) → places_of (record s { next = Some next }) 0
+        ≡ Startup s.group.generation ∷ Startup next.generation ∷ [] }
+    ensures hello { (current : GroupSecret) (a : AttemptState) →
+        attempt_group current (Some (record a { stage = Hello })) ≡ current }
+    ensures keying { (current under : GroupSecret) (a : AttemptState) (at : AddressParts)
+        (cookie : List ℕ) →
+        attempt_group current (Some (record a { stage = Keying at cookie under })) ≡ under }
+    ensures none { (current : GroupSecret) → attempt_group current None ≡ current }
+{}
+
+/// The group's secret of a startup place is that of its generation: the next one where it has that
+/// number, and the current one else.
+pub fn a_generation_names_its_secret()
+    ensures next { (current : GroupSecret) (secret : List ℕ) →
+        known_group 8 (Some (record { generation = 8; secret = secret })) current
+        ≡ record { generation = 8; secret = secret } }
+    ensures current { (current : GroupSecret) (secret : List ℕ) →
+        known_group 7 (Some (record { generation = 8; secret = secret })) current ≡ current }
+    ensures alone { (current : GroupSecret) (generation : ℕ) →
+        known_group generation None current ≡ current }
+{}
+
+/// A part opens at the first place that opens it. Where none does, the last one tells why; where
+/// there is no place, no session is known.
+pub fn a_part_opens_at_the_first_place_that_opens_it()
+    ensures first { (s : State) (cause : Cause) (a b : Place) (part plain : List ℕ) →
+        opened_at s a part ≡ Ok plain → opened_first s cause (a ∷ b ∷ []) part ≡ Ok (a, plain) }
+    ensures second { (s : State) (cause why : Cause) (a b : Place) (part plain : List ℕ) →
+        opened_at s a part ≡ Err why → opened_at s b part ≡ Ok plain →
+        opened_first s cause (a ∷ b ∷ []) part ≡ Ok (b, plain) }
+    ensures nowhere { (s : State) (cause why last : Cause) (a b : Place) (part : List ℕ) →
+        opened_at s a part ≡ Err why → opened_at s b part ≡ Err last →
+        opened_first s cause (a ∷ b ∷ []) part ≡ Err last }
+    ensures no_place { (s : State) (part : List ℕ) →
+        opened_first s UnknownSession [] part ≡ Err UnknownSession }
+{}
+
+/// Hellos go out in the current generation, and an answer in the one that it tells, under the keys
+/// that it tells.
+pub fn an_answer_goes_out_in_its_own_generation()
+    ensures hello { (s : State) (plain : List ℕ) (to : AddressParts) →
+        (sent_each (with_sealed s 0) plain (to ∷ [])).entries
+        ≡ Out to (startup_datagram (with_sealed s 0) (startup_keys_of s.group) 0 plain)
+        (StartupContext s.group.generation) ∷ [] }
+    ensures answer { (s : State) (answer : Answer) →
+        (sent_answer (with_sealed s 0) answer).entries
+        ≡ Out answer.to (startup_datagram (with_sealed s 0) answer.keys answer.sid answer.plain)
+        (StartupContext answer.generation) ∷ [] }
+    ensures sealed { (s : State) (g : GroupSecret) (sid : ℕ) (plain : List ℕ) →
+        startup_datagram s (startup_keys_of g) sid plain ≡ datagram sid
+        (sealed_in g.secret (StartupContext g.generation) sid
+        (startup_number s.startup.ledger.own (s.sealed + 1)) plain) }
 {}
