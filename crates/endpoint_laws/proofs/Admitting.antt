@@ -1,10 +1,11 @@
 -- How a datagram comes in: what its admission leaves, and what it says of the datagram.
 use Rattle.std.proofs.Common.{◌≡◌, ℕ, ◌+◌, ◌==◌, List, [], ◌∷◌, ◌++◌, length, drop, cond, not, nat_lt, Bool, true, false, if◌then◌else◌, Option, Some, None, Result, Ok, Err, inl, inr, refl, sym, ap, subst, ◌∙◌, append_assoc}
-use Rattle.std.specs.List.{flat_map}
+use Rattle.std.specs.List.{flat_map, AllByRecursion}
 use Rattle.std.specs.FinMap.{get, contains_key}
 use Rattle.rtmfp_base.proofs.Maps.{get_inserted}
 use Rattle.rtmfp_vlu.proofs.Bytes.{IsBytes, IsBytes-drop}
-use Rattle.crypto_profile.specs.Keys.{Keys}
+use Rattle.crypto_profile.specs.Sealing.{Opens}
+use Rattle.crypto_profile.specs.Keys.{Keys, startup_keys_of}
 use Rattle.crypto_profile.specs.declared.keys.Context.TheVariants.{Startup as StartupContext}
 use Rattle.crypto_profile.specs.declared.sealing.SealFault.{SealFault}
 use Rattle.crypto_profile.specs.Opening.{open_refusal, plain_of}
@@ -20,9 +21,8 @@ use Rattle.rtmfp_packet.specs.Walk.{Placed, all_placed_from, visible, is_ignored
 use Rattle.rtmfp_packet.specs.Whole.{Whole}
 use Rattle.rtmfp_packet.specs.Reading.{PacketReading, Reads}
 use Rattle.rtmfp_base.specs.declared.cause.Cause.{Cause}
-use Rattle.rtmfp_base.specs.declared.cause.Cause.TheVariants.{Short, WrongPlace}
+use Rattle.rtmfp_base.specs.declared.cause.Cause.TheVariants.{Short, WrongPlace, UnknownSession}
 use Rattle.endpoint_model.specs.declared.row.Row.{Row}
-use Rattle.endpoint_model.proofs.Members.{tested}
 use Rattle.session_core.specs.declared.hearing.Unheard.{Unheard}
 use Rattle.session_core.specs.declared.hearing.Unheard.TheVariants.{Short as ShortPart, BadTag as WrongTag, Repeated as OldNumber}
 use Rattle.session_core.specs.Session.{SessionState, with_stamps}
@@ -30,12 +30,12 @@ use Rattle.session_core.specs.Hearing.{counted, unheard, opens_in, is_new, count
 use Rattle.crypto_profile.specs.Window.{window_answer}
 use Rattle.endpoint_model.specs.declared.place.Place.{Place}
 use Rattle.endpoint_model.specs.declared.place.Place.TheVariants.{Startup, Attempt, Session}
-use Rattle.endpoint_model.specs.Event.{Setup}
+use Rattle.endpoint_model.specs.Event.{Setup, first_group}
 use Rattle.endpoint_laws.specs.Past.{Past}
-use Rattle.endpoint_laws.specs.Contexts.{OpensUnder, ReadsUnder}
+use Rattle.endpoint_laws.specs.Contexts.{ReadsUnder}
 use Rattle.endpoint_model.specs.Keying.{IsAmong, chunks_of}
 use Rattle.endpoint_model.specs.State.{State}
-use Rattle.endpoint_model.specs.Admission.{packet_in, place_of, sid_at, opened_by, opened_in_startup, startup_keys, heard_by, heard_in, opened_at, placed, opened_found, opened_datagram, counted_by, counted_at, timed_by, timed_at, mode_at, has_mode, Admission, Rejected, Admitted, admitted_packet, admitted, admission}
+use Rattle.endpoint_model.specs.Admission.{packet_in, sid_at, opened_by, opened_in_startup, heard_by, heard_in, opened_at, opened_datagram, counted_by, counted_at, timed_by, timed_at, mode_at, has_mode, Admission, Rejected, Admitted, admitted_packet, admitted, admission, opened_first, next_places, places_of, placed_or, group_at, attempt_group}
 use Rattle.endpoint_laws.proofs.Bytes.{front_are, back_are, plain_is}
 use Rattle.endpoint_model.proofs.Reading.{packet_reads}
 use Rattle.endpoint_laws.proofs.OutSends.{Sent}
@@ -43,20 +43,26 @@ use Rattle.endpoint_laws.proofs.OutItems.{sent_session_changed}
 use Rattle.endpoint_laws.proofs.Tied.{Tied}
 use Rattle.endpoint_laws.proofs.Moving.{tied_session}
 use Rattle.endpoint_laws.proofs.Confirming.{HeardIn, HeardAt}
+use Rattle.crypto_profile.specs.declared.group.GroupSecret.{GroupSecret}
+use Rattle.endpoint_laws.proofs.Kin.{group_is_one}
+use Rattle.std.proofs.lemmas.Bool.{eqb-true}
+use Rattle.endpoint_laws.proofs.Knowing.{own_secrets, opens_known, own_known}
 
 -- ---- the place
 
-place_id_by : (sid : ℕ) (a b c : Bool) (place : Place) → (sid == 0) ≡ a →
-    (if a then Some (Startup 0) else if b then Some (Attempt sid 0) else if c then Some (Session sid) else None) ≡ Some place → sid_at place ≡ sid
-place_id_by sid true b c place z e =
-    let same : (Startup 0) ≡ place = cc in
-    sym (ap sid_at same) ∙ sym (elim (tested sid 0) [ inl is ↦ is.0 | inr is ↦ absurd (let clash : true ≡ false = sym z ∙ is.1 in cc) ])
-place_id_by sid false true c place z e = let same : Attempt sid 0 ≡ place = cc in sym (ap sid_at same)
-place_id_by sid false false true place z e = let same : Session sid ≡ place = cc in sym (ap sid_at same)
-place_id_by sid false false false place z e = absurd (cc)
+next_at : (sid : ℕ) (next : Option GroupSecret) → 0 ≡ sid → AllByRecursion (λ place. sid_at place ≡ sid) (next_places next)
+next_at sid None zero = tt
+next_at sid (Some next) zero = (zero, tt)
 
-place_id : (s : State) (sid : ℕ) (place : Place) → place_of s sid ≡ Some place → sid_at place ≡ sid
-place_id s sid place e = place_id_by sid (sid == 0) (contains_key s.startup.attempts sid) (contains_key s.sessions sid) place refl e
+places_at : (s : State) (sid : ℕ) → AllByRecursion (λ place. sid_at place ≡ sid) (places_of s sid)
+places_at s sid = by (sid == 0) (contains_key s.startup.attempts sid) (contains_key s.sessions sid) refl
+  where
+    by : (a b c : Bool) → (sid == 0) ≡ a → AllByRecursion (λ place. sid_at place ≡ sid)
+        (if a then Startup s.group.generation ∷ next_places s.next else if b then Attempt sid (attempt_group s.group (get s.startup.attempts sid)).generation ∷ [] else if c then Session sid ∷ [] else [])
+    by true b c z = let zero : 0 ≡ sid = sym (eqb-true sid 0 z) in (zero, next_at sid s.next zero)
+    by false true c z = (refl, tt)
+    by false false true z = (refl, tt)
+    by false false false z = tt
 
 -- ---- what was opened
 
@@ -64,39 +70,45 @@ record IsOpened (s : State) (datagram : List ℕ) (place : Place) (plain : List 
   id : sid_at place ≡ sid_of datagram
   opened : opened_at s place (drop 4 datagram) ≡ Ok plain
 
-placed_is : (place : Place) (r : Result (List ℕ) Cause) (found : Place × List ℕ) → placed place r ≡ Ok found → (place ≡ found.0) × (r ≡ Ok found.1)
-placed_is place (Ok plain) found e = let same : (place, plain) ≡ found = cc in (ap (λ (x : Place × List ℕ). x.0) same, ap (λ (x : Place × List ℕ). Ok x.1) same)
-placed_is place (Err cause) found e = absurd (cc)
+found_by : (s : State) (datagram : List ℕ) (place : Place) (rest : List Place) (found : Place × List ℕ) → sid_at place ≡ sid_of datagram → ((last : Cause) → opened_first s last rest (drop 4 datagram) ≡ Ok found → IsOpened s datagram found.0 found.1) →
+    (r : Result (List ℕ) Cause) → opened_at s place (drop 4 datagram) ≡ r → placed_or place r (λ last. opened_first s last rest (drop 4 datagram)) ≡ Ok found → IsOpened s datagram found.0 found.1
+found_by s datagram place rest found at later (Ok plain) is e =
+    let same : (place, plain) ≡ found = cc in
+    record { id = subst (λ (x : Place × List ℕ). sid_at x.0 ≡ sid_of datagram) same at; opened = subst (λ (x : Place × List ℕ). opened_at s x.0 (drop 4 datagram) ≡ Ok x.1) same is }
+found_by s datagram place rest found at later (Err last) is e = later last e
 
-found_is : (s : State) (datagram : List ℕ) (o : Option Place) (found : Place × List ℕ) → ((place : Place) → o ≡ Some place → sid_at place ≡ sid_of datagram) →
-    opened_found s o (drop 4 datagram) ≡ Ok found → IsOpened s datagram found.0 found.1
-found_is s datagram None found id e = absurd (cc)
-found_is s datagram (Some place) found id e =
-    let both = placed_is place (opened_at s place (drop 4 datagram)) found e in
-    record { id = ap sid_at (sym both.0) ∙ id place refl; opened = ap (λ p. opened_at s p (drop 4 datagram)) (sym both.0) ∙ both.1 }
+found_is : (s : State) (datagram : List ℕ) (cause : Cause) (places : List Place) (found : Place × List ℕ) → AllByRecursion (λ place. sid_at place ≡ sid_of datagram) places →
+    opened_first s cause places (drop 4 datagram) ≡ Ok found → IsOpened s datagram found.0 found.1
+found_is s datagram cause [] found at e = absurd (cc)
+found_is s datagram cause (place ∷ rest) found at e =
+    found_by s datagram place rest found at.0 (λ last. found_is s datagram last rest found at.1) (opened_at s place (drop 4 datagram)) refl e
 
-datagram_is : (s : State) (datagram : List ℕ) (b : Bool) (cause : Cause) (found : Place × List ℕ) →
-    (if b then Err cause else opened_found s (place_of s (sid_of datagram)) (drop 4 datagram)) ≡ Ok found → IsOpened s datagram found.0 found.1
-datagram_is s datagram true cause found e = absurd (cc)
-datagram_is s datagram false cause found e = found_is s datagram (place_of s (sid_of datagram)) found (λ place is. place_id s (sid_of datagram) place is) e
+datagram_is : (s : State) (datagram : List ℕ) (b : Bool) (cause none : Cause) (found : Place × List ℕ) →
+    (if b then Err cause else opened_first s none (places_of s (sid_of datagram)) (drop 4 datagram)) ≡ Ok found → IsOpened s datagram found.0 found.1
+datagram_is s datagram true cause none found e = absurd (cc)
+datagram_is s datagram false cause none found e = found_is s datagram none (places_of s (sid_of datagram)) found (places_at s (sid_of datagram)) e
 
 -- in the startup context
 
-record IsStartupPlain (s : State) (datagram : List ℕ) (sid : ℕ) (plain : List ℕ) : Type 0 where
-  under : OpensUnder s.startup.secret (StartupContext 0) sid datagram plain
+record IsStartupPlain (group : GroupSecret) (datagram : List ℕ) (sid : ℕ) (plain : List ℕ) : Type 0 where
+  id : sid_of datagram ≡ sid
+  opens : Opens group.secret (StartupContext group.generation) sid (drop 4 datagram) plain
   bytes : IsBytes plain
 
 by_none : (keys : Keys) (part : List ℕ) (o : Option SealFault) (plain : List ℕ) → opened_by keys part o ≡ Ok plain → (o ≡ None) × (plain ≡ plain_of keys part)
 by_none keys part None plain e = (refl, let same : plain ≡ plain_of keys part = cc in same)
 by_none keys part (Some fault) plain e = absurd (cc)
 
-startup_plain : (s : State) (datagram : List ℕ) (sid : ℕ) (plain : List ℕ) → IsBytes datagram → sid ≡ sid_of datagram → opened_in_startup s 0 sid (drop 4 datagram) ≡ Ok plain → IsStartupPlain s datagram sid plain
-startup_plain s datagram sid plain are id e =
-    let both = by_none (startup_keys s 0) (drop 4 datagram) (open_refusal (startup_keys s 0) sid (drop 4 datagram)) plain e in
-    record {
-      under = record { id = sym id; opens = (opens_by_its_tag s.startup.secret (StartupContext 0) sid (drop 4 datagram) plain).1 (both.0, tt, both.1) };
-      bytes = subst IsBytes (sym both.1) (plain_is (startup_keys s 0) (drop 4 datagram) (IsBytes-drop 4 datagram are));
-    }
+startup_plain : (s : State) (group : GroupSecret) (place : Place) (datagram plain : List ℕ) → group_at s place ≡ group → IsBytes datagram → sid_at place ≡ sid_of datagram → opened_in_startup s place (drop 4 datagram) ≡ Ok plain →
+    IsStartupPlain group datagram (sid_at place) plain
+startup_plain s group place datagram plain same are id e =
+    let own : GroupSecret = group_at s place in
+    let both = by_none (startup_keys_of own) (drop 4 datagram) (open_refusal (startup_keys_of own) (sid_at place) (drop 4 datagram)) plain e in
+    subst (λ (g : GroupSecret). IsStartupPlain g datagram (sid_at place) plain) same (record {
+      id = sym id;
+      opens = (opens_by_its_tag own.secret (StartupContext own.generation) (sid_at place) (drop 4 datagram) plain).1 (both.0, tt, both.1);
+      bytes = subst IsBytes (sym both.1) (plain_is (startup_keys_of own) (drop 4 datagram) (IsBytes-drop 4 datagram are));
+    })
 
 -- in a session
 
@@ -144,26 +156,22 @@ chunks_are plain packet are reads c among =
 
 -- ---- what a datagram that is taken is
 
-pub record IsRead (secret : List ℕ) (sid : ℕ) (datagram : List ℕ) (packet : Whole) : Type 0 where
-  pub reads : ReadsUnder secret (StartupContext 0) sid datagram packet
+pub record IsRead (setup : Setup) (sid : ℕ) (datagram : List ℕ) (packet : Whole) : Type 0 where
+  pub reads : ReadsUnder (own_secrets setup) (StartupContext setup.generation) sid datagram packet
   pub bytes : (c : Placed) → IsAmong c (chunks_of packet) → IsBytes c.payload
 
 abbrev pub Came : Setup → List ℕ → Place → Whole → Type 0
-Came setup datagram (Startup generation) packet = IsRead setup.secret 0 datagram packet × (packet.head.mode ≡ FromStartup)
-Came setup datagram (Attempt near generation) packet = IsRead setup.secret near datagram packet
+Came setup datagram (Startup generation) packet = IsRead setup 0 datagram packet × (packet.head.mode ≡ FromStartup)
+Came setup datagram (Attempt near generation) packet = IsRead setup near datagram packet
 Came setup datagram (Session near) packet = Unit {0}
 
 read_is : (plain : List ℕ) (packet : Whole) → IsBytes plain → packet_in plain ≡ Ok packet → Reads packet plain
 read_is plain packet are e = subst (PacketReading plain) e (packet_reads plain are)
 
-startup_read : (setup : Setup) (past : Past) (s : State) (datagram : List ℕ) (sid : ℕ) (plain : List ℕ) (packet : Whole) → Tied setup past s → IsStartupPlain s datagram sid plain → packet_in plain ≡ Ok packet →
-    IsRead setup.secret sid datagram packet
-startup_read setup past s datagram sid plain packet tied opened e =
+startup_read : (setup : Setup) (datagram : List ℕ) (sid : ℕ) (plain : List ℕ) (packet : Whole) → IsStartupPlain (first_group setup) datagram sid plain → packet_in plain ≡ Ok packet → IsRead setup sid datagram packet
+startup_read setup datagram sid plain packet opened e =
     let reads = read_is plain packet opened.bytes e in
-    record {
-      reads = record { plain = plain; opens = subst (λ secret. OpensUnder secret (StartupContext 0) sid datagram plain) tied.secret opened.under; reads = reads };
-      bytes = chunks_are plain packet opened.bytes reads;
-    }
+    record { reads = record { plain = plain; opens = opens_known setup (own_secrets setup) (own_known setup) (StartupContext setup.generation) refl sid datagram plain opened.id opened.opens; reads = reads }; bytes = chunks_are plain packet opened.bytes reads }
 
 mode_is : (mode : Mode) → (mode_number mode == mode_number FromStartup) ≡ true → mode ≡ FromStartup
 mode_is FromInitiator e = absurd (cc)
@@ -173,9 +181,13 @@ mode_is FromStartup e = refl
 came_of : (setup : Setup) (past : Past) (s t : State) (datagram plain : List ℕ) (place : Place) (packet : Whole) → Tied setup past s → IsBytes datagram → IsOpened s datagram place plain →
     packet_in plain ≡ Ok packet → has_mode packet.head (mode_at t place) ≡ true → Came setup datagram place packet
 came_of setup past s t datagram plain (Startup generation) packet tied are opened e mode =
-    (startup_read setup past s datagram 0 plain packet tied (startup_plain s datagram 0 plain are opened.id opened.opened) e, mode_is packet.head.mode mode)
+    let place : Place = Startup generation in (
+      startup_read setup datagram 0 plain packet (startup_plain s (first_group setup) place datagram plain (group_is_one setup s tied.one place) are opened.id opened.opened) e,
+      mode_is packet.head.mode mode,
+    )
 came_of setup past s t datagram plain (Attempt near generation) packet tied are opened e mode =
-    startup_read setup past s datagram near plain packet tied (startup_plain s datagram near plain are opened.id opened.opened) e
+    let place : Place = Attempt near generation in
+    startup_read setup datagram near plain packet (startup_plain s (first_group setup) place datagram plain (group_is_one setup s tied.one place) are opened.id opened.opened) e
 came_of setup past s t datagram plain (Session near) packet tied are opened e mode = tt
 
 heard_of : (setup : Setup) (past : Past) (s : State) (datagram plain : List ℕ) (place : Place) → Tied setup past s → IsOpened s datagram place plain → HeardAt s place datagram
@@ -265,4 +277,4 @@ admitted_is setup past s datagram (Ok found) tied sent are opened =
 
 pub admission_is : (setup : Setup) (past : Past) (s : State) (datagram : List ℕ) → Tied setup past s → Sent setup past s → IsBytes datagram → AdmissionIs setup past s datagram (admission s datagram)
 admission_is setup past s datagram tied sent are =
-    admitted_is setup past s datagram (opened_datagram s datagram) tied sent are (λ found e. datagram_is s datagram (nat_lt (length datagram) 36) Short found e)
+    admitted_is setup past s datagram (opened_datagram s datagram) tied sent are (λ found e. datagram_is s datagram (nat_lt (length datagram) 36) Short UnknownSession found e)

@@ -18,21 +18,21 @@ each_end_states_its_log ends history fresh who part = view_stated ends who histo
 
 -- ---- moments
 
-tail_on : (own : List ℕ) (o : Option Fact) (before : List Step) → IsTail before (stated_on own o before)
-tail_on own None before = tail_self before
-tail_on own (Some fact) before = inr (tail_self before)
+tail_on : (own : List ℕ) (g : ℕ) (o : Option Fact) (before : List Step) → IsTail before (stated_on own g o before)
+tail_on own g None before = tail_self before
+tail_on own g (Some fact) before = inr (tail_self before)
 
-tail_onto : (own : List ℕ) (entries : List Entry) (before : List Step) → IsTail before (stated_onto own entries before)
-tail_onto own [] before = tail_self before
-tail_onto own (entry ∷ rest) before =
-    let next : List Step = stated_on own (fact_in entry) before in
-    tail_trans before next (stated_onto own rest next) (tail_on own (fact_in entry) before) (tail_onto own rest next)
+tail_onto : (own : List ℕ) (g : ℕ) (entries : List Entry) (before : List Step) → IsTail before (stated_onto own g entries before)
+tail_onto own g [] before = tail_self before
+tail_onto own g (entry ∷ rest) before =
+    let next : List Step = stated_on own g (fact_in entry) before in
+    tail_trans before next (stated_onto own g rest next) (tail_on own g (fact_in entry) before) (tail_onto own g rest next)
 
 pub each_prefix_is_a_moment : EachPrefixIsAMoment
 each_prefix_is_a_moment ends [] early = tail_self (stated ends early)
 each_prefix_is_a_moment ends (h ∷ later) early =
     let middle : List Step = stated ends (later ++ early) in
-    tail_trans (stated ends early) middle (stated_onto (own_of (ends h.who)) h.event.entries middle) (each_prefix_is_a_moment ends later early) (tail_onto (own_of (ends h.who)) h.event.entries middle)
+    tail_trans (stated ends early) middle (stated_onto (own_of (ends h.who)) (ends h.who).generation h.event.entries middle) (each_prefix_is_a_moment ends later early) (tail_onto (own_of (ends h.who)) (ends h.who).generation h.event.entries middle)
 
 -- ---- what is kept
 
@@ -46,7 +46,7 @@ keeps_at ends who peer s history is (inl e) = inl (ap (held peer) is ∙ e)
 keeps_at ends who peer s history is (inr e) = inr (ap (held peer) is ∙ e)
 
 pub logs_keep_the_same : LogsKeepTheSame
-logs_keep_the_same ends later early fresh agreed a b s t part_a part_b kept_a kept_b =
+logs_keep_the_same secrets ends later early fresh agreed a b s t part_a part_b kept_a kept_b =
     let alone : (who : ℕ) → TakesPart who early → (x : ℕ) → TakesPart x early → own_of (ends x) ≡ own_of (ends who) → x ≡ who =
     λ who part x there same. fresh.prints x who (took_part x later early there) (took_part who later early part) same in
     (agreed (stated ends early) (each_prefix_is_a_moment ends later early)).same (own_of (ends a)) (own_of (ends b)) s t

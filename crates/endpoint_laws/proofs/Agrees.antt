@@ -26,6 +26,7 @@ use Rattle.endpoint_laws.specs.Past.{Stamped, Search, facts_of, ids_in_use, IsCl
 use Rattle.endpoint_model.specs.State.{State, is_used}
 use Rattle.endpoint_laws.proofs.Matching.{Found, of_peer, of_some, Matches, Ids}
 use Rattle.endpoint_laws.proofs.Tied.{Tied, search_of, WasStartedAs, IsKeptIn, AreBy, StageFits, IsClosed, IsClosedThing, thing_of, held_of, found_in}
+use Rattle.endpoint_laws.specs.Groups.{HasOneGroup}
 
 -- what an attempt is, with its peer; a search is nothing that is held
 abbrev pub found_as : ℕ → List ℕ → Aim → Found
@@ -45,7 +46,7 @@ pub record IsOurs (setup : Setup) (past : Past) (near : ℕ) (session : SessionS
   pub id : session.joined.near ≡ near
   pub own : session.own ≡ own_of setup
   pub keyed : IsKeyed setup.secret session
-  pub generation : session.generation ≡ 0
+  pub generation : session.generation ≡ setup.generation
   pub stage : StageFits session.role session.stage
   pub closed : is_held session.stage ≡ false → IsClosed past near session
 
@@ -53,7 +54,7 @@ pub record IsOurs (setup : Setup) (past : Past) (near : ℕ) (session : SessionS
 pub record IsGiven (setup : Setup) (s : State) : Type 0 where
   pub config : s.config ≡ setup.config
   pub cert : s.startup.cert ≡ setup.cert
-  pub secret : s.startup.secret ≡ setup.secret
+  pub one : HasOneGroup setup s
   pub cookie_secret : s.startup.cookie_secret ≡ setup.cookie_secret
   pub own : s.startup.ledger.own ≡ own_of setup
   pub max_peers : s.startup.ledger.max_peers ≡ setup.config.max_peers
@@ -192,7 +193,7 @@ pub tied_of : (setup : Setup) (past : Past) (s : State) → Agrees setup past s 
 tied_of setup past s a account few = record {
   config = a.given.config;
   cert = a.given.cert;
-  secret = a.given.secret;
+  one = a.given.one;
   cookie_secret = a.given.cookie_secret;
   own = a.given.own;
   max_peers = a.given.max_peers;
@@ -282,7 +283,7 @@ held_there setup past s t peer (KeptAsInitiator j) e = session_there setup past 
 
 pub agrees_of : (setup : Setup) (past : Past) (s : State) → Tied setup past s → Agrees setup past s
 agrees_of setup past s t = record {
-  given = record { config = t.config; cert = t.cert; secret = t.secret; cookie_secret = t.cookie_secret; own = t.own; max_peers = t.max_peers };
+  given = record { config = t.config; cert = t.cert; one = t.one; cookie_secret = t.cookie_secret; own = t.own; max_peers = t.max_peers };
   matches = record {
     found = λ near p h e. found_is setup past s t near (get s.startup.attempts near) (get s.sessions near) refl refl p h e;
     there = held_there setup past s t;

@@ -1,5 +1,5 @@
 -- The keying of a session that goes out opens at the initiator, and answers its attempt.
-use Rattle.std.proofs.Common.{◌≡◌, ℕ, ◌+◌, ◌*◌, ◌^◌, ◌<◌, ◌≤◌, List, [], ◌∷◌, ◌++◌, length, take, get_or, inl, refl, sym, ap, ◌∙◌, arith, append_assoc, length-append}
+use Rattle.std.proofs.Common.{◌≡◌, ℕ, ◌+◌, ◌*◌, ◌^◌, ◌<◌, ◌≤◌, List, [], ◌∷◌, ◌++◌, length, take, get_or, inl, refl, sym, ap, ◌∙◌, arith, append_assoc, length-append, Some}
 use Rattle.std.specs.Int.{w32, w64, to_be_bytes}
 use Rattle.std.proofs.lemmas.List.{take_at, get_or-take}
 use Rattle.std.proofs.lemmas.Nat.{xor_of_32, from_be_bytes-to_be_bytes_4}
@@ -23,11 +23,13 @@ use Rattle.glare_core.specs.declared.facts.Joined.{Joined}
 use Rattle.startup_packets.specs.Packets.{startup_packet, responder_part, rikeying_packet, rikeying_signed}
 use Rattle.startup_packets.proofs.Sizes.{startup_length, rikeying_length}
 use Rattle.endpoint_model.specs.Event.{Setup, own_of}
-use Rattle.endpoint_laws.specs.Contexts.{OpensUnder}
+use Rattle.endpoint_laws.specs.Contexts.{OpensUnder, Secrets}
 use Rattle.endpoint_laws.specs.Lawful.{AnswersAttempt}
 use Rattle.endpoint_laws.specs.Complete.{at_initiator}
 use Rattle.endpoint_laws.proofs.Bytes.{hmac_is}
 use Rattle.endpoint_laws.proofs.OutPackets.{one_whole, startup_head, startup_reads}
+use Rattle.endpoint_laws.proofs.Knowing.{own_secrets, own_known}
+use Rattle.std.specs.FinMap.{get}
 
 -- ---- a sealed part opens under the session ID that it goes out under
 
@@ -54,21 +56,21 @@ scrambled_small keys sid number plain small =
     let second : second_word part < 2 ^ 32 = omega (arith, second_word_bytes part, two) in
     xor_of_32 (bit_xor sid (first_word part)) (second_word part) (xor_of_32 sid (first_word part) small first) second
 
-pub opens_again : (secret : List ℕ) (sid : ℕ) (number plain : List ℕ) → sid < 2 ^ 32 → length number ≡ 16 →
-    OpensUnder secret (Startup 0) sid (datagram sid (sealed_in secret (Startup 0) sid number plain)) plain
-opens_again secret sid number plain small size =
-    let keys : Keys = keys_of secret (Startup 0) in
+pub opens_again : (secrets : Secrets) (secret : List ℕ) (generation sid : ℕ) (number plain : List ℕ) → get secrets generation ≡ Some secret → sid < 2 ^ 32 → length number ≡ 16 →
+    OpensUnder secrets (Startup generation) sid (datagram sid (sealed_in secret (Startup generation) sid number plain)) plain
+opens_again secrets secret generation sid number plain known small size =
+    let keys : Keys = keys_of secret (Startup generation) in
     let part : List ℕ = sealed keys sid number plain in
     let carries = sealed_carries keys sid number plain size in
     let id : sid_of (datagram sid part) ≡ sid =
     ap (λ n. unscrambled n part) (from_be_bytes-to_be_bytes_4 (scrambled sid part) (scrambled_small keys sid number plain small)) ∙ xor_both_twice sid (first_word part) (second_word part) in
-    record { id = id; opens = (omega (arith, carries.1), ap (λ n. sealed keys sid n plain) (sym carries.0), tt) }
+    record { secret = secret; known = known; id = id; opens = (omega (arith, carries.1), ap (λ n. sealed keys sid n plain) (sym carries.0), tt) }
 
 -- ---- the keying of a session
 
 pub keying_answers : (setup : Setup) (j : Joined) (number : List ℕ) → j.far < 2 ^ 32 → j.near < 2 ^ 32 → length j.ni ≤ 16 → length j.nr ≤ 16 → length number ≡ 16 → j.k < 2 ^ 64 →
-    AnswersAttempt setup.secret (at_initiator (own_of setup) j) (datagram j.far (sealed_in setup.secret (Startup 0) j.far number (rikeying_packet setup.secret j.near j.nr j.k (own_of setup) j.ni)))
-unfolding rikeying_signed
+    AnswersAttempt (own_secrets setup) setup.generation (at_initiator (own_of setup) j) (datagram j.far (sealed_in setup.secret (Startup setup.generation) j.far number (rikeying_packet setup.secret j.near j.nr j.k (own_of setup) j.ni)))
+unfolding rikeying_signed opens_again
 keying_answers setup j number far near ni nr size few =
     let own : List ℕ = own_of setup in
     let part : List ℕ = responder_part j.nr j.k own j.ni in
@@ -86,7 +88,7 @@ keying_answers setup j number far near ni nr size few =
     let whole : payload ≡ before ++ sign = sym (append_assoc id (counted ++ []) sign ∙ ap (λ xs. id ++ xs) (append_assoc counted [] sign)) in
     record {
       packet = one_whole startup_head (0x03 ∷ []) 0x78 payload;
-      reads = record { plain = startup_packet chunk; opens = opens_again setup.secret j.far number (startup_packet chunk) far size; reads = startup_reads chunk short };
+      reads = record { plain = startup_packet chunk; opens = opens_again (own_secrets setup) setup.secret setup.generation j.far number (startup_packet chunk) (own_known setup) far size; reads = startup_reads chunk short };
       chunk = record { kind = 0x78; at = 1; payload = payload };
       among = inl refl;
       sign = sign;

@@ -30,7 +30,7 @@ use Rattle.rtmfp_chunks.specs.Writing.{chunk_bytes}
 use Rattle.endpoint_model.specs.declared.row.Row.{Row}
 use Rattle.endpoint_model.specs.declared.config.Draws.{Draws}
 use Rattle.endpoint_model.specs.declared.entry.Entry.TheVariants.{Fact as FactEntry}
-use Rattle.endpoint_model.specs.Event.{Setup, Receive, own_of}
+use Rattle.endpoint_model.specs.Event.{Setup, Receive, own_of, first_group}
 use Rattle.endpoint_laws.specs.Past.{Past, stamped, facts_of, ids_in_use}
 use Rattle.endpoint_model.specs.Keying.{IsSigned, IsAmong, chunks_of, responder_part}
 use Rattle.endpoint_laws.specs.Lawful.{AnswersAttempt}
@@ -49,6 +49,11 @@ use Rattle.endpoint_laws.proofs.Ending.{some_entry}
 use Rattle.endpoint_laws.proofs.Spelled.{responder_signed}
 use Rattle.endpoint_laws.proofs.Says.{responder_says}
 use Rattle.endpoint_laws.proofs.Admitting.{IsRead}
+use Rattle.endpoint_model.specs.Admission.{attempt_group}
+use Rattle.crypto_profile.specs.declared.keys.Context.TheVariants.{Startup as StartupContext}
+use Rattle.crypto_profile.specs.declared.group.GroupSecret.{GroupSecret}
+use Rattle.endpoint_laws.proofs.Kin.{one_still, attempt_is_one, kin_without}
+use Rattle.endpoint_laws.proofs.Knowing.{own_secrets, own_signed}
 
 -- What a responder's keying is that isn't discarded: it reads, is signed, and is of the attempt under this session ID.
 pub record OpensAttempt (s : State) (near : ℕ) (payload : List ℕ) : Type 0 where
@@ -59,7 +64,7 @@ pub record OpensAttempt (s : State) (near : ℕ) (payload : List ℕ) : Type 0 w
   pub aims : a.aim ≡ AtPeer peer n
   pub keying : ResponderKeying
   pub reads : responder_keying_in payload ≡ Ok keying
-  pub signed : is_signed s.startup.secret payload keying.sign ≡ true
+  pub signed : is_signed (attempt_group s.group (get s.startup.attempts near)).secret payload keying.sign ≡ true
   pub responder : keying.part.responder ≡ peer
   pub ni : keying.part.ni ≡ a.ni
 
@@ -77,11 +82,17 @@ module _ (setup : Setup) (from : AddressParts) (datagram : List ℕ) (draws : Dr
   abbrev j : Joined
   j = record { peer = opens.peer; n = opens.n; near = near; far = opens.keying.near; ni = a.ni; nr = opens.keying.part.nr; k = opens.keying.part.k }
 
+  abbrev group : GroupSecret
+  group = attempt_group s.group (get s.startup.attempts near)
+
   abbrev new : Row
-  new = new_row (new_session j s.startup.ledger.own Initiator from s.startup.secret s.moment)
+  new = new_row (new_session j s.startup.ledger.own Initiator from group.generation group.secret s.moment)
 
   abbrev t : State
   t = with_row (with_startup s (after_opening s.startup near (Opened j))) near new
+
+  one : group ≡ first_group setup
+  one = attempt_is_one setup s tied.one near
 
   abbrev now : Past
   now = stamped s.moment (FactEntry (Opened j)) ∷ past
@@ -111,11 +122,11 @@ module _ (setup : Setup) (from : AddressParts) (datagram : List ℕ) (draws : Dr
       ] in
       tied_of setup now t
       (agrees_changed setup past now s t near None (Some new) g
-      (record { config = g.given.config; cert = g.given.cert; secret = g.given.secret; cookie_secret = g.given.cookie_secret; own = g.given.own; max_peers = g.given.max_peers }) at
+      (record { config = g.given.config; cert = g.given.cert; one = one_still setup (with_startup s (after_opening s.startup near (Opened j))) t ((kin_without s near (Some (Opened j))).one setup g.given.one) refl refl refl; cookie_secret = g.given.cookie_secret; own = g.given.own; max_peers = g.given.max_peers }) at
       (noted_matches s t (Opened j) near None (Some new) g.matches at refl (was ∙ sym (ap (of_peer opens.peer) held_is))
       (sym (ap (λ o. of_peer opens.peer (opened_held j o)) held_is))
       (λ h e. let same : Some (KeptAsInitiator j) ≡ Some h = sym (ap (opened_held j) held_is) ∙ e in let thing : KeptAsInitiator j ≡ h = cc in ap near_of (sym thing)))
-      (record { id = refl; own = tied.own; keyed = keyed_begun tied.secret 0 j s.startup.ledger.own Initiator from s.moment; generation = refl; stage = tt; closed = λ e. absurd (cc) })
+      (record { id = refl; own = tied.own; keyed = keyed_begun (ap (λ (x : GroupSecret). x.secret) one) group.generation j s.startup.ledger.own Initiator from s.moment; generation = ap (λ (x : GroupSecret). x.generation) one; stage = tt; closed = λ e. absurd (cc) })
       (beside_fact near s.moment past (Opened j) tt) (still_none setup past s g near opens.peer (Opening opens.n near a.ni) was s.moment (Opened j) tt (Some new))
       (still_unsought past near s.moment (Opened j) (none_searches setup past s g near opens.peer (Opening opens.n near a.ni) was) None)
       (ids_same setup.config.max_sessions (ids_in_use past) s t g.ids all_used
@@ -125,11 +136,11 @@ module _ (setup : Setup) (from : AddressParts) (datagram : List ℕ) (draws : Dr
       (rows_after_known s.startup.ledger (Opened j) setup.config.max_peers (knows_held s.startup.ledger opens.peer (Opening opens.n near a.ni) held_is) tied.rows))
       ((subst gave held_is (gave_opened s.startup.ledger opens.peer j.nr j.far j.k)) 0 (facts_of past) tied.account) (omega (arith, tied.few))
 
-  answers : IsRead setup.secret near datagram packet → IsAmong c (chunks_of packet) → c.kind ≡ 0x78 → AnswersAttempt setup.secret j datagram
+  answers : IsRead setup near datagram packet → IsAmong c (chunks_of packet) → c.kind ≡ 0x78 → AnswersAttempt (own_secrets setup) setup.generation j datagram
   answers read among kind =
       let keying : ResponderKeying = opens.keying in
       let says = responder_says c.payload keying (read.bytes c among) opens.reads in
-      let signed = responder_signed s.startup.secret c.payload keying.near (responder_part keying.part.nr keying.part.k keying.part.responder keying.part.ni) keying.sign says.spells opens.signed in
+      let signed = responder_signed group.secret c.payload keying.near (responder_part keying.part.nr keying.part.k keying.part.responder keying.part.ni) keying.sign says.spells opens.signed in
       record {
         packet = packet;
         reads = read.reads;
@@ -141,19 +152,19 @@ module _ (setup : Setup) (from : AddressParts) (datagram : List ℕ) (draws : Dr
             (subst (λ n. Spells (RIKeying j.far (responder_part j.nr j.k j.peer n) keying.sign) 0x78 c.payload) opens.ni
             (subst (λ r. Spells (RIKeying j.far (responder_part j.nr j.k r keying.part.ni) keying.sign) 0x78 c.payload) opens.responder says.spells));
         number = says.number;
-        signed = subst (λ x. IsSigned x c.payload keying.sign) tied.secret signed;
+        signed = own_signed setup (StartupContext setup.generation) refl near datagram read.reads.plain read.reads.opens c.payload keying.sign (subst (λ (x : GroupSecret). IsSigned x.secret c.payload keying.sign) one signed);
       }
 
   told : opened s.startup near c.payload ≡ Some (Opened j)
   told = ap (λ (o : Option AttemptState). opened_reading near o (responder_keying_in c.payload)) opens.there ∙ ap (opened_reading near (Some a)) opens.reads ∙ ap (opened_as near opens.keying opens.a.ni) opens.aims
 
-  pub goes_responder : IsRead setup.secret near datagram packet → IsAmong c (chunks_of packet) → c.kind ≡ 0x78 → Goes setup (Receive from datagram draws) past s (responder_keyed s near from c.payload)
+  pub goes_responder : IsRead setup near datagram packet → IsAmong c (chunks_of packet) → c.kind ≡ 0x78 → Goes setup (Receive from datagram draws) past s (responder_keyed s near from c.payload)
   goes_responder read among kind =
       let first : Did = record { state = t; entries = FactEntry (Opened j) ∷ [] } in
-      let one : Goes setup (Receive from datagram draws) past s first = record {
+      let goes : Goes setup (Receive from datagram draws) past s first = record {
         meets = (((stands_of (own_of setup) t.startup.ledger (Opened j) (facts_of past) opened_tied.own opened_tied.account, answers read among kind), tt), tt);
         tied = opened_tied;
         moment = refl;
       } in
-      subst (λ o. Goes setup (Receive from datagram draws) past s (opening_done s near from o)) (sym told)
-      (goes_then setup (Receive from datagram draws) past s first (λ u. sent_in_session u near from (chunk_bytes (Ping []))) one (in_session_made (goes_sends setup (Receive from datagram draws)) t near from (chunk_bytes (Ping [])) tt now opened_tied))
+      subst (λ o. Goes setup (Receive from datagram draws) past s (opening_done s near from group o)) (sym told)
+      (goes_then setup (Receive from datagram draws) past s first (λ u. sent_in_session u near from (chunk_bytes (Ping []))) goes (in_session_made (goes_sends setup (Receive from datagram draws)) t near from (chunk_bytes (Ping [])) tt now opened_tied))

@@ -36,7 +36,7 @@ use Rattle.startup_packets.specs.Packets.{is_signed}
 use Rattle.startup_packets.specs.Readings.{InitiatorKeying, initiator_keying_in}
 use Rattle.startup.specs.Attempts.{is_own}
 use Rattle.startup.specs.Keyings.{keying_of, heard_cause, named_cause, cookie_cause, repeated_session}
-use Rattle.endpoint_model.specs.Event.{Setup, own_of}
+use Rattle.endpoint_model.specs.Event.{Setup, own_of, first_group}
 use Rattle.endpoint_laws.specs.Past.{Past, facts_of}
 use Rattle.endpoint_model.specs.Keying.{IsFirst, IsSigned, chunks_of, initiator_part, IsAmong}
 use Rattle.endpoint_laws.specs.Admissible.{Admissible, Offer}
@@ -48,6 +48,9 @@ use Rattle.endpoint_laws.proofs.Spelled.{initiator_signed}
 use Rattle.endpoint_laws.proofs.Starting.{room_left, row_left}
 use Rattle.endpoint_laws.proofs.Tied.{Tied}
 use Rattle.endpoint_laws.proofs.Admitting.{IsRead}
+use Rattle.crypto_profile.specs.declared.keys.Context.TheVariants.{Startup as StartupContext}
+use Rattle.crypto_profile.specs.declared.group.GroupSecret.{GroupSecret}
+use Rattle.endpoint_laws.proofs.Knowing.{own_secrets, own_signed}
 
 -- ---- small facts
 
@@ -132,9 +135,9 @@ tells_refusal limit l keying free =
 
 -- ---- what a keying is that isn't discarded
 
-pub record IsHeard (s : State) (from : AddressParts) (payload : List ℕ) (keying : InitiatorKeying) : Type 0 where
+pub record IsHeard (s : State) (group : GroupSecret) (from : AddressParts) (payload : List ℕ) (keying : InitiatorKeying) : Type 0 where
   pub reads : initiator_keying_in payload ≡ Ok keying
-  pub signed : is_signed s.startup.secret payload keying.sign ≡ true
+  pub signed : is_signed group.secret payload keying.sign ≡ true
   pub narrow : nat_lt 128 (length keying.cookie) ≡ false
   pub cause : cookie_cause (cookie_test s.startup.cookie_secret keying.cookie from s.moment) (named_cause s.startup keying (full s)) ≡ None
 
@@ -204,10 +207,10 @@ prevailed own peer (KeptAsInitiator j) other e is = absurd is
 abbrev pub offer_of : InitiatorKeying → Offer
 offer_of keying = record { peer = sha256 keying.cert; n = keying.part.n; ni = keying.part.ni; far = keying.near }
 
-pub admissible : (setup : Setup) (past : Past) (s : State) (from : AddressParts) (datagram : List ℕ) (packet : Whole) (c : Placed) (keying : InitiatorKeying) → Tied setup past s →
-    IsRead setup.secret 0 datagram packet → packet.head.mode ≡ StartupMode → IsAmong c (chunks_of packet) → IsFirst c (chunks_of packet) → c.kind ≡ 0x38 → IsHeard s from c.payload keying →
-    cookie_test s.startup.cookie_secret keying.cookie from s.moment ≡ Current → IsNamed s keying → MayBear s (keying_of keying) → Admissible setup past s.moment from datagram (offer_of keying)
-admissible setup past s from datagram packet c keying tied read mode among first kind heard current named may =
+pub admissible : (setup : Setup) (past : Past) (s : State) (from : AddressParts) (datagram : List ℕ) (packet : Whole) (c : Placed) (keying : InitiatorKeying) (group : GroupSecret) → group ≡ first_group setup → Tied setup past s →
+    IsRead setup 0 datagram packet → packet.head.mode ≡ StartupMode → IsAmong c (chunks_of packet) → IsFirst c (chunks_of packet) → c.kind ≡ 0x38 → IsHeard s group from c.payload keying →
+    cookie_test s.startup.cookie_secret keying.cookie from s.moment ≡ Current → IsNamed s keying → MayBear s (keying_of keying) → Admissible (own_secrets setup) setup past s.moment from datagram (offer_of keying)
+admissible setup past s from datagram packet c keying group one tied read mode among first kind heard current named may =
     let facts : List Fact = facts_of past in
     let peer : List ℕ = sha256 keying.cert in
     let says = initiator_says c.payload keying (read.bytes c among) heard.reads in
@@ -215,7 +218,7 @@ admissible setup past s from datagram packet c keying tied read mode among first
     let responder : keying.part.responder ≡ own_of setup = named.responder ∙ own in
     let held_is : held_with s.startup.ledger peer ≡ held peer facts = reads_held 0 s.startup.ledger facts tied.account peer in
     let other : own_of setup ≢ peer = λ e. named.other_print (sym e ∙ sym own) in
-    let signed = initiator_signed s.startup.secret c.payload keying.near keying.cookie keying.cert (initiator_part keying.part.ni keying.part.n keying.part.responder) keying.sign says.spells heard.signed in
+    let signed = initiator_signed group.secret c.payload keying.near keying.cookie keying.cert (initiator_part keying.part.ni keying.part.n keying.part.responder) keying.sign says.spells heard.signed in
     record {
       packet = packet;
       reads = read.reads;
@@ -233,7 +236,7 @@ admissible setup past s from datagram packet c keying tied read mode among first
       far = says.some;
       is_cert = good_certificate keying.cert says.good;
       peer = refl;
-      signed = subst (λ x. IsSigned x c.payload keying.sign) tied.secret signed;
+      signed = own_signed setup (StartupContext setup.generation) refl 0 datagram read.reads.plain read.reads.opens c.payload keying.sign (subst (λ (x : GroupSecret). IsSigned x.secret c.payload keying.sign) one signed);
       narrow = narrow_is (length keying.cookie) heard.narrow;
       current = subst (λ x. IsAnswer x keying.cookie from s.moment Current) tied.cookie_secret
           (subst (IsAnswer s.startup.cookie_secret keying.cookie from s.moment) current (test_is_right s.startup.cookie_secret keying.cookie from s.moment (to_bytes keying.cookie says.cookie_are)));

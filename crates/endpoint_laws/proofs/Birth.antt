@@ -93,7 +93,9 @@ without_thing s fact thing = record {
   config = s.config;
   moment = s.moment;
   sealed = s.sealed;
-  startup = record { cert = s.startup.cert; secret = s.startup.secret; cookie_secret = s.startup.cookie_secret; ledger = noted s.startup.ledger fact; attempts = without_id s.startup.attempts (attempt_id thing) };
+  group = s.group;
+  next = s.next;
+  startup = record { cert = s.startup.cert; cookie_secret = s.startup.cookie_secret; ledger = noted s.startup.ledger fact; attempts = without_id s.startup.attempts (attempt_id thing); kept = s.startup.kept };
   sessions = remove s.sessions (near_of thing);
   introduces = s.introduces;
   redirects = s.redirects;

@@ -65,8 +65,8 @@ causes s place walk from c =
 -- What is so of a chunk that is discarded, and of one of each type that isn't, with what is known of it then.
 pub record ByKind (R : Did → Type 0) (place : Place) (from : AddressParts) (draws : Draws) (walk : Walk) (s : State) (c : Placed) : Type 0 where
   pub discarded : (cause : Cause) → R (discarded s c.at cause)
-  pub initiator : c.kind ≡ 0x38 → takes place 0x38 ≡ true → initiator_keying_cause s walk from c.payload ≡ None → fault_in (initiator_keying_in c.payload) ≡ None → R (initiator_keyed s from draws c.payload)
-  pub responder : c.kind ≡ 0x78 → takes place 0x78 ≡ true → responder_keying_cause s (sid_at place) c.payload ≡ None → fault_in (responder_keying_in c.payload) ≡ None → R (responder_keyed s (sid_at place) from c.payload)
+  pub initiator : c.kind ≡ 0x38 → takes place 0x38 ≡ true → initiator_keying_cause s place walk from c.payload ≡ None → fault_in (initiator_keying_in c.payload) ≡ None → R (initiator_keyed s place from draws c.payload)
+  pub responder : c.kind ≡ 0x78 → takes place 0x78 ≡ true → responder_keying_cause s place c.payload ≡ None → fault_in (responder_keying_in c.payload) ≡ None → R (responder_keyed s (sid_at place) from c.payload)
   pub told : is_told_in_session c.kind ≡ true → takes place c.kind ≡ true → has_state_for s place c.kind ≡ true → R (told_in_session s (sid_at place) from c)
   pub flows : is_of_flows c.kind ≡ true → takes place c.kind ≡ true → flow_cause (get s.sessions (sid_at place)) (data_reading walk.cursor c.kind c.payload) ≡ None → R (flow_taken s (sid_at place) (data_reading walk.cursor c.kind c.payload))
   pub reads : takes place c.kind ≡ true → read_fault (length c.payload) (chunk_reading c.kind c.payload) ≡ None → read_cause s place from (chunk_reading c.kind c.payload) ≡ None → R (read_done s place from (chunk_reading c.kind c.payload))
@@ -78,9 +78,9 @@ module _ (R : Did → Type 0) (place : Place) (from : AddressParts) (draws : Dra
   effect_by_kind : (i r t f : Bool) → (c.kind == 0x38) ≡ i → (c.kind == 0x78) ≡ r → is_told_in_session c.kind ≡ t → is_of_flows c.kind ≡ f → takes place c.kind ≡ true →
       (if i || r then (if i then fault_in (initiator_keying_in c.payload) else if r then fault_in (responder_keying_in c.payload) else None)
       else if f then data_fault (data_reading walk.cursor c.kind c.payload) else read_fault (length c.payload) (chunk_reading c.kind c.payload)) ≡ None →
-      (if i then initiator_keying_cause s walk from c.payload else if r then responder_keying_cause s (sid_at place) c.payload
+      (if i then initiator_keying_cause s place walk from c.payload else if r then responder_keying_cause s place c.payload
       else if f then flow_cause (get s.sessions (sid_at place)) (data_reading walk.cursor c.kind c.payload) else first_that_stands read_causes) ≡ None →
-      R (if i then initiator_keyed s from draws c.payload else if r then responder_keyed s (sid_at place) from c.payload else if t then told_in_session s (sid_at place) from c
+      R (if i then initiator_keyed s place from draws c.payload else if r then responder_keyed s (sid_at place) from c.payload else if t then told_in_session s (sid_at place) from c
       else if f then flow_taken s (sid_at place) (data_reading walk.cursor c.kind c.payload) else read_done s place from (chunk_reading c.kind c.payload))
   effect_by_kind true r t f is_i is_r is_t is_f taken form last = let kind = is_kind c.kind 0x38 is_i in k.initiator kind (ap (takes place) (sym kind) ∙ taken) last form
   effect_by_kind false true t f is_i is_r is_t is_f taken form last = let kind = is_kind c.kind 0x78 is_r in k.responder kind (ap (takes place) (sym kind) ∙ taken) last form

@@ -30,7 +30,7 @@ use Rattle.endpoint_model.specs.Event.{Setup, Call, Receive}
 use Rattle.endpoint_laws.specs.Past.{Past}
 use Rattle.endpoint_model.specs.Keying.{IsAmong, IsFirst, chunks_of}
 use Rattle.endpoint_model.specs.State.{State, full}
-use Rattle.endpoint_model.specs.Admission.{sid_at}
+use Rattle.endpoint_model.specs.Admission.{sid_at, group_at, attempt_group}
 use Rattle.endpoint_model.specs.Effects.{initiator_keyed, responder_keyed, is_told_in_session, read_done, chunk_did}
 use Rattle.endpoint_model.specs.InSessions.{told_in_session}
 use Rattle.endpoint_model.specs.Causes.{takes, read_fault, read_cause, initiator_keying_cause, responder_keying_cause, has_state_for}
@@ -51,6 +51,7 @@ use Rattle.endpoint_laws.proofs.Admitting.{Came}
 use Rattle.endpoint_laws.proofs.Bearing.{IsHeard}
 use Rattle.endpoint_laws.proofs.Keyed.{goes_initiator}
 use Rattle.endpoint_laws.proofs.Answering.{OpensAttempt, goes_responder}
+use Rattle.crypto_profile.specs.declared.group.GroupSecret.{GroupSecret}
 
 -- ---- what there being no cause says of keyings
 
@@ -66,27 +67,28 @@ unkeyed true o e = absurd (cc)
 unkeyed false o e = (refl, e)
 
 -- no keying came before this one
-keyed_none : (s : State) (walk : Walk) (from : AddressParts) (payload : List ℕ) → initiator_keying_cause s walk from payload ≡ None →
-    (walk.keyed ≡ false) × (iikeying_cause s.startup payload from s.moment (full s) ≡ None)
-keyed_none s walk from payload e = unkeyed walk.keyed (iikeying_cause s.startup payload from s.moment (full s)) e
+keyed_none : (s : State) (place : Place) (walk : Walk) (from : AddressParts) (payload : List ℕ) → initiator_keying_cause s place walk from payload ≡ None →
+    (walk.keyed ≡ false) × (iikeying_cause s.startup payload from s.moment (full s) (group_at s place) ≡ None)
+keyed_none s place walk from payload e = unkeyed walk.keyed (iikeying_cause s.startup payload from s.moment (full s) (group_at s place)) e
 
-heard_of : (s : State) (from : AddressParts) (payload : List ℕ) (keying : InitiatorKeying) → initiator_keying_in payload ≡ Ok keying → iikeying_cause s.startup payload from s.moment (full s) ≡ None → IsHeard s from payload keying
-heard_of s from payload keying reads e =
-    let none : initiator_cause s.startup payload from s.moment (full s) keying ≡ None = sym (ap (cause_by (initiator_cause s.startup payload from s.moment (full s))) reads) ∙ e in
+heard_of : (s : State) (group : GroupSecret) (from : AddressParts) (payload : List ℕ) (keying : InitiatorKeying) → initiator_keying_in payload ≡ Ok keying → iikeying_cause s.startup payload from s.moment (full s) group ≡ None →
+    IsHeard s group from payload keying
+heard_of s group from payload keying reads e =
+    let none : initiator_cause s.startup payload from s.moment (full s) group keying ≡ None = sym (ap (cause_by (initiator_cause s.startup payload from s.moment (full s) group)) reads) ∙ e in
     let all = all_none (
-    where_true (not (is_signed s.startup.secret payload keying.sign)) BadSignature
+    where_true (not (is_signed group.secret payload keying.sign)) BadSignature
     ∷ where_true (nat_lt 128 (length keying.cookie)) (Wide (length keying.cookie))
     ∷ cookie_cause (cookie_test s.startup.cookie_secret keying.cookie from s.moment) (named_cause s.startup keying (full s))
     ∷ []) none in
     record {
       reads = reads;
-      signed = not_false (is_signed s.startup.secret payload keying.sign) (test_fails (not (is_signed s.startup.secret payload keying.sign)) BadSignature all.0);
+      signed = not_false (is_signed group.secret payload keying.sign) (test_fails (not (is_signed group.secret payload keying.sign)) BadSignature all.0);
       narrow = test_fails (nat_lt 128 (length keying.cookie)) (Wide (length keying.cookie)) all.1.0;
       cause = all.1.1.0;
     }
 
 opens_of : (s : State) (near : ℕ) (payload : List ℕ) (keying : ResponderKeying) → responder_keying_in payload ≡ Ok keying → (o : Option AttemptState) → get s.startup.attempts near ≡ o →
-    is_signed s.startup.secret payload keying.sign ≡ true → attempt_cause keying o ≡ None → OpensAttempt s near payload
+    is_signed (attempt_group s.group (get s.startup.attempts near)).secret payload keying.sign ≡ true → attempt_cause keying o ≡ None → OpensAttempt s near payload
 opens_of s near payload keying reads None is signed e = absurd (cc)
 opens_of s near payload keying reads (Some a) is signed e = by a.aim refl e
   where
@@ -117,18 +119,21 @@ opens_of s near payload keying reads (Some a) is signed e = by a.aim refl e
         }
     by (ByName name) aims none = absurd (cc)
 
-pub opening_of : (s : State) (near : ℕ) (payload : List ℕ) (keying : ResponderKeying) → responder_keying_in payload ≡ Ok keying → responder_keying_cause s near payload ≡ None → OpensAttempt s near payload
-opening_of s near payload keying reads e = by (contains_key s.startup.attempts near) e
+pub opening_of : (s : State) (near generation : ℕ) (payload : List ℕ) (keying : ResponderKeying) → responder_keying_in payload ≡ Ok keying → responder_keying_cause s (Attempt near generation) payload ≡ None → OpensAttempt s near payload
+opening_of s near generation payload keying reads e = by (contains_key s.startup.attempts near) e
   where
-    by : (b : Bool) → (if b then rikeying_cause s.startup near payload else Some NoAttempt) ≡ None → OpensAttempt s near payload
+    group : GroupSecret
+    group = attempt_group s.group (get s.startup.attempts near)
+
+    by : (b : Bool) → (if b then rikeying_cause s.startup near payload group else Some NoAttempt) ≡ None → OpensAttempt s near payload
     by true e =
-        let none : responder_cause s.startup near payload keying ≡ None = sym (ap (cause_by (responder_cause s.startup near payload)) reads) ∙ e in
+        let none : responder_cause s.startup near payload group keying ≡ None = sym (ap (cause_by (responder_cause s.startup near payload group)) reads) ∙ e in
         let all = all_none (
-        where_true (not (is_signed s.startup.secret payload keying.sign)) BadSignature
+        where_true (not (is_signed group.secret payload keying.sign)) BadSignature
         ∷ attempt_cause keying (get s.startup.attempts near)
         ∷ []) none in
         opens_of s near payload keying reads (get s.startup.attempts near) refl
-        (not_false (is_signed s.startup.secret payload keying.sign) (test_fails (not (is_signed s.startup.secret payload keying.sign)) BadSignature all.0)) all.1.0
+        (not_false (is_signed group.secret payload keying.sign) (test_fails (not (is_signed group.secret payload keying.sign)) BadSignature all.0)) all.1.0
     by false e = absurd (cc)
 
 -- ---- chunks that are told in a session
@@ -152,20 +157,20 @@ module _ (setup : Setup) (from : AddressParts) (datagram : List ℕ) (draws : Dr
   call = Receive from datagram draws
 
   initiator_goes : (s : State) (past : Past) (place : Place) (walk : Walk) (c : Placed) → Tied setup past s → Came setup datagram place packet → IsAmong c (chunks_of packet) → (walk.keyed ≡ false → c.kind ≡ 0x38 → IsFirst c (chunks_of packet)) →
-      c.kind ≡ 0x38 → takes place 0x38 ≡ true → initiator_keying_cause s walk from c.payload ≡ None → fault_in (initiator_keying_in c.payload) ≡ None → Goes setup call past s (initiator_keyed s from draws c.payload)
+      c.kind ≡ 0x38 → takes place 0x38 ≡ true → initiator_keying_cause s place walk from c.payload ≡ None → fault_in (initiator_keying_in c.payload) ≡ None → Goes setup call past s (initiator_keyed s place from draws c.payload)
   initiator_goes s past (Startup generation) walk c tied came among first kind taken none formed =
       let reads = read_ok (initiator_keying_in c.payload) formed in
-      let both = keyed_none s walk from c.payload none in
-      goes_initiator setup from datagram draws most small past s tied reads.0 packet c came.0 came.1 among (first both.0 kind) kind (heard_of s from c.payload reads.0 reads.1 both.1)
+      let both = keyed_none s (Startup generation) walk from c.payload none in
+      goes_initiator setup from datagram draws most small past s tied reads.0 generation packet c came.0 came.1 among (first both.0 kind) kind (heard_of s (group_at s (Startup generation)) from c.payload reads.0 reads.1 both.1)
   initiator_goes s past (Attempt near generation) walk c tied came among first kind taken none formed = absurd (cc)
   initiator_goes s past (Session near) walk c tied came among first kind taken none formed = absurd (cc)
 
   responder_goes : (s : State) (past : Past) (place : Place) (c : Placed) → Tied setup past s → Came setup datagram place packet → IsAmong c (chunks_of packet) →
-      c.kind ≡ 0x78 → takes place 0x78 ≡ true → responder_keying_cause s (sid_at place) c.payload ≡ None → fault_in (responder_keying_in c.payload) ≡ None → Goes setup call past s (responder_keyed s (sid_at place) from c.payload)
+      c.kind ≡ 0x78 → takes place 0x78 ≡ true → responder_keying_cause s place c.payload ≡ None → fault_in (responder_keying_in c.payload) ≡ None → Goes setup call past s (responder_keyed s (sid_at place) from c.payload)
   responder_goes s past (Startup generation) c tied came among kind taken none formed = absurd (cc)
   responder_goes s past (Attempt near generation) c tied came among kind taken none formed =
       let reads = read_ok (responder_keying_in c.payload) formed in
-      goes_responder setup from datagram draws packet past s tied near c (opening_of s near c.payload reads.0 reads.1 none) came among kind
+      goes_responder setup from datagram draws packet past s tied near c (opening_of s near generation c.payload reads.0 reads.1 none) came among kind
   responder_goes s past (Session near) c tied came among kind taken none formed = absurd (cc)
 
   told_goes : (s : State) (past : Past) (place : Place) (c : Placed) → Tied setup past s → PassedAt past place datagram packet s → IsAmong c (chunks_of packet) → is_told_in_session c.kind ≡ true →
@@ -183,7 +188,7 @@ module _ (setup : Setup) (from : AddressParts) (datagram : List ℕ) (draws : Dr
       let o = lowest (has_tag tag) s.startup.attempts in
       let all = all_none (wide tag ∷ wide cookie ∷ hello_cause_at s.startup o cert ∷ []) none in
       goes_read setup call s (Startup generation) from (Ok (RHello tag cookie cert))
-      (λ p t. hello_goes setup from datagram draws packet c came.0 among p s t tag cookie cert is (good_cert cert _ formed) o refl all.1.1.0) past tied
+      (λ p t. hello_goes setup from datagram draws packet c came.0 among p s t (Startup generation) tag cookie cert is (good_cert cert _ formed) o refl all.1.1.0) past tied
   hello_at s past (Attempt near generation) c tied came among tag cookie cert is taken formed none = absurd (not_in_attempt near generation c.kind (hello_kind c.kind c.payload tag cookie cert is) taken)
   hello_at s past (Session near) c tied came among tag cookie cert is taken formed none = absurd (not_in_session near c.kind (hello_kind c.kind c.payload tag cookie cert is) taken)
 

@@ -1,5 +1,6 @@
 -- Admissible keyings bear, and responders' keyings that nothing discards open.
 use Rattle.std.proofs.Common.{◌≡◌, ◌≢◌, ℕ, ◌+◌, ◌^◌, ◌<◌, ◌≤◌, ◌==◌, max, List, [], ◌∷◌, ◌++◌, length, take, drop, length-drop, nat_lt, Bool, true, false, ◌||◌, if◌then◌else◌, Option, Some, None, Result, Ok, Err, inl, inr, refl, sym, ap, subst, ◌∙◌, arith, append_assoc, length-append}
+use Rattle.std.specs.FinMap.{get}
 use Rattle.std.specs.Int.{w64, to_be_bytes}
 use Rattle.std.proofs.lemmas.Bool.Decides.{nat_tests}
 use Rattle.std.proofs.lemmas.List.{length-take-le, take-append-drop, append-nil}
@@ -16,12 +17,10 @@ use Rattle.rtmfp_packet.specs.Walk.{Placed}
 use Rattle.rtmfp_packet.proofs.Readings.{packet_reading_same}
 use Rattle.rtmfp_chunks.specs.Chunk.{Ping, parts_of}
 use Rattle.rtmfp_chunks.proofs.WritingLaws.{parts_bytes-spell}
-use Rattle.rtmfp_chunks.specs.FieldReading.{chunk_reading}
-use Rattle.rtmfp_data_chunks.specs.Reader.{data_reading}
 use Rattle.crypto_profile.specs.declared.keys.Context.TheVariants.{Startup as StartupContext}
-use Rattle.crypto_profile.specs.Keys.{keys_of}
+use Rattle.crypto_profile.specs.Keys.{keys_of, startup_keys_of}
 use Rattle.crypto_profile.specs.Opening.{open_refusal, plain_of}
-use Rattle.crypto_profile.specs.Sealing.{sealed_in}
+use Rattle.crypto_profile.specs.Sealing.{sealed_in, sealed}
 use Rattle.crypto_profile.proofs.Opened.{opens_by_its_tag}
 use Rattle.packet_scramble.specs.Datagram.{datagram, sid_of}
 use Rattle.cookies.specs.declared.CookieTest.{CookieTest}
@@ -36,7 +35,7 @@ use Rattle.glare_core.specs.Ledger.{Ledger, held_with}
 use Rattle.glare_core.specs.Calls.{way_made, heard, heard_noted}
 use Rattle.glare_core.proofs.Accounts.{reads_started}
 use Rattle.rtmfp_base.specs.declared.cause.Cause.{Cause}
-use Rattle.rtmfp_base.specs.declared.cause.Cause.TheVariants.{Short, WrongPlace, SecondKeying}
+use Rattle.rtmfp_base.specs.declared.cause.Cause.TheVariants.{Short, WrongPlace, SecondKeying, UnknownSession}
 use Rattle.startup.specs.declared.answer.Answer.{Answer}
 use Rattle.startup.specs.State.{StartupState}
 use Rattle.startup_packets.specs.Packets.{rikeying_packet}
@@ -46,7 +45,7 @@ use Rattle.session_core.specs.Session.{new_session, head_at}
 use Rattle.session_core.specs.Sealed.{number_bytes}
 use Rattle.glare_core.specs.Tells.{as_initiator}
 use Rattle.rtmfp_chunks.specs.Writing.{chunk_bytes}
-use Rattle.endpoint_laws.specs.Contexts.{session_context}
+use Rattle.endpoint_laws.specs.Contexts.{session_context, Secrets, Knows}
 use Rattle.session_core.specs.declared.stage.Role.TheVariants.{Initiator}
 use Rattle.endpoint_model.specs.declared.row.Row.{Row}
 use Rattle.endpoint_model.specs.declared.walk.Walk.{Walk}
@@ -55,23 +54,23 @@ use Rattle.endpoint_model.specs.declared.place.Place.{Place}
 use Rattle.endpoint_model.specs.declared.place.Place.TheVariants.{Startup, Attempt}
 use Rattle.endpoint_model.specs.declared.entry.Entry.{Entry}
 use Rattle.endpoint_model.specs.declared.entry.Entry.TheVariants.{Fact as FactEntry, Out}
-use Rattle.endpoint_model.specs.Event.{Setup, own_of, Receive, Answer as CallAnswer, Began, Searching, Done, NotOpened, NotSought, Refused, NotAdded, Stopped, OutOfMemory}
-use Rattle.endpoint_laws.specs.Past.{Past, onto, facts_of, ids_in_use, past_of, last_moment}
+use Rattle.endpoint_model.specs.Event.{Setup, own_of, Receive, Answer as CallAnswer, Began, Searching, Done, NotOpened, NotSought, Refused, NotAdded, Stopped, OutOfMemory, first_group}
+use Rattle.endpoint_laws.specs.Past.{Past, onto, facts_of, past_of, last_moment}
 use Rattle.std.specs.List.{AllByRecursion}
 use Rattle.endpoint_model.specs.Keying.{chunks_of}
 use Rattle.endpoint_laws.specs.Admissible.{Admissible, Offer}
 use Rattle.endpoint_laws.specs.Lawful.{AnswersAttempt}
 use Rattle.endpoint_model.specs.State.{State, full, new_row, Did, nothing, then_do, fact_entries, with_startup, free_from, fresh, at_moment}
 use Rattle.endpoint_model.specs.Sending.{last_count, startup_number, startup_datagram, session_packet, session_datagram, sent_by}
-use Rattle.endpoint_model.specs.Admission.{Admission, Rejected, Admitted, place_of, opened_by, placed, opened_found, opened_datagram, admission, admitted, admitted_packet, packet_in, has_mode, confirming}
+use Rattle.endpoint_model.specs.Admission.{Admission, Rejected, Admitted, opened_by, opened_datagram, admission, admitted, admitted_packet, packet_in, has_mode, confirming, places_of, group_at, placed_or, attempt_group, opened_first}
 use Rattle.endpoint_model.specs.Causes.{form_cause, initiator_keying_cause, last_cause, chunk_cause}
 use Rattle.endpoint_model.specs.InSessions.{tested as tested_at}
-use Rattle.endpoint_model.specs.FlowChunks.{flow_taken, acked, unowed}
+use Rattle.endpoint_model.specs.FlowChunks.{acked, unowed}
 use Rattle.endpoint_laws.proofs.Hearing.{HeardWell, known_more}
-use Rattle.endpoint_model.specs.Effects.{read_reply, with_born, keying_done, initiator_keyed, responder_keyed, with_opened, opening_done, discarded_or, chunk_did, walked, chunks_did, received, part_received, outset, most_acks, walked_and_acked}
+use Rattle.endpoint_model.specs.Effects.{with_born, keying_done, initiator_keyed, responder_keyed, with_opened, opening_done, discarded_or, chunk_did, walked, chunks_did, received, part_received, outset, most_acks, walked_and_acked}
 use Rattle.endpoint_model.specs.Log.{Answers}
 use Rattle.endpoint_laws.specs.Laws.{IsSetup, IsCall}
-use Rattle.endpoint_laws.specs.Complete.{WentThrough, IsBehind, IsPing, outs_in, at_initiator, IsOfOffer, IsBornAndTold, AdmissibleKeyingsBear, OpensItsSession, KeyingsWithoutCauseOpen}
+use Rattle.endpoint_laws.specs.Complete.{WentThrough, IsBehind, IsPing, outs_in, at_initiator, IsOfOffer, IsBornAndTold, AdmissibleKeyingsBear, OpensItsSession, KeyingsWithoutCauseOpen, done_up_to}
 use Rattle.endpoint_laws.proofs.Bytes.{of_bytes, plain_is}
 use Rattle.endpoint_model.proofs.Reading.{packet_reads}
 use Rattle.endpoint_laws.proofs.Facts.{all_none}
@@ -89,11 +88,15 @@ use Rattle.endpoint_laws.proofs.Orderly.{Orderly, chunks_orderly}
 use Rattle.endpoint_laws.proofs.Logged.{LogIs, log_is}
 use Rattle.endpoint_laws.proofs.OutBirths.{small_free}
 use Rattle.endpoint_laws.proofs.Few.{outs_append, few_law, few_begins}
-use Rattle.endpoint_laws.proofs.Small.{Any}
 use Rattle.endpoint_laws.proofs.Made.{chunks_made}
 use Rattle.endpoint_laws.proofs.OutPackets.{one_whole, session_reads}
 use Rattle.endpoint_laws.proofs.ReadsBack.{none_all, less_is_other, IsBearing, read_as, is_bearing}
 use Rattle.endpoint_laws.proofs.AnswerCarried.{keying_answers}
+use Rattle.endpoint_laws.proofs.Kin.{group_is_one}
+use Rattle.endpoint_laws.proofs.Groups.{startup_place}
+use Rattle.crypto_profile.specs.declared.group.GroupSecret.{GroupSecret}
+use Rattle.endpoint_laws.proofs.Knowing.{own_secrets, known_opens, own_known}
+use Rattle.endpoint_laws.proofs.ByMap.{admissible_by, answers_by}
 
 -- ---- the chunks before a keying
 
@@ -145,7 +148,7 @@ heard_own l (Again near) = refl
 heard_own l (Birth None born) = refl
 heard_own l (Birth (Some ended) born) = refl
 
-module _ (setup : Setup) (past : Past) (u : State) (tied : Tied setup past u) (from : AddressParts) (draws : Draws) (payload : List ℕ) (keying : InitiatorKeying) (b : IsBearing u from payload keying)
+module _ (setup : Setup) (past : Past) (u : State) (tied : Tied setup past u) (from : AddressParts) (draws : Draws) (payload : List ℕ) (keying : InitiatorKeying) (b : IsBearing u (group_at u (Startup setup.generation)) from payload keying)
     (some : (u.sealed == last_count) ≡ false) where
   abbrev k : Keying
   k = keying_of keying
@@ -162,36 +165,44 @@ module _ (setup : Setup) (past : Past) (u : State) (tied : Tied setup past u) (f
   abbrev way : Option Fact
   way = way_made k.peer (held_with l k.peer)
 
+  -- the secret under which it came
+  abbrev group : GroupSecret
+  group = group_at u (Startup setup.generation)
+
+  one : group ≡ first_group setup
+  one = group_is_one setup u tied.one (Startup setup.generation)
+
   abbrev answer : Answer
-  answer = session_answer u.startup j from
+  answer = session_answer u.startup j from group
 
   abbrev left : StartupState
-  left = after_again_or_birth u.startup k near draws.nonce None
+  left = after_again_or_birth u.startup k near draws.nonce group None
 
   abbrev t : State
-  t = with_born (with_startup u left) way (Born j) from
+  t = with_born (with_startup u left) way (Born j) from group
 
   abbrev sent : List ℕ
-  sent = startup_datagram t j.far answer.plain
+  sent = startup_datagram t answer.keys j.far answer.plain
 
   abbrev by_reading : Result InitiatorKeying Cause → Did
-  by_reading r = keying_done (with_startup u (after_keyed_reading u.startup from u.moment near draws.nonce r)) from (keyed_reading u.startup from u.moment near draws.nonce r)
+  by_reading r = keying_done (with_startup u (after_keyed_reading u.startup from u.moment near draws.nonce group r)) from group (keyed_reading u.startup from u.moment near draws.nonce group r)
 
   abbrev by_test : CookieTest → Did
-  by_test test = keying_done (with_startup u (after_keyed_with u.startup near draws.nonce keying test)) from (Some (keyed_with u.startup from u.moment near draws.nonce keying test))
+  by_test test = keying_done (with_startup u (after_keyed_with u.startup near draws.nonce group keying test)) from group (keyed_with u.startup from u.moment near draws.nonce group keying test)
 
   abbrev by_repeat : Option Joined → Did
-  by_repeat o = keying_done (with_startup u (after_again_or_birth u.startup k near draws.nonce o)) from (Some (again_or_birth u.startup k from near draws.nonce o))
+  by_repeat o = keying_done (with_startup u (after_again_or_birth u.startup k near draws.nonce group o)) from group (again_or_birth u.startup k from near draws.nonce group o)
 
-  keyed_so : initiator_keyed u from draws payload ≡ by_repeat None
+  keyed_so : initiator_keyed u (Startup setup.generation) from draws payload ≡ by_repeat None
   keyed_so = ap by_reading b.reads ∙ ap by_test b.current ∙ ap by_repeat b.repeated
 
-  born_entries : (initiator_keyed u from draws payload).entries ≡ fact_entries way ++ FactEntry (Born j) ∷ Out from sent (StartupContext 0) ∷ []
+  born_entries : (initiator_keyed u (Startup setup.generation) from draws payload).entries ≡ fact_entries way ++ FactEntry (Born j) ∷ Out from sent (StartupContext setup.generation) ∷ []
   born_entries =
       ap (λ (d : Did). d.entries) keyed_so
       ∙ ap (λ (d : Did). (fact_entries way ++ FactEntry (Born j) ∷ []) ++ d.entries)
-      (false_is (u.sealed == last_count) (nothing t) (record { state = record t { sealed = t.sealed + 1 }; entries = Out from sent (StartupContext 0) ∷ [] }) some)
-      ∙ append_assoc (fact_entries way) (FactEntry (Born j) ∷ []) (Out from sent (StartupContext 0) ∷ [])
+      (false_is (u.sealed == last_count) (nothing t) (record { state = record t { sealed = t.sealed + 1 }; entries = Out from sent (StartupContext group.generation) ∷ [] }) some)
+      ∙ append_assoc (fact_entries way) (FactEntry (Born j) ∷ []) (Out from sent (StartupContext group.generation) ∷ [])
+      ∙ ap (λ (x : GroupSecret). fact_entries way ++ FactEntry (Born j) ∷ Out from sent (StartupContext x.generation) ∷ []) one
 
   abbrev number : List ℕ
   number = startup_number (own_of setup) (u.sealed + 1)
@@ -202,24 +213,24 @@ module _ (setup : Setup) (past : Past) (u : State) (tied : Tied setup past u) (f
   print_is : sha256 u.startup.cert ≡ own_of setup
   print_is = ap sha256 tied.cert
 
-  sent_is : sent ≡ datagram j.far (sealed_in setup.secret (StartupContext 0) j.far number (rikeying_packet setup.secret j.near j.nr j.k (own_of setup) j.ni))
+  sent_is : sent ≡ datagram j.far (sealed_in setup.secret (StartupContext setup.generation) j.far number (rikeying_packet setup.secret j.near j.nr j.k (own_of setup) j.ni))
   sent_is =
-      ap (λ (o : List ℕ). datagram j.far (sealed_in u.startup.secret (StartupContext 0) j.far (startup_number o (u.sealed + 1)) answer.plain)) own_is
-      ∙ ap (λ (secret : List ℕ). datagram j.far (sealed_in secret (StartupContext 0) j.far number (rikeying_packet secret j.near j.nr j.k (sha256 u.startup.cert) j.ni))) tied.secret
-      ∙ ap (λ (o : List ℕ). datagram j.far (sealed_in setup.secret (StartupContext 0) j.far number (rikeying_packet setup.secret j.near j.nr j.k o j.ni))) print_is
+      ap (λ (o : List ℕ). datagram j.far (sealed answer.keys j.far (startup_number o (u.sealed + 1)) answer.plain)) own_is
+      ∙ ap (λ (x : GroupSecret). datagram j.far (sealed (startup_keys_of x) j.far number (rikeying_packet x.secret j.near j.nr j.k (sha256 u.startup.cert) j.ni))) one
+      ∙ ap (λ (o : List ℕ). datagram j.far (sealed_in setup.secret (StartupContext setup.generation) j.far number (rikeying_packet setup.secret j.near j.nr j.k o j.ni))) print_is
 
   number_size : length number ≡ 16
   number_size = omega (arith, length-append (take 8 (own_of setup)) (to_be_bytes w64 (u.sealed + 1)), length-take-le 8 (own_of setup) (omega (arith, length-sha256 setup.cert)))
 
-  born_answers : j.far < 2 ^ 32 → length j.ni ≡ 16 → j.k < 2 ^ 64 → IsCall (Receive from [] draws) → AnswersAttempt setup.secret (at_initiator (own_of setup) j) sent
+  born_answers : j.far < 2 ^ 32 → length j.ni ≡ 16 → j.k < 2 ^ 64 → IsCall (Receive from [] draws) → AnswersAttempt (own_secrets setup) setup.generation (at_initiator (own_of setup) j) sent
   born_answers far ni few fits =
-      subst (AnswersAttempt setup.secret (at_initiator (own_of setup) j)) (sym sent_is)
+      subst (AnswersAttempt (own_secrets setup) setup.generation (at_initiator (own_of setup) j)) (sym sent_is)
       (keying_answers setup j number far (small_free u draws.word fits.2) (omega (arith, ni)) (omega (arith, fits.1)) number_size few)
 
 -- ---- a datagram with an admissible keying
 
 module _ (setup : Setup) (past : Past) (s : State) (tied : Tied setup past s) (sent_so : Sent setup past s) (well : HeardWell past s) (from : AddressParts) (datagram : List ℕ) (draws : Draws) (offer : Offer) (now : ℕ) (front : List Placed)
-    (a : Admissible setup (onto s.moment (chunks_did (Startup 0) from draws outset s front).entries past) now from datagram offer) (at : s.moment ≡ now) (is : IsSetup setup) (fits : IsCall (Receive from datagram draws))
+    (a : Admissible (own_secrets setup) setup (onto s.moment (chunks_did (Startup setup.generation) from draws outset s front).entries past) now from datagram offer) (at : s.moment ≡ now) (is : IsSetup setup) (fits : IsCall (Receive from datagram draws))
     (other : offer.peer ≢ own_of setup) (gone rest : List Placed) (goes : chunks_of a.packet ≡ gone ++ rest) (behind : IsBehind front a.chunk gone) where
   abbrev part : List ℕ
   part = drop 4 datagram
@@ -230,33 +241,35 @@ module _ (setup : Setup) (past : Past) (s : State) (tied : Tied setup past s) (s
   abbrev plain : List ℕ
   plain = a.reads.plain
 
-  opens_so : (open_refusal (keys_of setup.secret (StartupContext 0)) 0 part ≡ None) × (plain ≡ plain_of (keys_of setup.secret (StartupContext 0)) part)
-  opens_so = let told = (opens_by_its_tag setup.secret (StartupContext 0) 0 part plain).0 a.reads.opens.opens in (told.0, told.2)
+  opens_so : (open_refusal (keys_of setup.secret (StartupContext setup.generation)) 0 part ≡ None) × (plain ≡ plain_of (keys_of setup.secret (StartupContext setup.generation)) part)
+  opens_so = let told = (opens_by_its_tag setup.secret (StartupContext setup.generation) 0 part plain).0 (known_opens setup (own_secrets setup) (own_known setup) (StartupContext setup.generation) refl 0 datagram plain a.reads.opens) in (told.0, told.2)
 
-  opened_so : opened_datagram s datagram ≡ Ok ((Startup 0), plain)
+  opened_so : opened_datagram s datagram ≡ Ok ((Startup setup.generation), plain)
   opened_so =
       let long : 32 ≤ length part = a.reads.opens.opens.0 in
       let enough : 36 ≤ length datagram = omega (arith, long, length-drop 4 datagram) in
       let short : nat_lt (length datagram) 36 ≡ false = grind (arith, nat_tests, enough) in
-      let here : List ℕ → Result (Place × List ℕ) Cause = λ p. Ok ((Startup 0), p) in
-      ap (λ (b : Bool). if b then Err Short else opened_found s (place_of s (sid_of datagram)) part) short
-      ∙ ap (λ (sid : ℕ). opened_found s (place_of s sid) part) a.reads.opens.id
-      ∙ ap (λ (secret : List ℕ). placed (Startup 0) (opened_by (keys_of secret (StartupContext 0)) part (open_refusal (keys_of secret (StartupContext 0)) 0 part))) tied.secret
-      ∙ ap (λ o. placed (Startup 0) (opened_by (keys_of setup.secret (StartupContext 0)) part o)) opens_so.0
+      let at_one : Result (List ℕ) Cause → Result (Place × List ℕ) Cause = λ r. placed_or (Startup setup.generation) r (λ last. Err last) in
+      let here : List ℕ → Result (Place × List ℕ) Cause = λ p. Ok ((Startup setup.generation), p) in
+      ap (λ (b : Bool). if b then Err Short else opened_first s UnknownSession (places_of s (sid_of datagram)) part) short
+      ∙ ap (λ (sid : ℕ). opened_first s UnknownSession (places_of s sid) part) a.reads.opens.id
+      ∙ ap (λ (places : List Place). opened_first s UnknownSession places part) (startup_place setup s tied.one)
+      ∙ ap (λ (x : GroupSecret). at_one (opened_by (startup_keys_of x) part (open_refusal (startup_keys_of x) 0 part))) (group_is_one setup s tied.one (Startup setup.generation))
+      ∙ ap (λ o. at_one (opened_by (keys_of setup.secret (StartupContext setup.generation)) part o)) opens_so.0
       ∙ ap here (sym opens_so.1)
 
   packet_so : packet_in plain ≡ Ok a.packet
   packet_so =
       packet_reading_same plain (packet_in plain) (Ok a.packet)
-      (packet_reads plain (subst IsBytes (sym opens_so.1) (plain_is (keys_of setup.secret (StartupContext 0)) part (IsBytes-drop 4 datagram bytes)))) a.reads.reads
+      (packet_reads plain (subst IsBytes (sym opens_so.1) (plain_is (keys_of setup.secret (StartupContext setup.generation)) part (IsBytes-drop 4 datagram bytes)))) a.reads.reads
 
-  admission_so : admission s datagram ≡ Admitted s (Startup 0) a.packet
+  admission_so : admission s datagram ≡ Admitted s (Startup setup.generation) a.packet
   admission_so =
-      ap (admitted s datagram) opened_so ∙ ap (admitted_packet s (Startup 0)) packet_so
-      ∙ true_is (has_mode a.packet.head FromStartup) (Admitted s (Startup 0) a.packet) (Rejected s WrongPlace) (ap (λ (m : Mode). mode_number m == mode_number FromStartup) a.mode)
+      ap (admitted s datagram) opened_so ∙ ap (admitted_packet s (Startup setup.generation)) packet_so
+      ∙ true_is (has_mode a.packet.head FromStartup) (Admitted s (Startup setup.generation) a.packet) (Rejected s WrongPlace) (ap (λ (m : Mode). mode_number m == mode_number FromStartup) a.mode)
 
-  came : Came setup datagram (Startup 0) a.packet
-  came = let is : AdmissionIs setup past s datagram (Admitted s (Startup 0) a.packet) = subst (AdmissionIs setup past s datagram) admission_so (admission_is setup past s datagram tied sent_so bytes) in is.came
+  came : Came setup datagram (Startup setup.generation) a.packet
+  came = let is : AdmissionIs setup past s datagram (Admitted s (Startup setup.generation) a.packet) = subst (AdmissionIs setup past s datagram) admission_so (admission_is setup past s datagram tied sent_so bytes) in is.came
 
   kind : a.chunk.kind ≡ 0x38
   kind = a.spells.0
@@ -268,13 +281,13 @@ module _ (setup : Setup) (past : Past) (s : State) (tied : Tied setup past s) (s
   in_all = goes ∙ ap (λ (cs : List Placed). cs ++ rest) cut.whole ∙ append_assoc cut.front (a.chunk ∷ cut.back) rest
 
   abbrev first : Did
-  first = chunks_did (Startup 0) from draws outset s cut.front
+  first = chunks_did (Startup setup.generation) from draws outset s cut.front
 
   abbrev u : State
   u = first.state
 
   front_orderly : Orderly setup (Receive from datagram draws) past s first
-  front_orderly = chunks_orderly setup is from datagram draws fits a.packet (Startup 0) came outset [] cut.front (a.chunk ∷ (cut.back ++ rest)) s past (record { whole = in_all; keyed = λ e c none is. none; small = tt }) tied sent_so well tt
+  front_orderly = chunks_orderly setup is from datagram draws fits a.packet (Startup setup.generation) came outset [] cut.front (a.chunk ∷ (cut.back ++ rest)) s past (record { whole = in_all; keyed = λ e c none is. none; small = tt }) tied sent_so well tt
 
   abbrev after_front : Goes setup (Receive from datagram draws) past s first
   after_front = front_orderly.goes
@@ -285,9 +298,9 @@ module _ (setup : Setup) (past : Past) (s : State) (tied : Tied setup past s) (s
   abbrev keying : InitiatorKeying
   keying = read_as offer.far a.cookie a.cert offer.ni offer.n (own_of setup) a.sign
 
-  bearing : IsBearing u from a.chunk.payload keying
+  bearing : IsBearing u (group_at u (Startup setup.generation)) from a.chunk.payload keying
   unfolding cut
-  bearing = is_bearing setup told u after_front.tied from datagram offer told now a refl refl (after_front.moment ∙ at) other
+  bearing = is_bearing setup told u after_front.tied from datagram offer told now a refl refl (after_front.moment ∙ at) other (group_at u (Startup setup.generation)) (group_is_one setup u after_front.tied.one (Startup setup.generation))
 
   abbrev this : Placed
   this = record { kind = 0x38; at = a.chunk.at; payload = a.chunk.payload }
@@ -299,34 +312,34 @@ module _ (setup : Setup) (past : Past) (s : State) (tied : Tied setup past s) (s
   abbrev walk : Walk
   walk = walk_through outset cut.front
 
-  unkeyed_before : initiator_keying_cause u walk from a.chunk.payload ≡ None
-  unkeyed_before = ap (λ (b : Bool). if b then Some SecondKeying else iikeying_cause u.startup a.chunk.payload from u.moment (full u)) (keyed_false cut.front cut.others outset refl) ∙ bearing.cause
+  unkeyed_before : initiator_keying_cause u (Startup setup.generation) walk from a.chunk.payload ≡ None
+  unkeyed_before = ap (λ (b : Bool). if b then Some SecondKeying else iikeying_cause u.startup a.chunk.payload from u.moment (full u) (group_at u (Startup setup.generation))) (keyed_false cut.front cut.others outset refl) ∙ bearing.cause
 
-  no_cause : chunk_cause u (Startup 0) walk from this ≡ None
-  no_cause = none_all (causes u (Startup 0) walk from this) (refl, (ap fault_in bearing.reads, (refl, (refl, (unkeyed_before, tt)))))
+  no_cause : chunk_cause u (Startup setup.generation) walk from this ≡ None
+  no_cause = none_all (causes u (Startup setup.generation) walk from this) (refl, (ap fault_in bearing.reads, (refl, (refl, (unkeyed_before, tt)))))
 
-  chunk_so : chunk_did (Startup 0) from draws walk u a.chunk ≡ initiator_keyed u from draws a.chunk.payload
-  chunk_so = ap (chunk_did (Startup 0) from draws walk u) this_is ∙ ap (λ (o : Option Cause). discarded_or u a.chunk.at o (initiator_keyed u from draws a.chunk.payload)) no_cause
+  chunk_so : chunk_did (Startup setup.generation) from draws walk u a.chunk ≡ initiator_keyed u (Startup setup.generation) from draws a.chunk.payload
+  chunk_so = ap (chunk_did (Startup setup.generation) from draws walk u) this_is ∙ ap (λ (o : Option Cause). discarded_or u a.chunk.at o (initiator_keyed u (Startup setup.generation) from draws a.chunk.payload)) no_cause
 
   abbrev later : List Entry
-  later = (chunks_did (Startup 0) from draws (walked walk a.chunk) (chunk_did (Startup 0) from draws walk u a.chunk).state cut.back).entries
+  later = (chunks_did (Startup setup.generation) from draws (walked walk a.chunk) (chunk_did (Startup setup.generation) from draws walk u a.chunk).state cut.back).entries
 
-  in_two : (chunks_did (Startup 0) from draws outset s gone).entries ≡ first.entries ++ ((chunk_did (Startup 0) from draws walk u a.chunk).entries ++ later)
+  in_two : (chunks_did (Startup setup.generation) from draws outset s gone).entries ≡ first.entries ++ ((chunk_did (Startup setup.generation) from draws walk u a.chunk).entries ++ later)
   in_two =
-      ap (λ (cs : List Placed). (chunks_did (Startup 0) from draws outset s cs).entries) cut.whole
-      ∙ gone_in_two (Startup 0) from draws outset cut.front a.chunk cut.back s
+      ap (λ (cs : List Placed). (chunks_did (Startup setup.generation) from draws outset s cs).entries) cut.whole
+      ∙ gone_in_two (Startup setup.generation) from draws outset cut.front a.chunk cut.back s
 
-  few_so : u.sealed ≤ s.sealed + outs_in (chunks_did (Startup 0) from draws outset s gone).entries
+  few_so : u.sealed ≤ s.sealed + outs_in (chunks_did (Startup setup.generation) from draws outset s gone).entries
   few_so =
-      omega (arith, chunks_made few_law few_begins (Startup 0) from draws outset s cut.front tt, ap outs_in in_two, outs_append first.entries ((chunk_did (Startup 0) from draws walk u a.chunk).entries ++ later))
+      omega (arith, chunks_made few_law few_begins (Startup setup.generation) from draws outset s cut.front tt, ap outs_in in_two, outs_append first.entries ((chunk_did (Startup setup.generation) from draws walk u a.chunk).entries ++ later))
 
-  bears : (u.sealed == last_count) ≡ false → (x : Joined) × IsOfOffer offer draws.nonce (facts_of told) x × IsBornAndTold setup from x (chunks_did (Startup 0) from draws outset s gone).entries
+  bears : (u.sealed == last_count) ≡ false → (x : Joined) × IsOfOffer offer draws.nonce (facts_of told) x × IsBornAndTold (own_secrets setup) setup from x (chunks_did (Startup setup.generation) from draws outset s gone).entries
   bears some =
       let x : Joined = j setup told u after_front.tied from draws a.chunk.payload keying bearing some in
       let made : Option Fact = way setup told u after_front.tied from draws a.chunk.payload keying bearing some in
       let went : List ℕ = sent setup told u after_front.tied from draws a.chunk.payload keying bearing some in
       let facts : List Entry = fact_entries made in
-      let both : List Entry = FactEntry (Born x) ∷ Out from went (StartupContext 0) ∷ [] in
+      let both : List Entry = FactEntry (Born x) ∷ Out from went (StartupContext setup.generation) ∷ [] in
       let counted : count (facts_of told) < 2 ^ 64 = after_front.tied.few in
       let started : u.startup.ledger.started ≡ count (facts_of told) = omega (arith, reads_started 0 u.startup.ledger (facts_of told) after_front.tied.account) in (
         x,
@@ -382,11 +395,11 @@ went_entries noted t u place from datagram draws (Stopped stop) entries packet g
 went_entries noted t u place from datagram draws OutOfMemory entries packet gone step at alone went = absurd went
 
 -- at the places without a session
-its_chunks_at_startup : (u : State) (from : AddressParts) (draws : Draws) → AddsItsChunks u (Startup 0) from draws
-its_chunks_at_startup u from draws = record { quiet = refl; unacked = λ d count. then_nothing d; untested = then_nothing; nothing_left = then_nothing }
+its_chunks_at_startup : (u : State) (generation : ℕ) (from : AddressParts) (draws : Draws) → AddsItsChunks u (Startup generation) from draws
+its_chunks_at_startup u generation from draws = record { quiet = refl; unacked = λ d count. then_nothing d; untested = then_nothing; nothing_left = then_nothing }
 
-its_chunks_at_attempt : (u : State) (near : ℕ) (from : AddressParts) (draws : Draws) → AddsItsChunks u (Attempt near 0) from draws
-its_chunks_at_attempt u _ from draws = record { quiet = refl; unacked = λ d count. then_nothing d; untested = then_nothing; nothing_left = then_nothing }
+its_chunks_at_attempt : (u : State) (near generation : ℕ) (from : AddressParts) (draws : Draws) → AddsItsChunks u (Attempt near generation) from draws
+its_chunks_at_attempt u near generation from draws = record { quiet = refl; unacked = λ d count. then_nothing d; untested = then_nothing; nothing_left = then_nothing }
 
 -- these are the first of the packet's chunks
 went_first : (answer : CallAnswer) (chunks gone : List Placed) → WentThrough answer chunks gone → (rest : List Placed) × (chunks ≡ gone ++ rest)
@@ -400,9 +413,18 @@ went_first (Stopped stop) chunks gone went = (drop stop.chunks chunks, sym (take
 went_first (NotAdded refusal) chunks gone went = absurd went
 went_first OutOfMemory chunks gone went = absurd went
 
+told_by : (setup : Setup) (secrets : Secrets) → Knows secrets setup → (to : AddressParts) (j : Joined) (entries : List Entry) → IsBornAndTold (own_secrets setup) setup to j entries → IsBornAndTold secrets setup to j entries
+told_by setup secrets knows to j entries told = record {
+  before = told.before;
+  sent = told.sent;
+  later = told.later;
+  are = told.are;
+  answers = answers_by setup (own_secrets setup) secrets (own_known setup) knows (at_initiator (own_of setup) j) told.sent told.answers;
+}
+
 pub admissible_keyings_bear : AdmissibleKeyingsBear
 unfolding cut
-admissible_keyings_bear setup log s t moment from datagram draws answer entries offer front gone is calls stands fits step a went behind other few =
+admissible_keyings_bear secrets setup log s t moment from datagram draws answer entries offer front gone knows is calls stands fits step a went behind other few =
     let past : Past = past_of 0 [] log in
     let said : LogIs setup [] (fresh setup) log s = log_is setup log s is calls stands in
     let noted : State = at_moment s moment in
@@ -412,15 +434,17 @@ admissible_keyings_bear setup log s t moment from datagram draws answer entries 
     let last : s.moment ≡ last_moment 0 log = said.moment in
     let now : ℕ = max (last_moment 0 log) moment in
     let at : noted.moment ≡ now = ap (λ (m : ℕ). max m moment) last in
+    let own : Admissible (own_secrets setup) setup (done_up_to setup log s moment from draws front) now from datagram offer =
+    admissible_by setup secrets (own_secrets setup) knows (own_known setup) (done_up_to setup log s moment from draws front) now from datagram offer a in
     let cut = went_first answer (chunks_of a.packet) gone went in
-    let so = admission_so setup past noted tied sent_so well from datagram draws offer now front a at is fits other gone cut.0 cut.1 behind in
-    let entries_are : entries ≡ (chunks_did (Startup 0) from draws outset noted gone).entries = went_entries noted t noted (Startup 0) from datagram draws answer entries a.packet gone step so (its_chunks_at_startup noted from draws) went in
-    let left : State = u setup past noted tied sent_so well from datagram draws offer now front a at is fits other gone cut.0 cut.1 behind in
-    let sealed_few : left.sealed ≤ noted.sealed + outs_in (chunks_did (Startup 0) from draws outset noted gone).entries =
-    few_so setup past noted tied sent_so well from datagram draws offer now front a at is fits other gone cut.0 cut.1 behind in
+    let so = admission_so setup past noted tied sent_so well from datagram draws offer now front own at is fits other gone cut.0 cut.1 behind in
+    let entries_are : entries ≡ (chunks_did (Startup setup.generation) from draws outset noted gone).entries = went_entries noted t noted (Startup setup.generation) from datagram draws answer entries a.packet gone step so (its_chunks_at_startup noted setup.generation from draws) went in
+    let left : State = u setup past noted tied sent_so well from datagram draws offer now front own at is fits other gone cut.0 cut.1 behind in
+    let sealed_few : left.sealed ≤ noted.sealed + outs_in (chunks_did (Startup setup.generation) from draws outset noted gone).entries =
+    few_so setup past noted tied sent_so well from datagram draws offer now front own at is fits other gone cut.0 cut.1 behind in
     let room : left.sealed < last_count = omega (arith, sealed_few, said.few, ap outs_in entries_are, few) in
-    let born = bears setup past noted tied sent_so well from datagram draws offer now front a at is fits other gone cut.0 cut.1 behind (less_is_other left.sealed last_count room) in
-    (born.0, born.1, subst (IsBornAndTold setup from born.0) (sym entries_are) born.2)
+    let born = bears setup past noted tied sent_so well from datagram draws offer now front own at is fits other gone cut.0 cut.1 behind (less_is_other left.sealed last_count room) in
+    (born.0, born.1, subst (IsBornAndTold secrets setup from born.0) (sym entries_are) (told_by setup secrets knows from born.0 (chunks_did (Startup setup.generation) from draws outset noted gone).entries born.2))
 
 -- ---- responders' keyings
 
@@ -428,22 +452,26 @@ module _ (s : State) (near : ℕ) (from : AddressParts) (draws : Draws) (c : Pla
   abbrev session : Joined
   session = record { peer = opens.peer; n = opens.n; near = near; far = opens.keying.near; ni = opens.a.ni; nr = opens.keying.part.nr; k = opens.keying.part.k }
 
+  -- the secret of the attempt
+  abbrev keeps : GroupSecret
+  keeps = attempt_group s.group (get s.startup.attempts near)
+
   abbrev kept : Row
-  kept = new_row (new_session session s.startup.ledger.own Initiator from s.startup.secret s.moment)
+  kept = new_row (new_session session s.startup.ledger.own Initiator from keeps.generation keeps.secret s.moment)
 
   opened_as : opened s.startup near c.payload ≡ Some (Opened session)
   opened_as = ap (λ o. opened_reading near o (responder_keying_in c.payload)) opens.there ∙ ap (opened_reading near (Some opens.a)) opens.reads ∙ ap (opened_by_aim near opens.keying opens.a.ni) opens.aims
 
   abbrev after_it : State
-  after_it = with_opened (with_startup s (after_opening s.startup near (Opened session))) (Opened session) from
+  after_it = with_opened (with_startup s (after_opening s.startup near (Opened session))) (Opened session) from keeps
 
   entries_are : (responder_keyed s near from c.payload).entries ≡ FactEntry (Opened session) ∷ (sent_by after_it near from (chunk_bytes (Ping [])) (Some kept)).entries
   entries_are =
-      ap (λ (o : Option Fact). (opening_done s near from o).entries) opened_as
+      ap (λ (o : Option Fact). (opening_done s near from keeps o).entries) opened_as
       ∙ ap (λ (o : Option Row). FactEntry (Opened session) ∷ (sent_by after_it near from (chunk_bytes (Ping [])) o).entries) (get_inserted s.sessions near kept)
 
   -- what goes out is a ping
-  is_ping : IsPing s.startup.secret (session_context (as_initiator s.startup.ledger.own session) true) session.far (session_datagram kept.session s.moment (chunk_bytes (Ping [])))
+  is_ping : IsPing keeps.secret (session_context keeps.generation (as_initiator s.startup.ledger.own session) true) session.far (session_datagram kept.session s.moment (chunk_bytes (Ping [])))
   is_ping = record {
     number = number_bytes (kept.session.sealed + 1);
     plain = session_packet kept.session s.moment (chunk_bytes (Ping []));
@@ -459,6 +487,8 @@ module _ (s : State) (near : ℕ) (from : AddressParts) (draws : Draws) (c : Pla
   opens_its_session entries before later e = record {
     attempt = opens.a;
     there = opens.there;
+    group = keeps;
+    group_is = ap (attempt_group s.group) opens.there;
     j = session;
     aim = opens.aims;
     ni = refl;
@@ -471,29 +501,29 @@ module _ (s : State) (near : ℕ) (from : AddressParts) (draws : Draws) (c : Pla
   }
 
 -- a keying that has no cause opens its session, whatever came before it
-one_opens : (s : State) (near : ℕ) (walk other : Walk) (from : AddressParts) (draws : Draws) (c : Placed) → c.kind ≡ 0x78 → chunk_cause s (Attempt near 0) walk from c ≡ None →
-    OpensAttempt s near c.payload × (chunk_did (Attempt near 0) from draws other s c ≡ responder_keyed s near from c.payload)
-one_opens s near walk other from draws c kind none =
-    let all = all_none (causes s (Attempt near 0) walk from c) none in
+one_opens : (s : State) (near generation : ℕ) (walk other : Walk) (from : AddressParts) (draws : Draws) (c : Placed) → c.kind ≡ 0x78 → chunk_cause s (Attempt near generation) walk from c ≡ None →
+    OpensAttempt s near c.payload × (chunk_did (Attempt near generation) from draws other s c ≡ responder_keyed s near from c.payload)
+one_opens s near generation walk other from draws c kind none =
+    let all = all_none (causes s (Attempt near generation) walk from c) none in
     let that : Placed = record { kind = 0x78; at = c.at; payload = c.payload } in
     let as_kind : ℕ → Placed = λ x. record { kind = x; at = c.at; payload = c.payload } in
     let is : c ≡ that = ap as_kind kind in
     let formed : fault_in (responder_keying_in c.payload) ≡ None = ap (λ (x : ℕ). form_cause walk.cursor x c.payload) (sym kind) ∙ all.1.0 in
     let read = read_ok (responder_keying_in c.payload) formed in
-    let last = ap (last_cause s (Attempt near 0) walk from) (sym is) ∙ all.1.1.1.1.0 in
-    let opens : OpensAttempt s near c.payload = opening_of s near c.payload read.0 read.1 last in
-    let no_cause : chunk_cause s (Attempt near 0) other from that ≡ None = ap (chunk_cause s (Attempt near 0) walk from) (sym is) ∙ none in
-    let did : chunk_did (Attempt near 0) from draws other s c ≡ responder_keyed s near from c.payload =
-    ap (chunk_did (Attempt near 0) from draws other s) is ∙ ap (λ (o : Option Cause). discarded_or s c.at o (responder_keyed s near from c.payload)) no_cause in
+    let last = ap (last_cause s (Attempt near generation) walk from) (sym is) ∙ all.1.1.1.1.0 in
+    let opens : OpensAttempt s near c.payload = opening_of s near generation c.payload read.0 read.1 last in
+    let no_cause : chunk_cause s (Attempt near generation) other from that ≡ None = ap (chunk_cause s (Attempt near generation) walk from) (sym is) ∙ none in
+    let did : chunk_did (Attempt near generation) from draws other s c ≡ responder_keyed s near from c.payload =
+    ap (chunk_did (Attempt near generation) from draws other s) is ∙ ap (λ (o : Option Cause). discarded_or s c.at o (responder_keyed s near from c.payload)) no_cause in
     (opens, did)
 
 pub keyings_without_cause_open : KeyingsWithoutCauseOpen
-keyings_without_cause_open s t u moment near from datagram draws answer entries packet front back c walk step at went kind none =
-    let v : State = (chunks_did (Attempt near 0) from draws outset u front).state in
-    let one = one_opens v near walk (walk_through outset front) from draws c kind none in
-    let later : List Entry = (chunks_did (Attempt near 0) from draws (walked (walk_through outset front) c) (chunk_did (Attempt near 0) from draws (walk_through outset front) v c).state back).entries in
-    let are : entries ≡ (chunks_did (Attempt near 0) from draws outset u front).entries ++ ((responder_keyed v near from c.payload).entries ++ later) =
-    went_entries (at_moment s moment) t u (Attempt near 0) from datagram draws answer entries packet (front ++ c ∷ back) step at (its_chunks_at_attempt u near from draws) went
-    ∙ gone_in_two (Attempt near 0) from draws outset front c back u
-    ∙ ap (λ (d : Did). (chunks_did (Attempt near 0) from draws outset u front).entries ++ (d.entries ++ later)) one.1 in
-    opens_its_session v near from draws c one.0 entries (chunks_did (Attempt near 0) from draws outset u front).entries later are
+keyings_without_cause_open s t u moment near generation from datagram draws answer entries packet front back c walk step at went kind none =
+    let v : State = (chunks_did (Attempt near generation) from draws outset u front).state in
+    let one = one_opens v near generation walk (walk_through outset front) from draws c kind none in
+    let later : List Entry = (chunks_did (Attempt near generation) from draws (walked (walk_through outset front) c) (chunk_did (Attempt near generation) from draws (walk_through outset front) v c).state back).entries in
+    let are : entries ≡ (chunks_did (Attempt near generation) from draws outset u front).entries ++ ((responder_keyed v near from c.payload).entries ++ later) =
+    went_entries (at_moment s moment) t u (Attempt near generation) from datagram draws answer entries packet (front ++ c ∷ back) step at (its_chunks_at_attempt u near generation from draws) went
+    ∙ gone_in_two (Attempt near generation) from draws outset front c back u
+    ∙ ap (λ (d : Did). (chunks_did (Attempt near generation) from draws outset u front).entries ++ (d.entries ++ later)) one.1 in
+    opens_its_session v near from draws c one.0 entries (chunks_did (Attempt near generation) from draws outset u front).entries later are

@@ -42,6 +42,8 @@ use Rattle.endpoint_laws.proofs.Agrees.{IsAt, held_row_is, found_of_session, no_
 use Rattle.endpoint_laws.proofs.Moving.{beside_fact, still_none, noted_matches, rows_after_known, knows_held, still_unsought}
 use Rattle.endpoint_laws.proofs.Facts.{stands_of}
 use Rattle.endpoint_laws.proofs.Going.{Keeps, Goes, goes_nothing}
+use Rattle.endpoint_laws.proofs.Kin.{one_still, kin_noted}
+use Rattle.endpoint_laws.proofs.Knowing.{own_secrets, own_known, opens_known, context_generation}
 
 -- The datagram opens in the session that stands under this session ID, if there is one.
 abbrev pub HeardIn : List ℕ → ℕ → Option Row → Type 0
@@ -108,7 +110,7 @@ module _ (setup : Setup) (from : AddressParts) (datagram : List ℕ) (draws : Dr
       let was = found_of_session s near row none there (ap is_held stage) ∙ ap (λ h. Some (j.peer, h)) was_thing in
       tied_of setup (now past) t
       (agrees_changed setup past (now past) s t near None (Some new) a
-      (record { config = a.given.config; cert = a.given.cert; secret = a.given.secret; cookie_secret = a.given.cookie_secret; own = a.given.own; max_peers = a.given.max_peers }) at
+      (record { config = a.given.config; cert = a.given.cert; one = one_still setup (with_startup s (with_ledger s.startup (noted s.startup.ledger fact))) t ((kin_noted s (noted s.startup.ledger fact) refl).one setup a.given.one) refl refl refl; cookie_secret = a.given.cookie_secret; own = a.given.own; max_peers = a.given.max_peers }) at
       (noted_matches s t fact near None (Some new) a.matches at refl
       (was ∙ sym (ap (of_peer j.peer) is))
       (held_row_is new now_held ∙ ap (λ h. Some (j.peer, h)) new_thing ∙ sym (ap (λ o. of_peer j.peer (confirmed_held o)) is))
@@ -136,11 +138,11 @@ module _ (setup : Setup) (from : AddressParts) (datagram : List ℕ) (draws : Dr
       let held_is : held_with s.startup.ledger j.peer ≡ Some (HalfOpen j) =
       is.thing (ap is_held half.1) ∙ ap (λ h. Some h) (ap (λ r. thing_of r row.session.stage j) half.0 ∙ ap (λ g. thing_of Responder g j) half.1) in
       let after = confirmed_tied past tied half.0 half.1 held_is in
-      let context : context_of row.session false ≡ inward (own_of setup) (HalfOpen j) = ap (λ g. context_between g j row.session.own row.session.role false) is.generation ∙ ap (λ r. context_between 0 j row.session.own r false) half.0
-      ∙ ap (λ own. context_between 0 j own Responder false) is.own in
+      let context : context_of row.session false ≡ inward setup (HalfOpen j) = ap (λ g. context_between g j row.session.own row.session.role false) is.generation ∙ ap (λ r. context_between setup.generation j row.session.own r false) half.0
+      ∙ ap (λ own. context_between setup.generation j own Responder false) is.own in
       let found = (opens_in_context setup.secret row.session is.keyed.towards (drop 4 datagram)).0 heard.1 in
-      let under : OpensUnder setup.secret (inward (own_of setup) (HalfOpen j)) j.near datagram found.0 =
-      subst (λ c. OpensUnder setup.secret c j.near datagram found.0) context (record { id = heard.0 ∙ sym is.id; opens = found.1 }) in
+      let under : OpensUnder (own_secrets setup) (inward setup (HalfOpen j)) j.near datagram found.0 =
+      subst (λ c. OpensUnder (own_secrets setup) c j.near datagram found.0) context (opens_known setup (own_secrets setup) (own_known setup) (context_of row.session false) (context_generation row.session.generation j row.session.own row.session.role false ∙ is.generation) j.near datagram found.0 (heard.0 ∙ sym is.id) found.1) in
       subst (λ o. Goes setup (Receive from datagram draws) past s (did o)) (sym held_is) (record {
         meets = (
           (

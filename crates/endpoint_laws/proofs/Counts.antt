@@ -31,6 +31,7 @@ use Rattle.endpoint_laws.proofs.Facts.{all_none, test_fails}
 use Rattle.endpoint_laws.proofs.Lines.{EntriesMeet, FactPart, CountPart, FactMeets, CountMeets}
 use Rattle.endpoint_laws.proofs.Tied.{Tied}
 use Rattle.endpoint_laws.proofs.Starting.{may_start}
+use Rattle.endpoint_laws.proofs.Knowing.{own_secrets}
 
 -- ---- entries that are no facts
 
@@ -49,14 +50,14 @@ abbrev IsNotOpen : Call → Type 0
 IsNotOpen call = open_in call ≡ None
 
 -- an attempt that answers a search has a number of 64 bits
-hello_counted : (setup : Setup) (past : Past) (peer : List ℕ) (n near : ℕ) (ni : List ℕ) (o : Option ReceiveCall) → TakesHelloIn setup past o peer n near ni → n < 2 ^ 64
+hello_counted : (setup : Setup) (past : Past) (peer : List ℕ) (n near : ℕ) (ni : List ℕ) (o : Option ReceiveCall) → TakesHelloIn (own_secrets setup) setup past o peer n near ni → n < 2 ^ 64
 hello_counted setup past peer n near ni None hello = absurd hello
 hello_counted setup past peer n near ni (Some r) hello = hello.number
 
 opens_none : (call : Call) (peer ni : List ℕ) → IsNotOpen call → Opens call peer ni → ⊥
 opens_none call peer ni other by = subst (λ (o : Option OpenCall). OpensIn o peer ni) other by
 
-fact_counted : (setup : Setup) (now : ℕ) (call : Call) (past : Past) (rest : List Entry) (fact : Fact) → IsNotOpen call → FactLine setup now call past rest fact → IsCounted fact
+fact_counted : (setup : Setup) (now : ℕ) (call : Call) (past : Past) (rest : List Entry) (fact : Fact) → IsNotOpen call → FactLine (own_secrets setup) setup now call past rest fact → IsCounted fact
 fact_counted setup now call past rest (Started peer n near ni) other (inl by_open) = absurd (opens_none call peer ni other by_open.0)
 fact_counted setup now call past rest (Started peer n near ni) other (inr hello) = hello_counted setup past peer n near ni (receive_in call) hello
 fact_counted setup now call past rest (Born j) other line = tt

@@ -9,7 +9,6 @@ use Rattle.rtmfp_chunks.specs.Chunk.{Chunk, Ping, RHello}
 use Rattle.cookies.specs.declared.CookieTest.{CookieTest}
 use Rattle.cookies.specs.declared.CookieTest.TheVariants.{Bad, Moved, Expired as Late, Current}
 use Rattle.cookies.specs.Cookie.{cookie_test}
-use Rattle.glare_core.specs.declared.facts.Fact.TheVariants.{Started, Born, Opened, Confirmed, Ended}
 use Rattle.glare_core.specs.declared.facts.Joined.{Joined}
 use Rattle.glare_core.specs.declared.facts.Held.{Held}
 use Rattle.glare_core.specs.declared.facts.Held.TheVariants.{Opening as OpeningHeld, HalfOpen, KeptAsResponder, KeptAsInitiator}
@@ -25,7 +24,7 @@ use Rattle.startup.specs.State.{AttemptState, StartupState, SpreadParts}
 use Rattle.sha2.specs.Sha256.{sha256}
 use Rattle.startup.specs.Attempts.{lowest, has_tag, answer_fact_as, answer_fact, rhello_keying, seek_spread, after_seek, begin_spread, after_begin}
 use Rattle.startup_packets.specs.Readings.{InitiatorKeying, ResponderKeying, initiator_keying_in, responder_keying_in}
-use Rattle.startup.specs.Keyings.{iikeying_cause, keying_of, repeated_session, again_or_birth, keyed_with, keyed_reading, after_keying, change_answer, session_answer, born_session, opened_as, opened_reading}
+use Rattle.startup.specs.Keyings.{iikeying_cause, keying_of, repeated_session, again_or_birth, keyed_with, keyed_reading, after_keying, change_answer, session_answer, born_session, opened_as, opened_reading, again_by, kept_answer}
 use Rattle.endpoint_model.specs.InSessions.{closing, tested as tested_at}
 use Rattle.rtmfp_chunks.specs.Writing.{chunk_bytes}
 use Rattle.glare_core.specs.declared.facts.Fact.{Fact}
@@ -44,7 +43,7 @@ use Rattle.endpoint_model.specs.FlowTimes.{all_late}
 use Rattle.endpoint_laws.specs.Past.{Past, OfEntry, last_call, stamped, begun, onto, past_of_log}
 use Rattle.endpoint_model.specs.State.{at_moment, State, full, Did, Does, nothing, then_do, fact_entries, with_startup, free_from}
 use Rattle.endpoint_model.specs.Sending.{sent_answer, sent_if}
-use Rattle.endpoint_model.specs.Admission.{Admission, Rejected, Admitted, admission, sid_at, confirming}
+use Rattle.endpoint_model.specs.Admission.{Admission, Rejected, Admitted, admission, sid_at, confirming, group_at, attempt_group}
 use Rattle.endpoint_model.specs.Keying.{chunks_of}
 use Rattle.endpoint_model.specs.Effects.{opening, seeking, unseeking, read_left, read_done, cancelling, ticks, keying_done, initiator_keyed, opening_done, responder_keyed, with_born, chunk_did, chunks_did, walked, received, part_received, outset, most_acks, walked_and_acked}
 use Rattle.endpoint_model.specs.Causes.{initiator_keying_cause}
@@ -55,6 +54,8 @@ use Rattle.rtmfp_data_chunks.specs.Fitting.{AreSmall}
 use Rattle.rtmfp_data_chunks.proofs.Fitting.{small_next}
 use Rattle.endpoint_laws.proofs.Small.{Sends, Quiet, stated_of, Any, All}
 use Rattle.endpoint_laws.proofs.Made.{all_law, answer_made, answered_made, spread_made, in_session_made, confirming_made, tested_made, acked_made, cancelling_made, closing_made, called_made, tick_all_made, chunk_by}
+use Rattle.crypto_profile.specs.declared.group.GroupSecret.{GroupSecret}
+use Rattle.startup.specs.declared.kept.KeptKeying.{KeptKeying}
 
 -- ---- the nonces among entries, in their order, by what of the call draws
 
@@ -94,7 +95,7 @@ module _ (seek : Option SeekCall) (by_open : Option OpenCall) where
   none_sends : Sends Any (λ s d. drawn_by seek by_open d.entries ≡ [])
   none_sends = record {
     steps = record { does_nothing = λ s. refl; and_then = λ s d e first later. none_after d.entries e.entries [] first later };
-    out = λ s to sid plain. refl;
+    out = λ s generation keys to sid plain. refl;
     out_in = λ s near row to body is carries. refl;
   }
 
@@ -147,46 +148,50 @@ none_way peer (Some (KeptAsInitiator j)) = refl
 
 -- ---- a keying of an initiator draws once
 
-once_again : (t : State) (s : StartupState) (from : AddressParts) (keying : Keying) (near : ℕ) (nonce : List ℕ) (o : Option Joined) →
-    OneDraw nonce (plain (keying_done t from (Some (again_or_birth s keying from near nonce o))).entries)
-once_again t s from keying near nonce (Some j) = inl (none_answer t (session_answer s j from))
-once_again t s from keying near nonce None =
+none_again : (t : State) (s : StartupState) (from : AddressParts) (g : GroupSecret) (j : Joined) (kept : Option KeptKeying) → plain (keying_done t from g (again_by s j from kept)).entries ≡ []
+none_again t s from g j None = refl
+none_again t s from g j (Some kept) = none_answer t (kept_answer s j from kept)
+
+once_again : (t : State) (s : StartupState) (from : AddressParts) (keying : Keying) (near : ℕ) (nonce : List ℕ) (g : GroupSecret) (o : Option Joined) →
+    OneDraw nonce (plain (keying_done t from g (again_or_birth s keying from near nonce g o)).entries)
+once_again t s from keying near nonce g (Some j) = inl (none_again t s from g j (get s.kept keying.peer))
+once_again t s from keying near nonce g None =
     let ended : List Entry = fact_entries (way_made keying.peer (held_with s.ledger keying.peer)) in
     let born : List Entry = FactEntry (born_fact s.ledger keying near nonce) ∷ [] in
-    let u : State = with_born t (way_made keying.peer (held_with s.ledger keying.peer)) (born_fact s.ledger keying near nonce) from in
-    let answer : Answer = session_answer s (born_session s.ledger keying near nonce) from in
+    let u : State = with_born t (way_made keying.peer (held_with s.ledger keying.peer)) (born_fact s.ledger keying near nonce) from g in
+    let answer : Answer = session_answer s (born_session s.ledger keying near nonce) from g in
     once_before None None nonce (ended ++ born) (sent_answer u answer).entries (inr (none_after None None ended born (nonce ∷ []) (none_way keying.peer (held_with s.ledger keying.peer)) refl)) (none_answer u answer)
 
-once_tested : (t : State) (s : StartupState) (from : AddressParts) (now near : ℕ) (nonce : List ℕ) (keying : InitiatorKeying) (test : CookieTest) →
-    OneDraw nonce (plain (keying_done t from (Some (keyed_with s from now near nonce keying test))).entries)
-once_tested t s from now near nonce keying Bad = inl (none_answer t (change_answer s keying from now))
-once_tested t s from now near nonce keying Moved = inl (none_answer t (change_answer s keying from now))
-once_tested t s from now near nonce keying Late = inl (none_answer t (change_answer s keying from now))
-once_tested t s from now near nonce keying Current =
-    once_again t s from (keying_of keying) near nonce (repeated_session (held_with s.ledger (keying_of keying).peer) (keying_of keying))
+once_tested : (t : State) (s : StartupState) (from : AddressParts) (now near : ℕ) (nonce : List ℕ) (g : GroupSecret) (keying : InitiatorKeying) (test : CookieTest) →
+    OneDraw nonce (plain (keying_done t from g (keyed_with s from now near nonce g keying test)).entries)
+once_tested t s from now near nonce g keying Bad = inl (none_answer t (change_answer s keying from now g))
+once_tested t s from now near nonce g keying Moved = inl (none_answer t (change_answer s keying from now g))
+once_tested t s from now near nonce g keying Late = inl (none_answer t (change_answer s keying from now g))
+once_tested t s from now near nonce g keying Current =
+    once_again t s from (keying_of keying) near nonce g (repeated_session (held_with s.ledger (keying_of keying).peer) (keying_of keying))
 
-once_read : (t : State) (s : StartupState) (from : AddressParts) (now near : ℕ) (nonce : List ℕ) (r : Result InitiatorKeying Cause) →
-    OneDraw nonce (plain (keying_done t from (keyed_reading s from now near nonce r)).entries)
-once_read t s from now near nonce (Ok keying) = once_tested t s from now near nonce keying (cookie_test s.cookie_secret keying.cookie from now)
-once_read t s from now near nonce (Err cause) = inl refl
+once_read : (t : State) (s : StartupState) (from : AddressParts) (now near : ℕ) (nonce : List ℕ) (g : GroupSecret) (r : Result InitiatorKeying Cause) →
+    OneDraw nonce (plain (keying_done t from g (keyed_reading s from now near nonce g r)).entries)
+once_read t s from now near nonce g (Ok keying) = once_tested t s from now near nonce g keying (cookie_test s.cookie_secret keying.cookie from now)
+once_read t s from now near nonce g (Err cause) = inl refl
 
-once_keyed : (s : State) (from : AddressParts) (draws : Draws) (payload : List ℕ) → OneDraw draws.nonce (plain (initiator_keyed s from draws payload).entries)
-once_keyed s from draws payload =
-    once_read (with_startup s (after_keying s.startup payload from s.moment (free_from s draws.word) draws.nonce)) s.startup from s.moment (free_from s draws.word) draws.nonce (initiator_keying_in payload)
+once_keyed : (s : State) (place : Place) (from : AddressParts) (draws : Draws) (payload : List ℕ) → OneDraw draws.nonce (plain (initiator_keyed s place from draws payload).entries)
+once_keyed s place from draws payload =
+    once_read (with_startup s (after_keying s.startup payload from s.moment (free_from s draws.word) draws.nonce (group_at s place))) s.startup from s.moment (free_from s draws.word) draws.nonce (group_at s place) (initiator_keying_in payload)
 
 -- ---- the other chunks draw none
 
-none_opening_as : (s : State) (near : ℕ) (from : AddressParts) (keying : ResponderKeying) (ni : List ℕ) (aim : Aim) → plain (opening_done s near from (opened_as near keying ni aim)).entries ≡ []
-none_opening_as s near from keying ni (AtPeer peer n) = in_session_made none_quiet.sends _ near from (chunk_bytes (Ping [])) tt
-none_opening_as s near from keying ni (ByName name) = refl
+none_opening_as : (s : State) (near : ℕ) (from : AddressParts) (g : GroupSecret) (keying : ResponderKeying) (ni : List ℕ) (aim : Aim) → plain (opening_done s near from g (opened_as near keying ni aim)).entries ≡ []
+none_opening_as s near from g keying ni (AtPeer peer n) = in_session_made none_quiet.sends _ near from (chunk_bytes (Ping [])) tt
+none_opening_as s near from g keying ni (ByName name) = refl
 
-none_opening : (s : State) (near : ℕ) (from : AddressParts) (o : Option AttemptState) (r : Result ResponderKeying Cause) → plain (opening_done s near from (opened_reading near o r)).entries ≡ []
-none_opening s near from None r = refl
-none_opening s near from (Some a) (Err cause) = refl
-none_opening s near from (Some a) (Ok keying) = none_opening_as s near from keying a.ni a.aim
+none_opening : (s : State) (near : ℕ) (from : AddressParts) (g : GroupSecret) (o : Option AttemptState) (r : Result ResponderKeying Cause) → plain (opening_done s near from g (opened_reading near o r)).entries ≡ []
+none_opening s near from g None r = refl
+none_opening s near from g (Some a) (Err cause) = refl
+none_opening s near from g (Some a) (Ok keying) = none_opening_as s near from g keying a.ni a.aim
 
 none_responder : (s : State) (near : ℕ) (from : AddressParts) (payload : List ℕ) → plain (responder_keyed s near from payload).entries ≡ []
-none_responder s near from payload = none_opening s near from (get s.startup.attempts near) (responder_keying_in payload)
+none_responder s near from payload = none_opening s near from (attempt_group s.group (get s.startup.attempts near)) (get s.startup.attempts near) (responder_keying_in payload)
 
 -- a search that becomes an attempt was drawn for by its seek
 none_answer_as : (s : StartupState) (print : List ℕ) (near : ℕ) (ni : List ℕ) (aim : Aim) → plain (fact_entries (answer_fact_as s print near ni aim)) ≡ []
@@ -202,13 +207,13 @@ none_hello s place from tag cookie cert =
     let o : Option (ℕ × AttemptState) = lowest (has_tag tag) s.startup.attempts in
     let read : Result Chunk ChunkFault = Ok (RHello tag cookie cert) in
     let t : State = read_left s place from read in
-    none_after None None (fact_entries (answer_fact s.startup (sha256 cert) o)) (sent_if t (rhello_keying s.startup tag cookie cert from)).entries [] (none_answer_fact s.startup (sha256 cert) o)
-    (answered_made none_quiet.sends t (rhello_keying s.startup tag cookie cert from))
+    none_after None None (fact_entries (answer_fact s.startup (sha256 cert) o)) (sent_if t (rhello_keying s.startup tag cookie cert from (group_at s place))).entries [] (none_answer_fact s.startup (sha256 cert) o)
+    (answered_made none_quiet.sends t (rhello_keying s.startup tag cookie cert from (group_at s place)))
 
 -- a keying after another one isn't without a cause
-not_second : (s : State) (walk : Walk) (from : AddressParts) (payload : List ℕ) → walk.keyed ≡ true → initiator_keying_cause s walk from payload ≡ None → ⊥
-not_second s walk from payload keyed none =
-    let clash : Some SecondKeying ≡ None = sym (ap (λ (b : Bool). if b then Some SecondKeying else iikeying_cause s.startup payload from s.moment (full s)) keyed) ∙ none in cc
+not_second : (s : State) (place : Place) (walk : Walk) (from : AddressParts) (payload : List ℕ) → walk.keyed ≡ true → initiator_keying_cause s place walk from payload ≡ None → ⊥
+not_second s place walk from payload keyed none =
+    let clash : Some SecondKeying ≡ None = sym (ap (λ (b : Bool). if b then Some SecondKeying else iikeying_cause s.startup payload from s.moment (full s) (group_at s place)) keyed) ∙ none in cc
 
 or_either : (a b : Bool) → (a ≡ true) ⊎ (b ≡ true) → (a || b) ≡ true
 or_either true b e = refl
@@ -217,19 +222,19 @@ or_either false b (inr e) = e
 
 module _ (place : Place) (from : AddressParts) (draws : Draws) where
   -- a chunk that is no keying, or comes after one
-  none_chunk : (s : State) (walk : Walk) (c : Placed) → AreSmall walk.cursor → (c.kind ≡ 0x38 → initiator_keying_cause s walk from c.payload ≡ None → ⊥) → plain (chunk_did place from draws walk s c).entries ≡ []
+  none_chunk : (s : State) (walk : Walk) (c : Placed) → AreSmall walk.cursor → (c.kind ≡ 0x38 → initiator_keying_cause s place walk from c.payload ≡ None → ⊥) → plain (chunk_did place from draws walk s c).entries ≡ []
   none_chunk s walk c small other =
       chunk_by none_law (λ d. plain d.entries ≡ []) place from draws walk s c small (λ d none. none) (λ kind taken none. absurd (other kind none)) (λ taken. none_responder s (sid_at place) from c.payload) (λ tag cookie cert is taken. none_hello s place from tag cookie cert)
 
   none_later : (s : State) (walk : Walk) (c : Placed) → AreSmall walk.cursor → walk.keyed ≡ true → plain (chunk_did place from draws walk s c).entries ≡ []
-  none_later s walk c small keyed = none_chunk s walk c small (λ kind none. not_second s walk from c.payload keyed none)
+  none_later s walk c small keyed = none_chunk s walk c small (λ kind none. not_second s place walk from c.payload keyed none)
 
   none_other : (s : State) (walk : Walk) (c : Placed) → AreSmall walk.cursor → (c.kind == 0x38) ≡ false → plain (chunk_did place from draws walk s c).entries ≡ []
   none_other s walk c small other = none_chunk s walk c small (λ kind none. let clash : true ≡ false = ap (λ (k : ℕ). k == 0x38) (sym kind) ∙ other in cc)
 
   once_chunk : (s : State) (walk : Walk) (c : Placed) → AreSmall walk.cursor → OneDraw draws.nonce (plain (chunk_did place from draws walk s c).entries)
   once_chunk s walk c small =
-      chunk_by none_law (λ d. OneDraw draws.nonce (plain d.entries)) place from draws walk s c small (λ d none. inl none) (λ kind taken none. once_keyed s from draws c.payload) (λ taken. inl (none_responder s (sid_at place) from c.payload)) (λ tag cookie cert is taken. inl (none_hello s place from tag cookie cert))
+      chunk_by none_law (λ d. OneDraw draws.nonce (plain d.entries)) place from draws walk s c small (λ d none. inl none) (λ kind taken none. once_keyed s place from draws c.payload) (λ taken. inl (none_responder s (sid_at place) from c.payload)) (λ tag cookie cert is taken. inl (none_hello s place from tag cookie cert))
 
   -- ---- the chunks of a datagram
 

@@ -14,6 +14,7 @@ use Rattle.endpoint_laws.specs.Lawful.{Opens, OpensIn, TakesHello, TakesHelloIn,
 use Rattle.endpoint_laws.specs.History.{Happened, History, log_of, past_at, AreLawful, nonces_in}
 use Rattle.endpoint_laws.specs.Draws.{open_draws, seek_draws, draws_in, draws_done, draws_of, drawn_in, WhatIsDrawnOnceIsStatedOnce}
 use Rattle.endpoint_laws.proofs.StatedFacts.{past_more, lawful_more}
+use Rattle.endpoint_laws.specs.Contexts.{Secrets}
 
 abbrev Nonces : Type 0
 Nonces = List (List ℕ)
@@ -125,12 +126,12 @@ drawn_and_sought x near drawn past now same before new d = record {
 
 -- ---- an entry
 
-module _ (setup : Setup) (now : ℕ) (call : Call) (past : Past) (rest : List Entry) (drawn : Nonces) where
+module _ (secrets : Secrets) (setup : Setup) (now : ℕ) (call : Call) (past : Past) (rest : List Entry) (drawn : Nonces) where
   abbrev After : Entry → Type 0
   After entry = AllDifferent (draws_in call entry ++ drawn) → Drawn drawn past → Drawn (draws_in call entry ++ drawn) (stamped now entry ∷ past)
 
   -- an attempt
-  started : (peer : List ℕ) (n near : ℕ) (ni : List ℕ) → Opens call peer ni ⊎ TakesHello setup past call peer n near ni → After (FactEntry (Started peer n near ni))
+  started : (peer : List ℕ) (n near : ℕ) (ni : List ℕ) → Opens call peer ni ⊎ TakesHello secrets setup past call peer n near ni → After (FactEntry (Started peer n near ni))
   started peer n near ni line new d = by (open_in call) line new
     where
       next : Past
@@ -140,15 +141,15 @@ module _ (setup : Setup) (now : ℕ) (call : Call) (past : Past) (rest : List En
       gone other what when (inl own) = absurd own.0
       gone other what when (inr old) = (old.1, old.2)
 
-      taken : (o : Option ReceiveCall) → TakesHelloIn setup past o peer n near ni → Drawn drawn next
+      taken : (o : Option ReceiveCall) → TakesHelloIn secrets setup past o peer n near ni → Drawn drawn next
       taken None hello = absurd hello
       taken (Some r) hello = sought_and_stated ni near (record { name = drop 16 hello.cert; tag = hello.tag; ni = ni }) hello.at drawn past next refl hello.stands refl gone d
 
-      clashes : (o : Option ReceiveCall) → TakesHelloIn setup past o peer n near ni → (Among ni drawn → ⊥) → ⊥
+      clashes : (o : Option ReceiveCall) → TakesHelloIn secrets setup past o peer n near ni → (Among ni drawn → ⊥) → ⊥
       clashes None hello none = absurd hello
       clashes (Some r) hello none = none (d.sought near (record { name = drop 16 hello.cert; tag = hello.tag; ni = ni }) hello.at hello.stands)
 
-      by : (o : Option OpenCall) → OpensIn o peer ni ⊎ TakesHello setup past call peer n near ni → AllDifferent (open_draws o ni ++ drawn) → Drawn (open_draws o ni ++ drawn) next
+      by : (o : Option OpenCall) → OpensIn o peer ni ⊎ TakesHello secrets setup past call peer n near ni → AllDifferent (open_draws o ni ++ drawn) → Drawn (open_draws o ni ++ drawn) next
       by None (inl opens) new = absurd opens
       by None (inr hello) new = taken (receive_in call) hello
       by (Some o) (inl opens) new = drawn_and_stated ni drawn past next refl (λ other what when s. (gone other what when s).1) new.0 d
@@ -171,7 +172,7 @@ module _ (setup : Setup) (now : ℕ) (call : Call) (past : Past) (rest : List En
         | inr old ↦ inr old.2
       ]) new.0 d
 
-  entry_drawn : (entry : Entry) → Line setup now call past rest entry → last_call past ≡ Some call → After entry
+  entry_drawn : (entry : Entry) → Line secrets setup now call past rest entry → last_call past ≡ Some call → After entry
   entry_drawn (FactEntry (Started peer n near ni)) line last new d = started peer n near ni (elim line.1 [ inl by_open ↦ inl by_open.0 | inr hello ↦ inr hello ]) new d
   entry_drawn (FactEntry (Born j)) line last new d =
       drawn_and_stated j.nr drawn past (stamped now (FactEntry (Born j)) ∷ past) refl (λ near which at s. elim s [ inl own ↦ absurd own.0 | inr old ↦ old.2 ]) new.0 d
@@ -191,27 +192,27 @@ Kept past = AllDifferent (draws_of past) → Drawn (draws_of past) past
 kept_begun : (now : ℕ) (e : Event) (past : Past) → Kept past → Kept (begun now e ∷ past)
 kept_begun now e past kept new = still (draws_of past) past (begun now e ∷ past) refl (λ near which at s. elim s [ inl own ↦ absurd own.0 | inr old ↦ old.2 ]) (kept new)
 
-kept_entry : (setup : Setup) (now : ℕ) (call : Call) (past : Past) (rest : List Entry) (entry : Entry) → Line setup now call past rest entry → last_call past ≡ Some call → Kept past → Kept (stamped now entry ∷ past)
-kept_entry setup now call past rest entry line last kept new =
+kept_entry : (secrets : Secrets) (setup : Setup) (now : ℕ) (call : Call) (past : Past) (rest : List Entry) (entry : Entry) → Line secrets setup now call past rest entry → last_call past ≡ Some call → Kept past → Kept (stamped now entry ∷ past)
+kept_entry secrets setup now call past rest entry line last kept new =
     let same : draws_of (stamped now entry ∷ past) ≡ draws_in call entry ++ draws_of past = ap (λ (c : Option Call). draws_done (OfEntry entry) c ++ draws_of past) last in
     let fresh : AllDifferent (draws_in call entry ++ draws_of past) = subst AllDifferent same new in
-    subst (λ (drawn : Nonces). Drawn drawn (stamped now entry ∷ past)) (sym same) (entry_drawn setup now call past rest (draws_of past) entry line last fresh (kept (different_right (draws_in call entry) (draws_of past) fresh)))
+    subst (λ (drawn : Nonces). Drawn drawn (stamped now entry ∷ past)) (sym same) (entry_drawn secrets setup now call past rest (draws_of past) entry line last fresh (kept (different_right (draws_in call entry) (draws_of past) fresh)))
 
-kept_entries : (setup : Setup) (now : ℕ) (call : Call) (past : Past) (entries : List Entry) → EntriesLawful setup now call past entries → last_call past ≡ Some call → Kept past → Kept (onto now entries past)
-kept_entries setup now call past [] lawful last kept = kept
-kept_entries setup now call past (entry ∷ rest) lawful last kept = kept_entries setup now call (stamped now entry ∷ past) rest lawful.1 last (kept_entry setup now call past rest entry lawful.0 last kept)
+kept_entries : (secrets : Secrets) (setup : Setup) (now : ℕ) (call : Call) (past : Past) (entries : List Entry) → EntriesLawful secrets setup now call past entries → last_call past ≡ Some call → Kept past → Kept (onto now entries past)
+kept_entries secrets setup now call past [] lawful last kept = kept
+kept_entries secrets setup now call past (entry ∷ rest) lawful last kept = kept_entries secrets setup now call (stamped now entry ∷ past) rest lawful.1 last (kept_entry secrets setup now call past rest entry lawful.0 last kept)
 
-kept_log : (setup : Setup) (last : ℕ) (past : Past) (log : List Event) → LawfulFrom setup last past log → Kept past → Kept (past_of last past log)
-kept_log setup last past [] lawful kept = kept
-kept_log setup last past (e ∷ log) lawful kept =
+kept_log : (secrets : Secrets) (setup : Setup) (last : ℕ) (past : Past) (log : List Event) → LawfulFrom secrets setup last past log → Kept past → Kept (past_of last past log)
+kept_log secrets setup last past [] lawful kept = kept
+kept_log secrets setup last past (e ∷ log) lawful kept =
     let now : ℕ = moment_at last e in
-    kept_log setup now (with_event now e past) log lawful.1 (kept_entries setup now e.call (begun now e ∷ past) e.entries lawful.0 refl (kept_begun now e past kept))
+    kept_log secrets setup now (with_event now e past) log lawful.1 (kept_entries secrets setup now e.call (begun now e ∷ past) e.entries lawful.0 refl (kept_begun now e past kept))
 
 none_drawn : Kept []
 none_drawn new = record { stated = λ x a. a; sought = λ near which at s. absurd s; pending = λ near which at s. absurd s; one = λ near other which what at when s. absurd s; different = tt }
 
-drawn_of_log : (setup : Setup) (log : List Event) → IsLawful setup log → Kept (past_of 0 [] log)
-drawn_of_log setup log lawful = kept_log setup 0 [] log lawful none_drawn
+drawn_of_log : (secrets : Secrets) (setup : Setup) (log : List Event) → IsLawful secrets setup log → Kept (past_of 0 [] log)
+drawn_of_log secrets setup log lawful = kept_log secrets setup 0 [] log lawful none_drawn
 
 -- ---- many ends
 
@@ -333,21 +334,21 @@ stated_by (h ∷ earlier) x a = elim (among_either x (nonces_of (facts_of (alone
       ])
 ]
 
-lawful_before : (ends : ℕ → Setup) (h : Happened) (earlier : History) → AreLawful ends (h ∷ earlier) → AreLawful ends earlier
-lawful_before ends h earlier are who = go (h.who == who) (are who)
+lawful_before : (secrets : Secrets) (ends : ℕ → Setup) (h : Happened) (earlier : History) → AreLawful secrets ends (h ∷ earlier) → AreLawful secrets ends earlier
+lawful_before secrets ends h earlier are who = go (h.who == who) (are who)
   where
-    go : (b : Bool) → IsLawful (ends who) (if b then log_of who earlier ++ h.event ∷ [] else log_of who earlier) → IsLawful (ends who) (log_of who earlier)
-    go true l = (lawful_more (ends who) 0 [] (log_of who earlier) h.event l).before
+    go : (b : Bool) → IsLawful secrets (ends who) (if b then log_of who earlier ++ h.event ∷ [] else log_of who earlier) → IsLawful secrets (ends who) (log_of who earlier)
+    go true l = (lawful_more secrets (ends who) 0 [] (log_of who earlier) h.event l).before
     go false l = l
 
 pub what_is_drawn_once : WhatIsDrawnOnceIsStatedOnce
-what_is_drawn_once ends [] lawful d = tt
-what_is_drawn_once ends (h ∷ earlier) lawful d = elim (tested h.who h.who) [
+what_is_drawn_once secrets ends [] lawful d = tt
+what_is_drawn_once secrets ends (h ∷ earlier) lawful d = elim (tested h.who h.who) [
   | inl is ↦
       (let here = of_end h.who in
       let both : AllDifferent (own ++ nonces_of (facts_of (past_at h.who earlier))) = subst AllDifferent (nonces_here h earlier h.who is.1) here.different in
       different_both own (nonces_in earlier) (different_left own (nonces_of (facts_of (past_at h.who earlier))) both)
-      (what_is_drawn_once ends earlier (lawful_before ends h earlier lawful) (different_right (draws_of (alone_of h.event)) (drawn_in earlier) d))
+      (what_is_drawn_once secrets ends earlier (lawful_before secrets ends h earlier lawful) (different_right (draws_of (alone_of h.event)) (drawn_in earlier) d))
       (λ x a b. clash is.1 both x a (stated_by earlier x b)))
   | inr not ↦ absurd (not.0 refl)
 ]
@@ -356,7 +357,7 @@ what_is_drawn_once ends (h ∷ earlier) lawful d = elim (tested h.who h.who) [
     own = nonces_of (facts_of (alone_of h.event))
 
     of_end : (who : ℕ) → Drawn (draws_of (past_at who (h ∷ earlier))) (past_at who (h ∷ earlier))
-    of_end who = drawn_of_log (ends who) (log_of who (h ∷ earlier)) (lawful who) (each_different who (h ∷ earlier) d)
+    of_end who = drawn_of_log secrets (ends who) (log_of who (h ∷ earlier)) (lawful who) (each_different who (h ∷ earlier) d)
 
     clash : (h.who == h.who) ≡ true → AllDifferent (own ++ nonces_of (facts_of (past_at h.who earlier))) → (x : List ℕ) → Among x own → (who : ℕ) × Among x (nonces_of (facts_of (past_at who earlier))) → ⊥
     clash is both x a by = elim (tested h.who by.0) [

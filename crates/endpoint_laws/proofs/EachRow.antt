@@ -115,7 +115,7 @@ module _ (P : ℕ → FlowsState → Type 0) where
           does_nothing = λ s each. each;
           and_then = λ s d e first later each. later (first each);
         };
-        out = λ s to sid plain each. each;
+        out = λ s generation keys to sid plain each. each;
         out_in = λ s near row to body is carries.
             keeps_put s near row (record row { session = after_seal row.session }) is refl;
       };
@@ -151,7 +151,7 @@ module _ (P : ℕ → FlowsState → Type 0) where
       steps = each_quiet.sends.steps;
       starts = λ s startup peer n near ni kin each. each;
       seeks = λ s startup near name kin each. each;
-      bears = λ s peer o j from each. put (without_ended s.sessions (way_made peer o)) j.near _
+      bears = λ s generation peer o j from each. put (without_ended s.sessions (way_made peer o)) j.near _
           (kept.none j.near) (ended_left s.sessions (way_made peer o) each);
       opens = λ s startup j from kin each. put s.sessions j.near _ (kept.none j.near) each;
     }

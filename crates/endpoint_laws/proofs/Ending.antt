@@ -22,13 +22,12 @@ use Rattle.startup.specs.declared.aim.Aim.{Aim}
 use Rattle.startup.specs.declared.aim.Aim.TheVariants.{AtPeer, ByName}
 use Rattle.startup.specs.Aims.{IsHeldAs, is_numbered, end_of_aim}
 use Rattle.startup.specs.State.{AttemptState}
-use Rattle.startup.specs.Attempts.{lowest, has_number, with_attempt, without_attempt, without_attempt_by, end_of, after_end_of, is_search_in, has_search, after_unseek}
+use Rattle.startup.specs.Attempts.{lowest, has_number, with_attempt, without_attempt, without_attempt_by, end_of, after_end_of}
 use Rattle.startup.specs.declared.answer.Due.{Due}
 use Rattle.startup.specs.declared.answer.Due.TheVariants.{Ended as EndDue, Hello as HelloDue, Keying as KeyingDue, Unsought as UnsoughtDue}
 use Rattle.startup.specs.declared.attempt.Stage.{Stage}
 use Rattle.startup.specs.declared.attempt.Stage.TheVariants.{Hello, Keying}
-use Rattle.crypto_profile.specs.Keys.{sign_key_of}
-use Rattle.startup.specs.Due.{repeat_signed, repeat_of, is_over, repeated}
+use Rattle.startup.specs.Due.{repeat_under, repeat_of, is_over, repeated}
 use Rattle.endpoint_model.specs.declared.row.Row.{Row}
 use Rattle.endpoint_model.specs.declared.entry.Entry.TheVariants.{Fact as FactEntry}
 use Rattle.endpoint_model.specs.Event.{Setup, Call, Cancel, own_of}
@@ -45,6 +44,7 @@ use Rattle.endpoint_laws.proofs.Moving.{beside_fact, still_none, noted_matches, 
 use Rattle.endpoint_laws.proofs.Facts.{stands_of}
 use Rattle.endpoint_laws.proofs.Made.{answer_made, spread_made}
 use Rattle.endpoint_laws.proofs.Going.{Keeps, goes_nothing, goes_then, goes_sends}
+use Rattle.endpoint_laws.proofs.Kin.{kin_without, kin_repeat}
 
 -- what the end of what is held gives
 pub gave_end : (l : Ledger) (peer : List ℕ) (thing : Held) (why : Why) → held_with l peer ≡ Some thing → MayEnd why thing → Gave l (Ended peer (near_of thing) why ∷ []) (noted l (Ended peer (near_of thing) why))
@@ -107,7 +107,7 @@ module _ (setup : Setup) (past : Past) (s : State) (tied : Tied setup past s) (n
       } in
       tied_of setup now left
       (agrees_changed setup past now s left near None None g
-      (record { config = g.given.config; cert = g.given.cert; secret = g.given.secret; cookie_secret = g.given.cookie_secret; own = g.given.own; max_peers = g.given.max_peers }) at
+      (record { config = g.given.config; cert = g.given.cert; one = (kin_without s near (Some the_end)).one setup g.given.one; cookie_secret = g.given.cookie_secret; own = g.given.own; max_peers = g.given.max_peers }) at
       (noted_matches s left the_end near None None g.matches at refl (was ∙ sym (ap (of_peer peer) is)) refl (λ h e. absurd (cc)))
       tt (beside_fact near s.moment past the_end refl) (still_none setup past s g near _ _ was s.moment the_end (attempt_opens why n near a.ni may) None)
       (still_unsought past near s.moment the_end (none_searches setup past s g near _ _ was) None)
@@ -214,13 +214,13 @@ module _ (setup : Setup) (call : Call) (is_tick : IsTick call) (s : State) where
   repeat_keeps (KeyingDue answer) t sends = answer_made (goes_sends setup call) t answer
   repeat_keeps (UnsoughtDue near) t sends = absurd sends
 
-  repeat_sends : (key : List ℕ) (near : ℕ) (a : AttemptState) (stage : Stage) → IsSending (repeat_signed key s.startup.cert near a stage)
-  repeat_sends key near a Hello = tt
-  repeat_sends key near a (Keying at cookie) = tt
+  repeat_sends : (near : ℕ) (a : AttemptState) (stage : Stage) → IsSending (repeat_under s.startup.cert near a stage)
+  repeat_sends near a Hello = tt
+  repeat_sends near a (Keying at cookie under) = tt
 
   pub tick_repeat : (e : ℕ × AttemptState) → get s.startup.attempts e.0 ≡ Some e.1 →
       Keeps setup call s (due_done (with_startup s (with_attempt s.startup e.0 (repeated e.1 s.moment))) (repeat_of s.startup e.0 e.1))
   tick_repeat e there =
       let due : Due = repeat_of s.startup e.0 e.1 in
       let t : State = with_startup s (with_attempt s.startup e.0 (repeated e.1 s.moment)) in
-      from (λ u. due_done u due) t refl (λ past tied. tied_attempt setup past s e.0 e.1 (repeated e.1 s.moment) tied there refl (λ w. w) (tied.sound.stages e.0 e.1 there) (λ which at kept. kept)) (repeat_keeps due t (repeat_sends (sign_key_of s.startup.secret) e.0 e.1 e.1.stage))
+      from (λ u. due_done u due) t refl (λ past tied. tied_attempt setup past s e.0 e.1 (repeated e.1 s.moment) tied there refl (λ w. w) (tied.sound.stages e.0 e.1 there) (λ which at kept. kept) (kin_repeat s e there s.moment)) (repeat_keeps due t (repeat_sends e.0 e.1 e.1.stage))

@@ -20,7 +20,7 @@ use Rattle.endpoint_laws.specs.Past.{Past, stamped, facts_of, fact_and, onto, Cl
 use Rattle.endpoint_laws.specs.Lawful.{FactLine, IsCounted, EntriesLawful}
 use Rattle.endpoint_laws.specs.History.{HasOut, IsOut}
 use Rattle.endpoint_laws.specs.Laws.{IsCall}
-use Rattle.endpoint_laws.specs.Agreed.{stated_onto, stated_on, no_generation}
+use Rattle.endpoint_laws.specs.Agreed.{stated_onto, stated_on}
 use Rattle.endpoint_laws.proofs.FactsAlone.{alone, facts_alone}
 use Rattle.endpoint_laws.proofs.Fresh.{nonces_alone, different_before, is_new}
 use Rattle.endpoint_laws.proofs.HeldTold.{Holds, FactSizes, tell_of}
@@ -29,26 +29,28 @@ use Rattle.endpoint_laws.proofs.Carried.{Carried, ClosingTold, WasTold}
 use Rattle.endpoint_laws.proofs.Since.{CameSince, came_more}
 use Rattle.endpoint_laws.proofs.Heard.{WasCarried, IsHeardBy, Hears, hears, sizes_of}
 use Rattle.endpoint_laws.proofs.Counted.{count_more}
+use Rattle.endpoint_laws.specs.Contexts.{Secrets}
+use Rattle.glare_core.specs.Table.{HasHeard}
 
 -- How far an event has come: after these entries of its end, the facts of all ends are these, and they are told in these steps.
-pub record Far (setup : Setup) (call : Call) (start : List Fact) (base : List Step) (past : Past) (so_far steps : List Step) : Type 0 where
-  pub telling : Telling steps
+pub record Far (of : List ℕ → ℕ) (setup : Setup) (call : Call) (start : List Fact) (base : List Step) (past : Past) (so_far steps : List Step) : Type 0 where
+  pub telling : Telling of steps
   pub is : alone steps ≡ so_far
   pub stated : facts (view (own_of setup) steps) ≡ facts_of past
   pub came : CameSince call start (facts_of past)
   pub grows : (t : Tell) → WasSent t base → WasSent t steps
-  pub closing : ClosingTold (own_of setup) past steps
+  pub closing : ClosingTold of (own_of setup) past steps
 
 -- the steps after the rest of the entries, in which their datagrams carry what was told
-pub record Reached (setup : Setup) (now : ℕ) (past : Past) (entries : List Entry) (so_far steps : List Step) : Type 0 where
+pub record Reached (secrets : Secrets) (of : List ℕ → ℕ) (setup : Setup) (now : ℕ) (past : Past) (entries : List Entry) (so_far steps : List Step) : Type 0 where
   pub last : List Step
-  pub telling : Telling last
-  pub is : alone last ≡ stated_onto (own_of setup) entries so_far
+  pub telling : Telling of last
+  pub is : alone last ≡ stated_onto (own_of setup) (of (own_of setup)) entries so_far
   pub grows : (t : Tell) → WasSent t steps → WasSent t last
-  pub outs : (sent : List ℕ) (context : Context) → HasOut sent context entries → Carried setup.secret sent context last
-  pub closing : ClosingTold (own_of setup) (onto now entries past) last
+  pub outs : (sent : List ℕ) (context : Context) → HasOut sent context entries → Carried secrets of sent context last
+  pub closing : ClosingTold of (own_of setup) (onto now entries past) last
 
-module _ (setup : Setup) (now : ℕ) (call : Call) (begin : Past) (base : List Step) (is_call : IsCall call) (carried : WasCarried setup begin base call) where
+module _ (secrets : Secrets) (of : List ℕ → ℕ) (setup : Setup) (named : of (own_of setup) ≡ setup.generation) (now : ℕ) (call : Call) (begin : Past) (base : List Step) (is_call : IsCall call) (carried : WasCarried secrets of setup begin base call) where
   abbrev own : List ℕ
   own = own_of setup
 
@@ -58,87 +60,87 @@ module _ (setup : Setup) (now : ℕ) (call : Call) (begin : Past) (base : List S
   -- what an entry leaves
   record Next (fact : Fact) (past : Past) (so_far steps : List Step) : Type 0 where
     next : List Step
-    far : Far setup call start base (stamped now (FactEntry fact) ∷ past) (step own (Did fact no_generation) ∷ so_far) next
+    far : Far of setup call start base (stamped now (FactEntry fact) ∷ past) (step own (Did fact (of own)) ∷ so_far) next
     more : (t : Tell) → WasSent t steps → WasSent t next
 
   -- a fact that has heard in these steps what it asks for
-  fact_grows : (fact : Fact) (past : Past) (so_far steps : List Step) → Far setup call start base past so_far steps → Stands own (count (facts_of past)) (facts_of past) fact → IsCounted fact → FactSizes fact →
-      IsHeardBy own (view own steps) fact → AllDifferent (with_nonce (Did fact no_generation) (nonces so_far)) → Grown own fact steps
+  fact_grows : (fact : Fact) (past : Past) (so_far steps : List Step) → Far of setup call start base past so_far steps → Stands own (count (facts_of past)) (facts_of past) fact → IsCounted fact → FactSizes fact →
+      IsHeardBy setup.generation own (view own steps) fact → AllDifferent (with_nonce (Did fact (of own)) (nonces so_far)) → Grown of own fact steps
   fact_grows fact past so_far steps far stands fits sizes heard new =
       let same : facts_of past ≡ facts (view own steps) = sym far.stated in
       let few : count (facts_of past) < 2 ^ 64 = subst (λ (fs : List Fact). count fs < 2 ^ 64) far.stated (far.telling.few own) in
-      grown own fact steps far.telling
+      grown of own fact steps far.telling
       (record {
-        fits = record { stands = subst (λ (fs : List Fact). Stands own (count fs) fs fact) same stands; heard = heard.0 };
-        fresh = is_new fact steps (nonces so_far) (sym (nonces_alone steps) ∙ ap nonces far.is) new;
+        fits = record { stands = subst (λ (fs : List Fact). Stands own (count fs) fs fact) same stands; heard = subst (λ (g : ℕ). HasHeard own (view own steps) fact g) (sym named) heard.0 };
+        fresh = is_new (of own) fact steps (nonces so_far) (sym (nonces_alone steps) ∙ ap nonces far.is) new;
         called = heard.1;
       })
       sizes (subst (λ (fs : List Fact). count (fact ∷ fs) < 2 ^ 64) same (count_more own (facts_of past) fact few stands fits))
 
   -- what closes was held, and so told
-  closes_told : (past : Past) (so_far steps : List Step) → Far setup call start base past so_far steps → (near : ℕ) (thing : Held) (fact : Fact) → Closes near thing (facts_of past) (Some fact) →
-      (peer : List ℕ) × WasSent (tell_of own peer thing) steps
+  closes_told : (past : Past) (so_far steps : List Step) → Far of setup call start base past so_far steps → (near : ℕ) (thing : Held) (fact : Fact) → Closes near thing (facts_of past) (Some fact) →
+      (peer : List ℕ) × WasSent (tell_of of own peer thing) steps
   closes_told past so_far steps far near thing (Started p n id ni) c = absurd c
   closes_told past so_far steps far near thing (Born j) c = absurd c
   closes_told past so_far steps far near thing (Opened j) c = absurd c
   closes_told past so_far steps far near thing (Confirmed p id) c = absurd c
   closes_told past so_far steps far near thing (Ended p id why) c =
       let is : holding own p steps ≡ Some thing = ap (held p) far.stated ∙ c.2 in
-      (p, subst (λ (o : Option Held). SentFor own p steps o) is (far.telling.sent own p))
+      (p, subst (λ (o : Option Held). SentFor of own p steps o) is (far.telling.sent own p))
 
-  after_fact : (fact : Fact) (past : Past) (rest : List Entry) (so_far steps older : List Step) → Far setup call start base past so_far steps → FactLine setup now call past rest fact →
-      ((t : Tell) → WasSent t older → WasSent t steps) → Grown own fact steps → Next fact past so_far older
+  after_fact : (fact : Fact) (past : Past) (rest : List Entry) (so_far steps older : List Step) → Far of setup call start base past so_far steps → FactLine secrets setup now call past rest fact →
+      ((t : Tell) → WasSent t older → WasSent t steps) → Grown of own fact steps → Next fact past so_far older
   after_fact fact past rest so_far steps older far line more g = record {
     next = g.next;
     far = record {
       telling = g.telling;
-      is = g.is ∙ ap (λ (r : List Step). step own (Did fact no_generation) ∷ r) far.is;
+      is = g.is ∙ ap (λ (r : List Step). step own (Did fact (of own)) ∷ r) far.is;
       stated =
-          sym (facts_alone own g.next) ∙ ap (λ (r : List Step). facts (view own r)) g.is ∙ ap facts (view_same own (Did fact no_generation) (alone steps))
+          sym (facts_alone own g.next) ∙ ap (λ (r : List Step). facts (view own r)) g.is ∙ ap facts (view_same own (Did fact (of own)) (alone steps))
           ∙ ap (λ (fs : List Fact). fact ∷ fs) (facts_alone own steps ∙ far.stated);
-      came = came_more setup now call start past rest fact line far.came;
+      came = came_more secrets setup now call start past rest fact line far.came;
       grows = λ t w. g.grows t (far.grows t w);
       closing = λ near thing at c. elim c [
-        | inl b ↦ let was = closes_told past so_far steps far near thing fact b.0 in (was.0, g.grows (tell_of own was.0 thing) was.1)
-        | inr p ↦ let was = far.closing near thing at p.1 in (was.0, g.grows (tell_of own was.0 thing) was.1)
+        | inl b ↦ let was = closes_told past so_far steps far near thing fact b.0 in (was.0, g.grows (tell_of of own was.0 thing) was.1)
+        | inr p ↦ let was = far.closing near thing at p.1 in (was.0, g.grows (tell_of of own was.0 thing) was.1)
       ];
     };
     more = λ t w. g.grows t (more t w);
   }
 
-  fact_next : (fact : Fact) (past : Past) (rest : List Entry) (so_far steps : List Step) → Far setup call start base past so_far steps → Stands own (count (facts_of past)) (facts_of past) fact →
-      FactLine setup now call past rest fact → IsCounted fact → AllDifferent (with_nonce (Did fact no_generation) (nonces so_far)) → Hears own steps fact → Next fact past so_far steps
+  fact_next : (fact : Fact) (past : Past) (rest : List Entry) (so_far steps : List Step) → Far of setup call start base past so_far steps → Stands own (count (facts_of past)) (facts_of past) fact →
+      FactLine secrets setup now call past rest fact → IsCounted fact → AllDifferent (with_nonce (Did fact (of own)) (nonces so_far)) → Hears setup.generation own steps fact → Next fact past so_far steps
   fact_next fact past rest so_far steps far stands line fits new (inl heard) =
       let few : count (facts_of past) < 2 ^ 64 = subst (λ (fs : List Fact). count fs < 2 ^ 64) far.stated (far.telling.few own) in
-      let sizes = sizes_of setup now call past rest fact is_call few stands line fits in
+      let sizes = sizes_of secrets setup now call past rest fact is_call few stands line fits in
       after_fact fact past rest so_far steps steps far line (λ t w. w) (fact_grows fact past so_far steps far stands fits sizes heard new)
   fact_next fact past rest so_far steps far stands line fits new (inr told) =
       let t : Tell = told.0 in
       let more : List Step = step own (Told t) ∷ steps in
       let few : count (facts_of past) < 2 ^ 64 = subst (λ (fs : List Fact). count fs < 2 ^ 64) far.stated (far.telling.few own) in
-      let sizes = sizes_of setup now call past rest fact is_call few stands line fits in
-      let far' : Far setup call start base past so_far more = record {
-        telling = telling_told own t steps far.telling told.1;
+      let sizes = sizes_of secrets setup now call past rest fact is_call few stands line fits in
+      let far' : Far of setup call start base past so_far more = record {
+        telling = telling_told of own t steps far.telling told.1;
         is = far.is;
         stated = stated_no_fact own own (Told t) steps tt ∙ far.stated;
         came = far.came;
         grows = λ u w. sent_stays (step own (Told t)) steps u (far.grows u w);
-        closing = λ near thing at c. (let was = far.closing near thing at c in (was.0, sent_stays (step own (Told t)) steps (tell_of own was.0 thing) was.1));
+        closing = λ near thing at c. (let was = far.closing near thing at c in (was.0, sent_stays (step own (Told t)) steps (tell_of of own was.0 thing) was.1));
       } in
       after_fact fact past rest so_far more steps far' line (λ u w. sent_stays (step own (Told t)) steps u w)
-      (fact_grows fact past so_far more far' stands fits sizes (subst (λ (log : List Item). IsHeardBy own log fact) (sym (view_same own (Told t) steps)) told.2) new)
+      (fact_grows fact past so_far more far' stands fits sizes (subst (λ (log : List Item). IsHeardBy setup.generation own log fact) (sym (view_same own (Told t) steps)) told.2) new)
 
   -- what is held at a moment was told, and has its sizes
-  was_told : (past : Past) (so_far steps last : List Step) → Far setup call start base past so_far steps → ((t : Tell) → WasSent t steps → WasSent t last) → (peer : List ℕ) (h : Held) →
-      held peer (facts_of past) ≡ Some h → WasTold own peer h last
+  was_told : (past : Past) (so_far steps last : List Step) → Far of setup call start base past so_far steps → ((t : Tell) → WasSent t steps → WasSent t last) → (peer : List ℕ) (h : Held) →
+      held peer (facts_of past) ≡ Some h → WasTold of own peer h last
   was_told past so_far steps last far more peer h e =
       let is : holding own peer steps ≡ Some h = ap (held peer) far.stated ∙ e in
-      let holds = subst (λ (o : Option Held). Holds (view own steps) peer o) is (far.telling.holds own peer) in
-      let sent = subst (λ (o : Option Held). SentFor own peer steps o) is (far.telling.sent own peer) in
-      record { sent = more (tell_of own peer h) sent; sizes = holds.1 }
+      let holds = subst (λ (o : Option Held). Holds (of own) (view own steps) peer o) is (far.telling.holds own peer) in
+      let sent = subst (λ (o : Option Held). SentFor of own peer steps o) is (far.telling.sent own peer) in
+      record { sent = more (tell_of of own peer h) sent; sizes = holds.1 }
 
-  beside : (entry : Entry) (past : Past) (so_far steps : List Step) → fact_in entry ≡ None → Far setup call start base past so_far steps →
-      Far setup call start base (stamped now entry ∷ past) so_far steps
+  beside : (entry : Entry) (past : Past) (so_far steps : List Step) → fact_in entry ≡ None → Far of setup call start base past so_far steps →
+      Far of setup call start base (stamped now entry ∷ past) so_far steps
   beside entry past so_far steps none far =
       let same : facts_of (stamped now entry ∷ past) ≡ facts_of past = ap (λ (o : Option Fact). fact_and o (facts_of past)) none in
       record {
@@ -156,8 +158,8 @@ module _ (setup : Setup) (now : ℕ) (call : Call) (begin : Past) (base : List S
   -- ---- what the rest of the entries reach, after one entry
 
   abbrev ReachedBy : List Entry → Past → List Step → List Step → Type 0
-  ReachedBy entries past so_far steps = Far setup call start base past so_far steps → EntriesLawful setup now call past entries → AllDifferent (nonces (stated_onto own entries so_far)) →
-      Reached setup now past entries so_far steps
+  ReachedBy entries past so_far steps = Far of setup call start base past so_far steps → EntriesLawful secrets setup now call past entries → AllDifferent (nonces (stated_onto own (of own) entries so_far)) →
+      Reached secrets of setup now past entries so_far steps
 
   -- whatever the past, the facts and the steps so far
   abbrev ReachesOn : List Entry → Type 0
@@ -166,9 +168,9 @@ module _ (setup : Setup) (now : ℕ) (call : Call) (begin : Past) (base : List S
   reached_fact : (fact : Fact) (rest : List Entry) → ReachesOn rest → (past : Past) (so_far steps : List Step) → ReachedBy (FactEntry fact ∷ rest) past so_far steps
   reached_fact fact rest later past so_far steps far lawful new =
       let line = lawful.0 in
-      let heard = hears setup now begin past base steps far.telling far.stated far.grows call fact rest is_call carried far.came line.0 line.1 lawful.1 in
-      let one = fact_next fact past rest so_far steps far line.0 line.1 line.2 (different_before own rest (step own (Did fact no_generation) ∷ so_far) new) heard in
-      let r = later (stamped now (FactEntry fact) ∷ past) (step own (Did fact no_generation) ∷ so_far) one.next one.far lawful.1 new in
+      let heard = hears secrets of setup named now begin past base steps far.telling far.stated far.grows call fact rest is_call carried far.came line.0 line.1 lawful.1 in
+      let one = fact_next fact past rest so_far steps far line.0 line.1 line.2 (different_before own (of own) rest (step own (Did fact (of own)) ∷ so_far) new) heard in
+      let r = later (stamped now (FactEntry fact) ∷ past) (step own (Did fact (of own)) ∷ so_far) one.next one.far lawful.1 new in
       record {
         last = r.last;
         telling = r.telling;
@@ -182,14 +184,14 @@ module _ (setup : Setup) (now : ℕ) (call : Call) (begin : Past) (base : List S
       ReachedBy (Out to datagram context ∷ rest) past so_far steps
   reached_out to datagram context rest later past so_far steps far lawful new =
       let r = later (stamped now (Out to datagram context) ∷ past) so_far steps (beside (Out to datagram context) past so_far steps refl far) lawful.1 new in
-      let here : Carried setup.secret datagram context r.last = record { setup = setup; group = refl; past = past; line = lawful.0; told = was_told past so_far steps r.last far r.grows; closing = λ near thing at c. (let was = far.closing near thing at c in (was.0, r.grows (tell_of own was.0 thing) was.1)) } in
+      let here : Carried secrets of datagram context r.last = record { setup = setup; named = named; past = past; line = lawful.0; told = was_told past so_far steps r.last far r.grows; closing = λ near thing at c. (let was = far.closing near thing at c in (was.0, r.grows (tell_of of own was.0 thing) was.1)) } in
       record {
         last = r.last;
         telling = r.telling;
         is = r.is;
         grows = r.grows;
         outs = λ sent sealed_for out. elim out [
-          | inl it ↦ subst (λ (b : List ℕ). Carried setup.secret b sealed_for r.last) it.0 (subst (λ (k : Context). Carried setup.secret datagram k r.last) it.1 here)
+          | inl it ↦ subst (λ (b : List ℕ). Carried secrets of b sealed_for r.last) it.0 (subst (λ (k : Context). Carried secrets of datagram k r.last) it.1 here)
           | inr more ↦ r.outs sent sealed_for more
         ];
         closing = r.closing;
@@ -197,13 +199,13 @@ module _ (setup : Setup) (now : ℕ) (call : Call) (begin : Past) (base : List S
 
   reached_other : (entry : Entry) → IsOther entry → (rest : List Entry) → ReachesOn rest → (past : Past) (so_far steps : List Step) → ReachedBy (entry ∷ rest) past so_far steps
   reached_other entry other rest later past so_far steps far lawful new =
-      let as_none : stated_on own (fact_in entry) so_far ≡ so_far = ap (λ (o : Option Fact). stated_on own o so_far) other.no_fact in
+      let as_none : stated_on own (of own) (fact_in entry) so_far ≡ so_far = ap (λ (o : Option Fact). stated_on own (of own) o so_far) other.no_fact in
       let r = later (stamped now entry ∷ past) so_far steps (beside entry past so_far steps other.no_fact far) lawful.1
-      (subst (λ (before : List Step). AllDifferent (nonces (stated_onto own rest before))) as_none new) in
+      (subst (λ (before : List Step). AllDifferent (nonces (stated_onto own (of own) rest before))) as_none new) in
       record {
         last = r.last;
         telling = r.telling;
-        is = r.is ∙ ap (stated_onto own rest) (sym as_none);
+        is = r.is ∙ ap (stated_onto own (of own) rest) (sym as_none);
         grows = r.grows;
         outs = λ sent context out. elim out [ inl it ↦ absurd (subst (IsOut sent context) other.no_out it) | inr more ↦ r.outs sent context more ];
         closing = r.closing;

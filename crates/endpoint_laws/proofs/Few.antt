@@ -22,7 +22,7 @@ pub few_quiet : Quiet Any Few
 few_quiet = record {
   sends = record {
     steps = record { does_nothing = λ s. omega arith; and_then = λ s d e p q. omega (arith, p, q, outs_append d.entries e.entries) };
-    out = λ s to sid plain. omega arith;
+    out = λ s generation keys to sid plain. omega arith;
     out_in = λ s near row to body is carries. omega arith;
   };
   attempts = λ s startup kin. omega arith;
@@ -48,7 +48,7 @@ few_begins = record {
   steps = few_quiet.sends.steps;
   starts = λ s startup peer n near ni kin. omega arith;
   seeks = λ s startup near name kin. omega arith;
-  bears = λ s peer o j from. omega arith;
+  bears = λ s generation peer o j from. omega arith;
   opens = λ s startup j from kin. omega arith;
 }
 

@@ -49,7 +49,7 @@ pub follows_quiet : Quiet Any Follows
 follows_quiet = record {
   sends = record {
     steps = record { does_nothing = follows_nothing; and_then = λ s d e first later. follows_then s d (λ t. e) first later };
-    out = λ s to sid plain. follows_still s _ _ ((λ near. refl), tt) refl refl;
+    out = λ s generation keys to sid plain. follows_still s _ _ ((λ near. refl), tt) refl refl;
     out_in = λ s near row to body is carries. follows_row s s near row (record row { session = after_seal row.session }) _ is (sealed_by (is_spent row.session) row.session) ((λ q. refl), tt) refl refl;
   };
   attempts = λ s startup kin. follows_still s _ [] tt refl refl;

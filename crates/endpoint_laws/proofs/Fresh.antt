@@ -7,7 +7,7 @@ use Rattle.glare_core.specs.Told.{with_nonce, nonces, AllDifferent}
 use Rattle.glare_core.proofs.Sound.{IsNew}
 use Rattle.endpoint_model.specs.Views.{fact_in}
 use Rattle.endpoint_model.specs.declared.entry.Entry.{Entry}
-use Rattle.endpoint_laws.specs.Agreed.{stated_on, stated_onto, no_generation}
+use Rattle.endpoint_laws.specs.Agreed.{stated_on, stated_onto}
 use Rattle.endpoint_laws.proofs.FactsAlone.{alone_on, alone}
 
 nonces_on : (who : List ℕ) (item : Item) (before : List Step) → nonces (alone_on who item before) ≡ with_nonce item (nonces before)
@@ -19,25 +19,25 @@ pub nonces_alone : (now : List Step) → nonces (alone now) ≡ nonces now
 nonces_alone [] = refl
 nonces_alone (s ∷ earlier) = nonces_on s.who s.item (alone earlier) ∙ ap (with_nonce s.item) (nonces_alone earlier)
 
-different_below : (fact : Fact) (drawn : List (List ℕ)) → AllDifferent (with_nonce (Did fact no_generation) drawn) → AllDifferent drawn
-different_below (Started peer n near ni) drawn d = d.1
-different_below (Born j) drawn d = d.1
-different_below (Opened j) drawn d = d
-different_below (Confirmed peer near) drawn d = d
-different_below (Ended peer near why) drawn d = d
+different_below : (g : ℕ) (fact : Fact) (drawn : List (List ℕ)) → AllDifferent (with_nonce (Did fact g) drawn) → AllDifferent drawn
+different_below g (Started peer n near ni) drawn d = d.1
+different_below g (Born j) drawn d = d.1
+different_below g (Opened j) drawn d = d
+different_below g (Confirmed peer near) drawn d = d
+different_below g (Ended peer near why) drawn d = d
 
-different_under : (own : List ℕ) (o : Option Fact) (before : List Step) → AllDifferent (nonces (stated_on own o before)) → AllDifferent (nonces before)
-different_under own None before d = d
-different_under own (Some fact) before d = different_below fact (nonces before) d
+different_under : (own : List ℕ) (g : ℕ) (o : Option Fact) (before : List Step) → AllDifferent (nonces (stated_on own g o before)) → AllDifferent (nonces before)
+different_under own g None before d = d
+different_under own g (Some fact) before d = different_below g fact (nonces before) d
 
 -- they are different at each moment of an event
-pub different_before : (own : List ℕ) (entries : List Entry) (before : List Step) → AllDifferent (nonces (stated_onto own entries before)) → AllDifferent (nonces before)
-different_before own [] before d = d
-different_before own (entry ∷ rest) before d = different_under own (fact_in entry) before (different_before own rest (stated_on own (fact_in entry) before) d)
+pub different_before : (own : List ℕ) (g : ℕ) (entries : List Entry) (before : List Step) → AllDifferent (nonces (stated_onto own g entries before)) → AllDifferent (nonces before)
+different_before own g [] before d = d
+different_before own g (entry ∷ rest) before d = different_under own g (fact_in entry) before (different_before own g rest (stated_on own g (fact_in entry) before) d)
 
-pub is_new : (fact : Fact) (steps : List Step) (drawn : List (List ℕ)) → nonces steps ≡ drawn → AllDifferent (with_nonce (Did fact no_generation) drawn) → IsNew steps fact
-is_new (Started peer n near ni) steps drawn e d = λ among. d.0 (subst (λ (ns : List (List ℕ)). Among ni ns) e among)
-is_new (Born j) steps drawn e d = λ among. d.0 (subst (λ (ns : List (List ℕ)). Among j.nr ns) e among)
-is_new (Opened j) steps drawn e d = tt
-is_new (Confirmed peer near) steps drawn e d = tt
-is_new (Ended peer near why) steps drawn e d = tt
+pub is_new : (g : ℕ) (fact : Fact) (steps : List Step) (drawn : List (List ℕ)) → nonces steps ≡ drawn → AllDifferent (with_nonce (Did fact g) drawn) → IsNew steps fact
+is_new g (Started peer n near ni) steps drawn e d = λ among. d.0 (subst (λ (ns : List (List ℕ)). Among ni ns) e among)
+is_new g (Born j) steps drawn e d = λ among. d.0 (subst (λ (ns : List (List ℕ)). Among j.nr ns) e among)
+is_new g (Opened j) steps drawn e d = tt
+is_new g (Confirmed peer near) steps drawn e d = tt
+is_new g (Ended peer near why) steps drawn e d = tt

@@ -19,6 +19,7 @@ use Rattle.endpoint_laws.proofs.Lines.{FactPart, FactMeets, EntriesMeet}
 use Rattle.endpoint_laws.proofs.Tied.{sealed_once, Tied}
 use Rattle.endpoint_laws.proofs.Small.{Any, Sends}
 use Rattle.endpoint_laws.proofs.Moving.{IsAlike, alike_itself, tied_session, tied_more, tied_alike}
+use Rattle.endpoint_laws.proofs.Knowing.{own_secrets}
 
 -- ---- entries one after another
 
@@ -30,7 +31,7 @@ follows_more : (peer : List ℕ) (xs ys : List Entry) → BornFollows peer xs �
 follows_more peer [] ys f = absurd f
 follows_more peer (entry ∷ xs) ys f = f
 
-ended_more : (setup : Setup) (now : ℕ) (call : Call) (past : Past) (xs ys : List Entry) (peer : List ℕ) (near : ℕ) (why : Why) → EndedLine setup now call past xs peer near why → EndedLine setup now call past (xs ++ ys) peer near why
+ended_more : (setup : Setup) (now : ℕ) (call : Call) (past : Past) (xs ys : List Entry) (peer : List ℕ) (near : ℕ) (why : Why) → EndedLine (own_secrets setup) setup now call past xs peer near why → EndedLine (own_secrets setup) setup now call past (xs ++ ys) peer near why
 ended_more setup now call past xs ys peer near Cancelled f = f
 ended_more setup now call past xs ys peer near Expired f = f
 ended_more setup now call past xs ys peer near Glare f = follows_more peer xs ys f
@@ -40,7 +41,7 @@ ended_more setup now call past xs ys peer near Near f = f
 ended_more setup now call past xs ys peer near Far f = f
 ended_more setup now call past xs ys peer near Idle f = f
 
-line_more : (setup : Setup) (now : ℕ) (call : Call) (past : Past) (xs ys : List Entry) (fact : Fact) → FactLine setup now call past xs fact → FactLine setup now call past (xs ++ ys) fact
+line_more : (setup : Setup) (now : ℕ) (call : Call) (past : Past) (xs ys : List Entry) (fact : Fact) → FactLine (own_secrets setup) setup now call past xs fact → FactLine (own_secrets setup) setup now call past (xs ++ ys) fact
 line_more setup now call past xs ys (Started peer n near ni) f = f
 line_more setup now call past xs ys (Born j) f = f
 line_more setup now call past xs ys (Opened j) f = f
@@ -106,7 +107,7 @@ goes_sends setup call = record {
     does_nothing = goes_nothing setup call;
     and_then = λ s d e first later past t. let one = first past t in goes_then setup call past s d (λ u. e) one (later (onto s.moment d.entries past) one.tied);
   };
-  out = λ s to sid plain past t. record {
+  out = λ s generation keys to sid plain past t. record {
     meets = ((tt, tt), tt);
     tied = tied_alike setup _ s s.moment (s.sealed + 1) (omega arith) (tied_more setup past s _ (omega arith) refl refl refl refl t);
     moment = refl;

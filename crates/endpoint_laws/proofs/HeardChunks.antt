@@ -3,6 +3,7 @@ use Rattle.rtmfp_forms.specs.Address.{AddressParts}
 use Rattle.endpoint_laws.proofs.Hearing.{AreKnown, Counts, had_it, heard_then, Follows, IsKnown, KeepsHeard, first_fact, heard_follows, known_more, lasting, onto_append, since_entry}
 use Rattle.std.proofs.Common.{◌≡◌, ◌↔◌, ◌≢◌, ℕ, ◌∷◌, ◌==◌, if◌then◌else◌, [], Bool, List, None, Ok, Option, Some, ap, arith, false, inl, inr, refl, subst, sym, true}
 use Rattle.glare_core.specs.declared.facts.Fact.TheVariants.{Born, Ended}
+use Rattle.endpoint_model.specs.declared.place.Place.TheVariants.{Startup}
 use Rattle.endpoint_model.specs.State.{Did, Sessions, State, fact_entries, new_row}
 use Rattle.endpoint_model.specs.declared.entry.Entry.{Entry}
 use Rattle.endpoint_model.specs.declared.entry.Entry.TheVariants.{Fact as FactEntry}
@@ -17,13 +18,15 @@ use Rattle.session_core.specs.Session.{SessionState, first_stage, is_opening, ne
 use Rattle.endpoint_laws.specs.Past.{Past, onto, stamped, begins, taken_since}
 use Rattle.glare_core.specs.declared.facts.Why.{Why}
 use Rattle.rtmfp_base.proofs.Maps.{found_inserted, found_left}
-use Rattle.std.specs.FinMap.{insert, remove}
+use Rattle.std.specs.FinMap.{get, insert, remove}
 use Rattle.std.proofs.lemmas.Bool.Decides.{nat_tests}
 use Rattle.endpoint_laws.proofs.Numbers.{room_at_first}
 use Rattle.glare_core.specs.Calls.{way_made}
 use Rattle.crypto_profile.specs.Window.{window_answer, window_of}
 use Rattle.endpoint_model.specs.Effects.{without_ended}
 use Rattle.endpoint_laws.proofs.Small.{birth, Begins}
+use Rattle.crypto_profile.specs.declared.group.GroupSecret.{GroupSecret}
+use Rattle.endpoint_model.specs.Admission.{group_at, attempt_group}
 
 -- ---- a session begins
 
@@ -46,15 +49,15 @@ half_open Initiator e = absurd (cc)
 half_open Responder e = refl
 
 nothing_taken : (near : ℕ) (session : SessionState) → session.window ≡ window_of [] → Counts [] near (lasting session)
-nothing_taken near session first secret under = record {
+nothing_taken near session first secrets under = record {
   numbers = λ n. subst (λ w. (window_answer w n ≡ Ok tt) ↔ (n ≢ 0)) (sym first) (room_at_first n);
   times = λ moment none. absurd none;
 }
 
-known_begun : (past : Past) (now : ℕ) (role : Role) (j : Joined) (own secret : List ℕ) (from : AddressParts) →
-    IsKnown (stamped now (FactEntry (first_fact role j)) ∷ past) now j.near (new_session j own role from secret now)
-known_begun past now role j own secret from =
-    let session : SessionState = new_session j own role from secret now in
+known_begun : (past : Past) (now : ℕ) (role : Role) (j : Joined) (own : List ℕ) (g : GroupSecret) (from : AddressParts) →
+    IsKnown (stamped now (FactEntry (first_fact role j)) ∷ past) now j.near (new_session j own role from g.generation g.secret now)
+known_begun past now role j own g from =
+    let session : SessionState = new_session j own role from g.generation g.secret now in
     record {
       counts = subst (λ (b : Bool). Counts (if b then [] else taken_since j.near past) j.near (lasting session)) (sym (begins_it role j)) (nothing_taken j.near session refl);
       began = record { first = now; done = inl refl; early = omega arith };
@@ -62,12 +65,12 @@ known_begun past now role j own secret from =
       not_later = omega arith;
     }
 
-are_begun : (past : Past) (now : ℕ) (sessions : Sessions) (role : Role) (j : Joined) (own secret : List ℕ) (from : AddressParts) → AreKnown past now sessions →
-    AreKnown (stamped now (FactEntry (first_fact role j)) ∷ past) now (insert sessions j.near (new_row (new_session j own role from secret now)))
-are_begun past now sessions role j own secret from h q row e =
+are_begun : (past : Past) (now : ℕ) (sessions : Sessions) (role : Role) (j : Joined) (own : List ℕ) (g : GroupSecret) (from : AddressParts) → AreKnown past now sessions →
+    AreKnown (stamped now (FactEntry (first_fact role j)) ∷ past) now (insert sessions j.near (new_row (new_session j own role from g.generation g.secret now)))
+are_begun past now sessions role j own g from h q row e =
     let more : Past = stamped now (FactEntry (first_fact role j)) ∷ past in
-    elim (found_inserted sessions j.near (new_row (new_session j own role from secret now)) q row e) [
-      | inl here ↦ subst (λ (r : Row). IsKnown more now q r.session) here.1 (subst (λ (k : ℕ). IsKnown more now k (new_session j own role from secret now)) (sym here.0) (known_begun past now role j own secret from))
+    elim (found_inserted sessions j.near (new_row (new_session j own role from g.generation g.secret now)) q row e) [
+      | inl here ↦ subst (λ (r : Row). IsKnown more now q r.session) here.1 (subst (λ (k : ℕ). IsKnown more now k (new_session j own role from g.generation g.secret now)) (sym here.0) (known_begun past now role j own g from))
       | inr beside ↦
           known_more past more now now q row.session (h q row beside.1) (since_entry q now (FactEntry (first_fact role j)) past (begins_no_other role j q beside.0)) (λ done w. inr w) (omega arith)
     ]
@@ -87,13 +90,13 @@ made_way past now sessions peer (Some (HalfOpen j)) h = are_left past now sessio
 made_way past now sessions peer (Some (KeptAsResponder j)) h = are_left past now sessions peer j.near Override h
 made_way past now sessions peer (Some (KeptAsInitiator j)) h = are_left past now sessions peer j.near Override h
 
-heard_birth : (s : State) (peer : List ℕ) (o : Option Held) (j : Joined) (from : AddressParts) → KeepsHeard s (birth s (way_made peer o) j from)
-heard_birth s peer o j from = λ past h.
+heard_birth : (s : State) (peer : List ℕ) (o : Option Held) (j : Joined) (from : AddressParts) (g : GroupSecret) → KeepsHeard s (birth s (way_made peer o) j from g)
+heard_birth s peer o j from g = λ past h.
     let ended : List Entry = fact_entries (way_made peer o) in
-    let d : Did = birth s (way_made peer o) j from in
+    let d : Did = birth s (way_made peer o) j from g in
     record {
       well = subst (λ (p : Past). AreKnown p s.moment d.state.sessions) (sym (onto_append s.moment ended (FactEntry (Born j) ∷ []) past))
-          (are_begun (onto s.moment ended past) s.moment (without_ended s.sessions (way_made peer o)) Responder j s.startup.ledger.own s.startup.secret from (made_way past s.moment s.sessions peer o h));
+          (are_begun (onto s.moment ended past) s.moment (without_ended s.sessions (way_made peer o)) Responder j s.startup.ledger.own g from (made_way past s.moment s.sessions peer o h));
       moment = refl;
     }
 
@@ -108,6 +111,6 @@ heard_begins = record {
   };
   starts = λ s startup peer n near ni kin. heard_follows s _ (record { none = ((λ q. refl), tt); had = λ q row e. had_it s.sessions q row e; moment = refl });
   seeks = λ s startup near name kin. heard_follows s _ (record { none = ((λ q. refl), tt); had = λ q row e. had_it s.sessions q row e; moment = refl });
-  bears = heard_birth;
-  opens = λ s startup j from kin past h. record { well = are_begun past s.moment s.sessions Initiator j startup.ledger.own startup.secret from h; moment = refl };
+  bears = λ s generation peer o j from. heard_birth s peer o j from (group_at s (Startup generation));
+  opens = λ s startup j from kin past h. record { well = are_begun past s.moment s.sessions Initiator j startup.ledger.own (attempt_group s.group (get s.startup.attempts j.near)) from h; moment = refl };
 }

@@ -20,6 +20,7 @@ use Rattle.endpoint_model.specs.State.{Sessions, State, Did, nothing, then_do}
 use Rattle.endpoint_model.specs.Admission.{peers_mode}
 use Rattle.endpoint_laws.specs.Past.{Stamped, stamped, onto, WasDone, Past, Taken, begins, taken_since}
 use Rattle.endpoint_laws.specs.Taken.{IsNewAfter, TookIn}
+use Rattle.endpoint_laws.specs.Contexts.{Secrets}
 
 -- ---- what of a session lasts
 
@@ -44,19 +45,19 @@ inward_of l = context_between l.generation l.joined l.own l.role false
 abbrev pub mode_in : Lasting → Mode
 mode_in l = peers_mode l.role
 
--- what it takes is sealed under this secret
-abbrev pub TakesUnder : List ℕ → Lasting → Type 0
-TakesUnder secret l = l.inward ≡ keys_of secret (inward_of l)
+-- what it takes is sealed under the secret that these have for its generation
+abbrev pub TakesUnder : Secrets → Lasting → Type 0
+TakesUnder secrets l = (secret : List ℕ) × (get secrets l.generation ≡ Some secret) × (l.inward ≡ keys_of secret (inward_of l))
 
 -- ---- what is known
 
 -- It would take the numbers that are new after these datagrams under a secret, and whatever it took of them it took by the moment that it keeps.
-pub record CountsUnder (secret : List ℕ) (taken : List Taken) (near : ℕ) (l : Lasting) : Type 0 where
-  pub numbers : (n : ℕ) → (window_answer l.window n ≡ Ok tt) ↔ IsNewAfter secret (inward_of l) near n taken
-  pub times : (moment : ℕ) → TookIn secret (inward_of l) (mode_in l) near moment taken → moment ≤ l.taken
+pub record CountsUnder (secrets : Secrets) (taken : List Taken) (near : ℕ) (l : Lasting) : Type 0 where
+  pub numbers : (n : ℕ) → (window_answer l.window n ≡ Ok tt) ↔ IsNewAfter secrets (inward_of l) near n taken
+  pub times : (moment : ℕ) → TookIn secrets (inward_of l) (mode_in l) near moment taken → moment ≤ l.taken
 
 abbrev pub Counts : List Taken → ℕ → Lasting → Type 0
-Counts taken near l = (secret : List ℕ) → TakesUnder secret l → CountsUnder secret taken near l
+Counts taken near l = (secrets : Secrets) → TakesUnder secrets l → CountsUnder secrets taken near l
 
 -- the fact with which a session of this role begins
 abbrev pub first_fact : Role → Joined → Fact

@@ -11,10 +11,10 @@ use Rattle.glare_core.specs.declared.facts.Held.{Held}
 use Rattle.glare_core.specs.declared.facts.Held.TheVariants.{Opening as OpeningHeld, HalfOpen, KeptAsResponder, KeptAsInitiator}
 use Rattle.glare_core.specs.Standing.{held}
 use Rattle.glare_core.specs.Things.{IsSession, near_of}
-use Rattle.glare_core.specs.Ledger.{held_with, noted, noted_if}
+use Rattle.glare_core.specs.Ledger.{held_with, noted}
 use Rattle.glare_core.specs.Calls.{ended_fact, MayEnd}
 use Rattle.glare_core.proofs.Accounts.{reads_held}
-use Rattle.startup.specs.Attempts.{with_ledger, session_in}
+use Rattle.startup.specs.Attempts.{session_in, after_end_by}
 use Rattle.session_core.specs.declared.stage.Role.{Role}
 use Rattle.session_core.specs.declared.stage.Role.TheVariants.{Initiator, Responder}
 use Rattle.session_core.specs.declared.stage.Stage.{Stage}
@@ -40,6 +40,9 @@ use Rattle.endpoint_laws.proofs.Ending.{gave_end, some_entry}
 use Rattle.endpoint_laws.proofs.Birth.{agrees_end}
 use Rattle.endpoint_laws.proofs.Made.{home_made}
 use Rattle.endpoint_laws.proofs.Going.{Goes, Keeps, goes_then, goes_sends}
+use Rattle.endpoint_laws.specs.Groups.{HasOneGroup}
+use Rattle.endpoint_laws.proofs.Kin.{one_still, ended_kin}
+use Rattle.endpoint_laws.proofs.Knowing.{own_secrets}
 
 -- ---- what a session is and was
 
@@ -64,12 +67,12 @@ used_or : (a b : Bool) → b ≡ true → (a || b) ≡ true
 used_or true b e = refl
 used_or false b e = e
 
-same_given : (setup : Setup) (s t : State) → IsGiven setup s → t.config ≡ s.config → t.startup.cert ≡ s.startup.cert → t.startup.secret ≡ s.startup.secret → t.startup.cookie_secret ≡ s.startup.cookie_secret →
+same_given : (setup : Setup) (s t : State) → IsGiven setup s → t.config ≡ s.config → t.startup.cert ≡ s.startup.cert → HasOneGroup setup t → t.startup.cookie_secret ≡ s.startup.cookie_secret →
     t.startup.ledger.own ≡ s.startup.ledger.own → t.startup.ledger.max_peers ≡ s.startup.ledger.max_peers → IsGiven setup t
-same_given setup s t g config cert secret cookie own most = record {
+same_given setup s t g config cert one cookie own most = record {
   config = config ∙ g.config;
   cert = cert ∙ g.cert;
-  secret = secret ∙ g.secret;
+  one = one;
   cookie_secret = cookie ∙ g.cookie_secret;
   own = own ∙ g.own;
   max_peers = most ∙ g.max_peers;
@@ -114,15 +117,19 @@ module _ (setup : Setup) (call : Call) (past : Past) (s : State) (tied : Tied se
   -- by what is held
   abbrev ended_by : SessionState → Option Held → Did
   ended_by left o = record {
-    state = with_session (with_startup s (with_ledger s.startup (noted_if s.startup.ledger (ended_fact o j.peer why)))) near row left;
+    state = with_session (with_startup s (after_end_by s.startup j.peer (ended_fact o j.peer why))) near row left;
     entries = fact_entries (ended_fact o j.peer why);
   }
 
   abbrev dropped_by : Option Held → Did
   dropped_by o = record {
-    state = without_row (with_startup s (with_ledger s.startup (noted_if s.startup.ledger (ended_fact o j.peer why)))) near;
+    state = without_row (with_startup s (after_end_by s.startup j.peer (ended_fact o j.peer why))) near;
     entries = fact_entries (ended_fact o j.peer why);
   }
+
+  -- it has one secret still
+  still_one : HasOneGroup setup (with_startup s (after_end_by s.startup j.peer (Some fact)))
+  still_one = (ended_kin s j.peer (Some fact)).one setup tied.one
 
   in_ledger : session_in (held_with s.startup.ledger j.peer) ≡ Some thing
   in_ledger = ap session_in held_is ∙ session_itself thing (is_session row.session.role row.session.stage j)
@@ -150,7 +157,7 @@ module _ (setup : Setup) (call : Call) (past : Past) (s : State) (tied : Tied se
         | inr e ↦ used_elsewhere near None (Some new) s t at q e.0
       ] in
       tied_of setup now t
-      (agrees_changed setup past now s t near None (Some new) a (same_given setup s t a.given refl refl refl refl refl refl) at
+      (agrees_changed setup past now s t near None (Some new) a (same_given setup s t a.given refl refl (one_still setup (with_startup s (after_end_by s.startup j.peer (Some fact))) t still_one refl refl refl) refl refl refl) at
       (noted_matches s t fact near None (Some new) a.matches at refl (was ∙ sym (ap (of_peer j.peer) held_is)) (closing_row_is new l.closing) (λ h e. absurd (cc)))
       (record {
         id = ap (λ k. k.near) l.joined ∙ ours.id;
@@ -172,7 +179,7 @@ module _ (setup : Setup) (call : Call) (past : Past) (s : State) (tied : Tied se
       (rows_after_known s.startup.ledger fact setup.config.max_peers (knows_held s.startup.ledger j.peer thing held_is) tied.rows))
       (gave_end s.startup.ledger j.peer thing why held_is may 0 (facts_of past) tied.account) (omega (arith, tied.few))
 
-  pub goes_ended : (left : SessionState) → is_close why ≡ true → MayEnd why thing → IsLeft s.moment row.session left → EndedLine setup s.moment call past [] j.peer (near_of thing) why →
+  pub goes_ended : (left : SessionState) → is_close why ≡ true → MayEnd why thing → IsLeft s.moment row.session left → EndedLine (own_secrets setup) setup s.moment call past [] j.peer (near_of thing) why →
       Goes setup call past s (ended_as s near row why left)
   goes_ended left closes may l line =
       let after = ended_tied left closes may l in
@@ -194,11 +201,11 @@ module _ (setup : Setup) (call : Call) (past : Past) (s : State) (tied : Tied se
         sessions = λ q other. get_left s.sessions near q other;
       } in
       tied_of setup now t
-      (agrees_end setup past s t s.moment j.peer thing why a held_is (same_given setup s t a.given refl refl refl refl refl refl) opens (subst (λ k. IsAt k None None s t) (sym id) at) refl
+      (agrees_end setup past s t s.moment j.peer thing why a held_is (same_given setup s t a.given refl refl (one_still setup (with_startup s (after_end_by s.startup j.peer (Some fact))) t still_one refl refl refl) refl refl refl) opens (subst (λ k. IsAt k None None s t) (sym id) at) refl
       (omega (arith, len_less s.sessions near row there, some_entry s.sessions near row there)) (omega arith, omega arith))
       (gave_end s.startup.ledger j.peer thing why held_is may 0 (facts_of past) tied.account) (omega (arith, tied.few))
 
-  pub goes_dropped : is_close why ≡ false → MayEnd why thing → EndedLine setup s.moment call past [] j.peer (near_of thing) why → Goes setup call past s (dropped s near row why)
+  pub goes_dropped : is_close why ≡ false → MayEnd why thing → EndedLine (own_secrets setup) setup s.moment call past [] j.peer (near_of thing) why → Goes setup call past s (dropped s near row why)
   goes_dropped opens may line =
       let after = dropped_tied opens may in
       subst (λ (o : Option Held). Goes setup call past s (dropped_by o)) (sym in_ledger) (record {
@@ -229,7 +236,7 @@ module _ (setup : Setup) (call : Call) (past : Past) (s : State) (tied : Tied se
         | inr e ↦ thing_elsewhere near None None s t at q e.0
       ] in
       tied_of setup later t
-      (agrees_changed setup past later s t near None None a (same_given setup s t a.given refl refl refl refl refl refl) at
+      (agrees_changed setup past later s t near None None a (same_given setup s t a.given refl refl (one_still setup s t a.given.one refl refl refl) refl refl refl) at
       (same_matches (thing_at s) (thing_at t) (held_with s.startup.ledger) all a.matches)
       tt (beside_closed near s.moment past) (λ thing m c. elim c [ inl b ↦ absurd b.0 | inr q ↦ absurd (q.0 refl) ])
       (λ which m c. elim c [ inl b ↦ absurd b.0 | inr q ↦ absurd (none_sought past near (get s.startup.attempts near) (a.searching near) none which m q.2) ])
@@ -240,7 +247,7 @@ module _ (setup : Setup) (call : Call) (past : Past) (s : State) (tied : Tied se
       tied.rows)
       tied.account tied.few
 
-  pub goes_closed : ClosedLine setup s.moment call past near → Goes setup call past s (closed s near)
+  pub goes_closed : ClosedLine (own_secrets setup) setup s.moment call past near → Goes setup call past s (closed s near)
   goes_closed line = record { meets = ((tt, line), tt); tied = closed_tied; moment = refl }
 
 -- ---- what states nothing

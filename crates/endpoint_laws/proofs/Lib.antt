@@ -1,8 +1,11 @@
 pub mod Kin
+mod Knowing
+mod ByMap
 pub mod Walks
 pub mod Small
 pub mod ByKind
 pub mod Made
+pub mod Groups
 mod Matching
 mod Tied
 mod Agrees
@@ -80,6 +83,7 @@ mod HistoryTold
 mod ReadsBack
 mod Since
 mod StatedFacts
+mod Generations
 mod Telling
 mod AcksFew
 mod NoneOwed

@@ -48,6 +48,8 @@ use Rattle.endpoint_laws.proofs.OutSends.{AreFew, Sent}
 use Rattle.endpoint_laws.proofs.OutBirths.{small_free}
 use Rattle.endpoint_laws.proofs.OutItems.{meets_opening, meets_seeking, meets_unseeking, meets_cancelling}
 use Rattle.endpoint_laws.proofs.Orderly.{Orderly, StopHeard, orderly_nothing, orderly_from, tick_all_orderly, received_orderly, stopped_orderly}
+use Rattle.endpoint_laws.proofs.ByMap.{log_by}
+use Rattle.endpoint_laws.proofs.Knowing.{own_secrets, own_known, own_part}
 
 -- ---- rows of addresses
 
@@ -298,9 +300,9 @@ tied_to_log setup log s is calls stands = (log_is setup log s is calls stands).h
 -- ---- the laws
 
 pub every_log_is_lawful : EveryLogIsLawful
-every_log_is_lawful setup log s is calls stands =
+every_log_is_lawful secrets setup log s knows is calls stands =
     let said = log_is setup log s is calls stands in
-    events_lawful setup 0 [] log said.facts said.counts said.outs
+    log_by setup (own_secrets setup) secrets (own_known setup) knows (own_part setup secrets knows) 0 [] log (events_lawful setup 0 [] log said.facts said.counts said.outs)
 
 pub ledger_of_log : TheLedgerIsOfTheLog
 ledger_of_log setup log s is calls stands = (tied_to_log setup log s is calls stands).account

@@ -2,7 +2,9 @@
 use Rattle.endpoint_model.specs.declared.row_due.RowDue.TheVariants.{Abandon, Data, Keepalive, Session as SessionOf}
 use Rattle.endpoint_model.specs.Event.{AddRow, Answer as CallAnswer, Began, Call, Cancel, Close, Done, Introduce, NotAdded, NotOpened, NotSought, OnFlows, Open, OutOfMemory, Receive, Refused, Searching, Seek, Stopped, Tick, Unseek}
 use Rattle.rtmfp_forms.specs.Address.{AddressParts}
-use Rattle.endpoint_model.specs.Admission.{Admission, Admitted, Rejected, admission, admitted, admitted_packet, confirming, confirming_by, counted_at, counted_by, has_mode, mode_at, opened_datagram, packet_in, sid_at, timed_at, timed_by}
+use Rattle.crypto_profile.specs.declared.group.GroupSecret.{GroupSecret}
+use Rattle.crypto_profile.specs.Keys.{Keys, startup_keys_of}
+use Rattle.endpoint_model.specs.Admission.{Admission, Admitted, Rejected, attempt_group, group_at, admission, admitted, admitted_packet, confirming, confirming_by, counted_at, counted_by, has_mode, mode_at, opened_datagram, packet_in, sid_at, timed_at, timed_by}
 use Rattle.startup.specs.declared.answer.Answer.{Answer}
 use Rattle.endpoint_model.specs.Log.{Answers, stopped}
 use Rattle.rtmfp_data_chunks.specs.Fitting.{AreSmall, FitsIn}
@@ -13,7 +15,7 @@ use Rattle.startup.specs.declared.aim.Aim.TheVariants.{AtPeer, ByName}
 use Rattle.startup.specs.Aims.{end_of_aim}
 use Rattle.startup.specs.State.{AttemptState, SpreadParts, StartupState}
 use Rattle.cookies.specs.declared.CookieTest.TheVariants.{Bad, Moved as CookieMoved, Expired as Stale, Current}
-use Rattle.std.proofs.Common.{drop, ◌≡◌, ℕ, ◌∷◌, ◌==◌, if◌then◌else◌, ◌||◌, ◌∙◌, [], Bool, Err, List, None, Ok, Option, Result, Some, ap, false, refl, sym, take, true}
+use Rattle.std.proofs.Common.{drop, ◌≡◌, ℕ, ◌∷◌, ◌==◌, ◌+◌, if◌then◌else◌, ◌||◌, ◌∙◌, [], Bool, Err, List, None, Ok, Option, Result, Some, ap, false, refl, sym, take, true}
 use Rattle.glare_core.specs.declared.facts.Why.TheVariants.{Cancelled, Expired, Far, Idle as WasIdle, Near, Unconfirmed as NotConfirmed}
 use Rattle.rtmfp_base.specs.declared.cause.Cause.{Cause}
 use Rattle.rtmfp_chunks.specs.Chunk.{Chunk, Close as CloseChunk, CloseAck, CookieChange, FIHello, Fragment, IHello, IIKeying, Ping, PingReply, RHello, RIKeying, Redirect}
@@ -26,15 +28,17 @@ use Rattle.endpoint_model.specs.State.{Did, Does, State, without_row, fact_entri
 use Rattle.endpoint_model.specs.declared.config.Draws.{Draws}
 use Rattle.endpoint_model.specs.declared.entry.Entry.{Entry}
 use Rattle.glare_core.specs.declared.facts.Fact.{Fact}
+use Rattle.glare_core.specs.declared.facts.Fact.TheVariants.{Ended}
 use Rattle.endpoint_model.specs.declared.entry.Entry.TheVariants.{Fact as FactEntry}
 use Rattle.endpoint_model.specs.FlowCall.{FlowCall, flow_did, flow_refusal}
 use Rattle.glare_core.specs.declared.facts.Held.TheVariants.{HalfOpen, KeptAsInitiator, KeptAsResponder, Opening as OpeningHeld}
 use Rattle.glare_core.specs.declared.facts.Held.{Held}
 use Rattle.startup.specs.declared.attempt.Stage.TheVariants.{Hello, Keying}
+use Rattle.startup.specs.declared.kept.KeptKeying.{KeptKeying}
 use Rattle.endpoint_model.specs.Effects.{Hellos, InSession, InStartup, Introduction, Reply, Silence, seeking, unseeking, cancelling, chunk_did, chunks_did, due_done, forwarded, initiator_keyed, keying_done, most_acks, opening, opening_done, outset, part_received, read_done, read_fact, read_left, read_reply, received, replied, responder_keyed, tick_once, ticks, walked, walked_and_acked, with_opened}
 use Rattle.session_core.specs.declared.stage.SessionDue.TheVariants.{Idle, Over, RepeatClose, Unconfirmed}
 use Rattle.startup_packets.specs.Readings.{InitiatorKeying, ResponderKeying, initiator_keying_in, responder_keying_in}
-use Rattle.startup.specs.Keyings.{after_keying, after_opening, again_or_birth, born_session, change_answer, keyed_reading, keyed_with, keying_of, opened_as, opened_reading, opened_with, repeated_session, session_answer}
+use Rattle.startup.specs.Keyings.{after_keying, after_opening, again_by, again_or_birth, born_session, change_answer, kept_answer, keyed_reading, keyed_with, keying_of, opened_as, opened_reading, opened_with, repeated_session, session_answer}
 use Rattle.glare_core.specs.declared.facts.Joined.{Joined}
 use Rattle.rtmfp_packet.specs.declared.head.PacketFault.{PacketFault}
 use Rattle.rtmfp_packet.specs.declared.head.PacketHead.{PacketHead}
@@ -53,8 +57,8 @@ use Rattle.glare_core.specs.declared.facts.Why.{Why}
 use Rattle.rtmfp_base.specs.declared.cause.Cause.TheVariants.{WrongPlace}
 use Rattle.endpoint_model.specs.FlowChunks.{acked, acks_body, flow_cause, flow_taken, flow_taken_by, taking_cause, unowed}
 use Rattle.mobility.specs.Tests.{address_for, after_reply, after_seen, asks}
-use Rattle.startup.specs.Attempts.{has_tag, answer_fact_as, answer_fact, answer_keying, after_answer, after_answer_as, seek_spread, after_seek, after_unseek, after_end_of, after_begin, after_confirm, after_end, begin_spread, end_fact, end_of, has_number, hello_spread, keying_signed, lowest, session_in}
-use Rattle.startup.specs.Due.{repeat_of, repeat_signed}
+use Rattle.startup.specs.Attempts.{has_tag, answer_fact_as, answer_fact, answer_keying, after_answer, after_answer_as, seek_spread, after_seek, after_unseek, after_end_of, after_begin, after_confirm, after_end, begin_spread, end_fact, end_of, has_number, hello_spread, keying_under, lowest, session_in, answered, met, begun_attempt, begun_search}
+use Rattle.startup.specs.Due.{repeat_of, repeat_under}
 use Rattle.session_core.specs.Closing.{first_due as session_first_due, after_due as after_due_in, asked_to_close, closed_near, is_held, is_near_close, kept_alive, needs_keepalive}
 use Rattle.endpoint_model.specs.FlowTimes.{end_due, abandon_due, all_late, data_body, row_due, row_due_done}
 use Rattle.endpoint_model.specs.OnFlows.{call_refusal, call_refusal_by, flow_called, flow_called_by, flows_done}
@@ -73,7 +77,7 @@ use Rattle.session_flows.specs.Timing.{overdue_in}
 use Rattle.session_flows.specs.Packing.{is_data_due}
 use Rattle.endpoint_laws.proofs.Hearing.{descends_same}
 use Rattle.std.specs.FinMap.{get, insert}
-use Rattle.glare_core.specs.Ledger.{held_with}
+use Rattle.glare_core.specs.Ledger.{held_with, noted}
 use Rattle.endpoint_model.specs.Sending.{last_count, sent_answer, sent_by, sent_each, sent_if, sent_in_session, sent_spread, sent_startup}
 use Rattle.sha2.specs.Sha256.{sha256}
 use Rattle.rtmfp_data_chunks.proofs.Fitting.{small_next, what_is_read_fits}
@@ -81,7 +85,7 @@ use Rattle.endpoint_laws.proofs.Small.{FlowThing, GoesOn, Called, Came, Acked, U
 use Rattle.startup.specs.Due.{repeated}
 use Rattle.startup.specs.Attempts.{with_attempt, without_attempt_by}
 use Rattle.endpoint_laws.proofs.Walks.{Steps, tick_walked, acked_walked, unowed_walked, tick_all_walked}
-use Rattle.endpoint_laws.proofs.Kin.{IsKin, kin_confirm, kin_end, kin_rhello, kin_redirect, kin_change, kin_keying, kin_unseek}
+use Rattle.endpoint_laws.proofs.Kin.{IsKin, kin_begin, kin_answered, kin_repeat, kin_without, kin_confirm, kin_end, kin_redirect, kin_change, kin_keying, kin_unseek}
 
 -- what a hello, a redirect or a change of a cookie states and leaves, before it is answered
 abbrev pub read_first : State → Place → AddressParts → Result Chunk ChunkFault → Did
@@ -135,11 +139,11 @@ module _ {Body : List ℕ → Type 0} {P : State → Did → Type 0} (l : Sends 
   either_made s true d e p q = p
   either_made s false d e p q = q
 
-  pub startup_made : (s : State) (to : AddressParts) (sid : ℕ) (plain : List ℕ) → P s (sent_startup s to sid plain)
-  startup_made s to sid plain = either_made s (s.sealed == last_count) (nothing s) _ (l.steps.does_nothing s) (l.out s to sid plain)
+  pub startup_made : (s : State) (generation : ℕ) (keys : Keys) (to : AddressParts) (sid : ℕ) (plain : List ℕ) → P s (sent_startup s generation keys to sid plain)
+  startup_made s generation keys to sid plain = either_made s (s.sealed == last_count) (nothing s) _ (l.steps.does_nothing s) (l.out s generation keys to sid plain)
 
   pub answer_made : (s : State) (answer : Answer) → P s (sent_answer s answer)
-  answer_made s answer = startup_made s answer.to answer.sid answer.plain
+  answer_made s answer = startup_made s answer.generation answer.keys answer.to answer.sid answer.plain
 
   pub answered_made : (s : State) (answer : Option Answer) → P s (sent_if s answer)
   answered_made s None = l.steps.does_nothing s
@@ -148,8 +152,8 @@ module _ {Body : List ℕ → Type 0} {P : State → Did → Type 0} (l : Sends 
   pub each_made : (plain : List ℕ) (to : List AddressParts) (s : State) → P s (sent_each s plain to)
   each_made plain [] s = l.steps.does_nothing s
   each_made plain (to ∷ rest) s =
-      let d : Did = sent_startup s to 0 plain in
-      l.steps.and_then s d (sent_each d.state plain rest) (startup_made s to 0 plain) (each_made plain rest d.state)
+      let d : Did = sent_startup s s.group.generation (startup_keys_of s.group) to 0 plain in
+      l.steps.and_then s d (sent_each d.state plain rest) (startup_made s s.group.generation (startup_keys_of s.group) to 0 plain) (each_made plain rest d.state)
 
   pub spread_made : (s : State) (spread : SpreadParts) → P s (sent_spread s spread)
   spread_made s spread = each_made spread.plain spread.to s
@@ -232,8 +236,8 @@ module _ {Body : List ℕ → Type 0} {P : State → Did → Type 0} (q : Quiet 
   -- all but a responder's hello state nothing
   left_made : (s : State) (place : Place) (from : AddressParts) (read : Result Chunk ChunkFault) → IsNoHello read → P s (read_first s place from read)
   left_made s place from (Ok (RHello tag cookie cert)) other = absurd other
-  left_made s place from (Ok (Redirect tag list)) other = q.attempts s _ (kin_redirect s.startup tag list from s.moment)
-  left_made s place from (Ok (CookieChange old new)) other = q.attempts s _ (kin_change s.startup (sid_at place) old new s.moment)
+  left_made s place from (Ok (Redirect tag list)) other = q.attempts s _ (kin_redirect s tag list from s.moment)
+  left_made s place from (Ok (CookieChange old new)) other = q.attempts s _ (kin_change s (sid_at place) old new s.moment)
   left_made s place from (Ok _) other = q.sends.steps.does_nothing s
   left_made s place from (Err fault) other = q.sends.steps.does_nothing s
 
@@ -242,15 +246,15 @@ module _ {Body : List ℕ → Type 0} {P : State → Did → Type 0} (q : Quiet 
 
   -- a search is given up
   pub unseeking_made : (s : State) (near : ℕ) → P s (unseeking s near)
-  unseeking_made s near = q.unseeks s (after_unseek s.startup near) near Cancelled (kin_unseek s.startup near)
+  unseeking_made s near = q.unseeks s (after_unseek s.startup near) near Cancelled (kin_unseek s near)
 
   -- ---- facts
 
-  ended_fact_made : (s : State) (startup : StartupState) → IsKin s.startup startup → (o : Option Held) (peer : List ℕ) (why : Why) → P s (record { state = with_startup s startup; entries = fact_entries (ended_fact o peer why) })
+  ended_fact_made : (s : State) (startup : StartupState) → IsKin s startup → (o : Option Held) (peer : List ℕ) (why : Why) → P s (record { state = with_startup s startup; entries = fact_entries (ended_fact o peer why) })
   ended_fact_made s startup kin None peer why = q.attempts s startup kin
   ended_fact_made s startup kin (Some thing) peer why = q.ends s startup peer _ why kin
 
-  confirmed_fact_made : (s : State) (startup : StartupState) → IsKin s.startup startup → (o : Option Held) (peer : List ℕ) → P s (record { state = with_startup s startup; entries = fact_entries (confirmed_fact o peer) })
+  confirmed_fact_made : (s : State) (startup : StartupState) → IsKin s startup → (o : Option Held) (peer : List ℕ) → P s (record { state = with_startup s startup; entries = fact_entries (confirmed_fact o peer) })
   confirmed_fact_made s startup kin None peer = q.attempts s startup kin
   confirmed_fact_made s startup kin (Some (OpeningHeld n near ni)) peer = q.attempts s startup kin
   confirmed_fact_made s startup kin (Some (HalfOpen j)) peer = q.confirms s startup peer j.near kin
@@ -261,8 +265,8 @@ module _ {Body : List ℕ → Type 0} {P : State → Did → Type 0} (q : Quiet 
   cancelling_made s n = by (lowest (has_number n) s.startup.attempts)
     where
       by_aim : (near : ℕ) (aim : Aim) → P s (record { state = with_startup s (without_attempt_by s.startup near (end_of_aim near Cancelled aim)); entries = fact_entries (end_of_aim near Cancelled aim) })
-      by_aim near (AtPeer peer n) = q.ends s _ peer near Cancelled (record { own = refl; secret = refl })
-      by_aim near (ByName name) = q.attempts s _ (record { own = refl; secret = refl })
+      by_aim near (AtPeer peer n) = q.ends s _ peer near Cancelled (kin_without s near (Some (Ended peer near Cancelled)))
+      by_aim near (ByName name) = q.attempts s _ (kin_without s near None)
 
       by : (o : Option (ℕ × AttemptState)) → P s (record { state = with_startup s (after_end_of s.startup o Cancelled); entries = fact_entries (end_of o Cancelled) })
       by None = q.sends.steps.does_nothing s
@@ -271,7 +275,7 @@ module _ {Body : List ℕ → Type 0} {P : State → Did → Type 0} (q : Quiet 
   -- ---- the ends of sessions
 
   end_made : (s : State) (peer : List ℕ) (why : Why) → P s (record { state = with_startup s (after_end s.startup peer why); entries = fact_entries (end_fact s.startup peer why) })
-  end_made s peer why = ended_fact_made s (after_end s.startup peer why) (kin_end s.startup peer why) (session_in (held_with s.startup.ledger peer)) peer why
+  end_made s peer why = ended_fact_made s (after_end s.startup peer why) (kin_end s peer why) (session_in (held_with s.startup.ledger peer)) peer why
 
   ended_made : (s : State) (near : ℕ) (row : Row) (why : Why) (left : SessionState) → get s.sessions near ≡ Some row → GoesOn row (record row { session = left }) → P s (ended_as s near row why left)
   ended_made s near row why left is goes =
@@ -338,7 +342,7 @@ module _ {Body : List ℕ → Type 0} {P : State → Did → Type 0} (q : Quiet 
       let peer : List ℕ = row.session.joined.peer in
       let t : State = with_row s near new in
       either_made q.sends s (is_opening row.session.stage) _ (nothing s)
-      (q.sends.steps.and_then s (nothing t) _ (q.goes_on s near row new is (confirmed_goes row)) (confirmed_fact_made t (after_confirm s.startup peer) (kin_confirm s.startup peer) (held_with s.startup.ledger peer) peer))
+      (q.sends.steps.and_then s (nothing t) _ (q.goes_on s near row new is (confirmed_goes row)) (confirmed_fact_made t (after_confirm s.startup peer) (kin_confirm t peer) (held_with s.startup.ledger peer) peer))
       (q.sends.steps.does_nothing s)
 
   pub confirming_made : (s : State) (place : Place) → P s (confirming s place)
@@ -348,9 +352,9 @@ module _ {Body : List ℕ → Type 0} {P : State → Did → Type 0} (q : Quiet 
 
   -- ---- time
 
-  repeated_made : (s : State) (near : ℕ) (a : AttemptState) (key cert : List ℕ) (stage : AttemptStage) → P s (due_done s (repeat_signed key cert near a stage))
-  repeated_made s near a key cert Hello = spread_made q.sends s (hello_spread a a.candidates)
-  repeated_made s near a key cert (Keying at cookie) = answer_made q.sends s (keying_signed key cert near a at cookie)
+  repeated_made : (s : State) (near : ℕ) (a : AttemptState) (cert : List ℕ) (stage : AttemptStage) → P s (due_done s (repeat_under cert near a stage))
+  repeated_made s near a cert Hello = spread_made q.sends s (hello_spread a a.candidates)
+  repeated_made s near a cert (Keying at cookie under) = answer_made q.sends s (keying_under under cert near a at cookie)
 
   kept_alive_made : (s : State) (near : ℕ) (row : Row) → get s.sessions near ≡ Some row → P s (kept_alive_by s near row)
   kept_alive_made s near row is =
@@ -405,11 +409,11 @@ module _ {Body : List ℕ → Type 0} {P : State → Did → Type 0} (k : Timed 
   pub tick_made : (s : State) → P s (tick_once s)
   tick_made s = tick_walked (P s) s (record {
     none = k.quiet.sends.steps.does_nothing s;
-    ends = λ near a peer n aims there over. k.quiet.ends s _ peer near Expired (record { own = refl; secret = refl });
-    unseeks = λ near a name aims there over. k.quiet.unseeks s _ near Expired (record { own = refl; secret = refl });
+    ends = λ near a peer n aims there over. k.quiet.ends s _ peer near Expired (kin_without s near (Some (Ended peer near Expired)));
+    unseeks = λ near a name aims there over. k.quiet.unseeks s _ near Expired (kin_without s near None);
     repeats = λ e there. (let startup : StartupState = with_attempt s.startup e.0 (repeated e.1 s.moment) in
         let t : State = with_startup s startup in
-        k.quiet.sends.steps.and_then s (nothing t) (due_done t (repeat_of s.startup e.0 e.1)) (k.quiet.attempts s startup (record { own = refl; secret = refl })) (repeated_made k.quiet t e.0 e.1 _ _ e.1.stage));
+        k.quiet.sends.steps.and_then s (nothing t) (due_done t (repeat_of s.startup e.0 e.1)) (k.quiet.attempts s startup (kin_repeat s e there s.moment)) (repeated_made k.quiet t e.0 e.1 _ e.1.stage));
     row = λ near row due there is. row_due_made s near row due there is;
   })
 
@@ -463,7 +467,7 @@ module _ {Body : List ℕ → Type 0} {P : State → Did → Type 0} (a : All Bo
 
   -- by what is so of keyings
   pub chunk_by : (R : Did → Type 0) (place : Place) (from : AddressParts) (draws : Draws) (walk : Walk) (s : State) (c : Placed) → AreSmall walk.cursor → ((d : Did) → P s d → R d) →
-      (c.kind ≡ 0x38 → takes place 0x38 ≡ true → initiator_keying_cause s walk from c.payload ≡ None → R (initiator_keyed s from draws c.payload)) → (takes place 0x78 ≡ true → R (responder_keyed s (sid_at place) from c.payload)) →
+      (c.kind ≡ 0x38 → takes place 0x38 ≡ true → initiator_keying_cause s place walk from c.payload ≡ None → R (initiator_keyed s place from draws c.payload)) → (takes place 0x78 ≡ true → R (responder_keyed s (sid_at place) from c.payload)) →
       ((tag cookie cert : List ℕ) → chunk_reading c.kind c.payload ≡ Ok (RHello tag cookie cert) → takes place c.kind ≡ true → R (read_done s place from (Ok (RHello tag cookie cert)))) →
       R (chunk_did place from draws walk s c)
   chunk_by R place from draws walk s c small up initiator responder hello = chunk_by_kind R place from draws walk s c (record {
@@ -494,7 +498,7 @@ module _ {Body : List ℕ → Type 0} {Q P : State → Did → Type 0} (q : Quie
   opening_made s peer candidates draws =
       let startup : StartupState = after_begin s.startup peer candidates (free_from s draws.word) draws.nonce draws.tag s.moment in
       let spread : SpreadParts = begin_spread s.startup peer candidates draws.nonce draws.tag s.moment in
-      b.steps.and_then s (stated s startup (started_fact s.startup.ledger peer (free_from s draws.word) draws.nonce)) (sent_spread (with_startup s startup) spread) (b.starts s startup peer _ (free_from s draws.word) draws.nonce (record { own = refl; secret = refl }))
+      b.steps.and_then s (stated s startup (started_fact s.startup.ledger peer (free_from s draws.word) draws.nonce)) (sent_spread (with_startup s startup) spread) (b.starts s startup peer _ (free_from s draws.word) draws.nonce (kin_begin s _ (free_from s draws.word) (begun_attempt s.startup peer candidates draws.nonce draws.tag s.moment) refl refl))
       (b.quiet (with_startup s startup) _ (spread_made q.sends (with_startup s startup) spread))
 
   pub seeking_made : (s : State) (name : List ℕ) (candidates : List AddressParts) (draws : Draws) → P s (seeking s name candidates draws)
@@ -502,64 +506,86 @@ module _ {Body : List ℕ → Type 0} {Q P : State → Did → Type 0} (q : Quie
       let near : ℕ = free_from s draws.word in
       let startup : StartupState = after_seek s.startup name candidates near draws.nonce draws.tag s.moment in
       let spread : SpreadParts = seek_spread name candidates draws.nonce draws.tag s.moment in
-      b.steps.and_then s (began s startup near name) (sent_spread (with_startup s startup) spread) (b.seeks s startup near name (record { own = refl; secret = refl }))
+      b.steps.and_then s (began s startup near name) (sent_spread (with_startup s startup) spread) (b.seeks s startup near name (kin_begin s s.startup.ledger near (begun_search name candidates draws.nonce draws.tag s.moment) refl refl))
       (b.quiet (with_startup s startup) _ (spread_made q.sends (with_startup s startup) spread))
 
   -- a responder's hello makes an attempt of a search
-  met_made : (s : State) (print : List ℕ) (e : ℕ × AttemptState) (from : AddressParts) (cookie : List ℕ) (aim : Aim) →
-      P s (record { state = with_startup s (after_answer_as s.startup print e from cookie s.moment aim); entries = fact_entries (answer_fact_as s.startup print e.0 e.1.ni aim) })
-  met_made s print e from cookie (AtPeer peer n) = b.quiet s _ (q.attempts s _ (record { own = refl; secret = refl }))
-  met_made s print e from cookie (ByName name) = b.starts s _ print _ e.0 e.1.ni (record { own = refl; secret = refl })
+  met_made : (s : State) (place : Place) (print : List ℕ) (e : ℕ × AttemptState) (from : AddressParts) (cookie : List ℕ) (aim : Aim) →
+      P s (record { state = with_startup s (after_answer_as s.startup print e from cookie s.moment (group_at s place) aim); entries = fact_entries (answer_fact_as s.startup print e.0 e.1.ni aim) })
+  met_made s place print e from cookie (AtPeer peer n) =
+      b.quiet s _ (q.attempts s _ (kin_answered s place s.startup.ledger e.0 (answered e.1 from cookie s.moment (group_at s place)) from cookie refl refl))
+  met_made s place print e from cookie (ByName name) =
+      b.starts s _ print _ e.0 e.1.ni
+      (kin_answered s place (noted s.startup.ledger (started_fact s.startup.ledger print e.0 e.1.ni)) e.0 (met e.1 print (s.startup.ledger.started + 1) from cookie s.moment (group_at s place)) from cookie refl refl)
 
-  answer_first_made : (s : State) (print : List ℕ) (o : Option (ℕ × AttemptState)) (from : AddressParts) (cookie : List ℕ) →
-      P s (record { state = with_startup s (after_answer s.startup print o from cookie s.moment); entries = fact_entries (answer_fact s.startup print o) })
-  answer_first_made s print None from cookie = b.steps.does_nothing s
-  answer_first_made s print (Some e) from cookie = met_made s print e from cookie e.1.aim
+  answer_first_made : (s : State) (place : Place) (print : List ℕ) (o : Option (ℕ × AttemptState)) (from : AddressParts) (cookie : List ℕ) →
+      P s (record { state = with_startup s (after_answer s.startup print o from cookie s.moment (group_at s place)); entries = fact_entries (answer_fact s.startup print o) })
+  answer_first_made s place print None from cookie = b.steps.does_nothing s
+  answer_first_made s place print (Some e) from cookie = met_made s place print e from cookie e.1.aim
 
   pub hello_made : (s : State) (place : Place) (from : AddressParts) (tag cookie cert : List ℕ) → P s (read_done s place from (Ok (RHello tag cookie cert)))
   hello_made s place from tag cookie cert =
       let read : Result Chunk ChunkFault = Ok (RHello tag cookie cert) in
       let t : State = read_left s place from read in
-      b.steps.and_then s (read_first s place from read) (replied t place from (read_reply s place from read)) (answer_first_made s (sha256 cert) (lowest (has_tag tag) s.startup.attempts) from cookie)
-      (b.quiet t _ (answered_made q.sends t (answer_keying s.startup (sha256 cert) (lowest (has_tag tag) s.startup.attempts) from cookie)))
+      b.steps.and_then s (read_first s place from read) (replied t place from (read_reply s place from read)) (answer_first_made s place (sha256 cert) (lowest (has_tag tag) s.startup.attempts) from cookie)
+      (b.quiet t _ (answered_made q.sends t (answer_keying s.startup (sha256 cert) (lowest (has_tag tag) s.startup.attempts) from cookie (group_at s place))))
 
   pub read_made : (s : State) (place : Place) (from : AddressParts) (read : Result Chunk ChunkFault) → Carries Body (read_reply s place from read) → P s (read_done s place from read)
   read_made s place from = by_hello (λ read. Carries Body (read_reply s place from read) → P s (read_done s place from read)) (λ tag cookie cert carries. hello_made s place from tag cookie cert)
       (λ read other carries. b.quiet s _ (quiet_read_made q s place from read other carries))
 
-  keyed_with_made : (s : State) (startup : StartupState) (from : AddressParts) (now near : ℕ) (nr : List ℕ) (keying : InitiatorKeying) (t : CookieTest) → P s (keying_done s from (Some (keyed_with startup from now near nr keying t)))
-  keyed_with_made s startup from now near nr keying Current = by (repeated_session (held_with startup.ledger (sha256 keying.cert)) (keying_of keying))
+  -- what is kept of it answers a repeat
+  again_made : (s : State) (startup : StartupState) (from : AddressParts) (g : GroupSecret) (j : Joined) (kept : Option KeptKeying) → P s (keying_done s from g (again_by startup j from kept))
+  again_made s startup from g j None = b.steps.does_nothing s
+  again_made s startup from g j (Some kept) = b.quiet s _ (answer_made q.sends s (kept_answer startup j from kept))
+
+  keyed_with_made : (s : State) (generation : ℕ) (startup : StartupState) (from : AddressParts) (now near : ℕ) (nr : List ℕ) (keying : InitiatorKeying) (t : CookieTest) →
+      P s (keying_done s from (group_at s (Startup generation)) (keyed_with startup from now near nr (group_at s (Startup generation)) keying t))
+  keyed_with_made s generation startup from now near nr keying Current = by (repeated_session (held_with startup.ledger (sha256 keying.cert)) (keying_of keying))
     where
-      by : (o : Option Joined) → P s (keying_done s from (Some (again_or_birth startup (keying_of keying) from near nr o)))
-      by (Some j) = b.quiet s _ (answer_made q.sends s (session_answer startup j from))
+      g : GroupSecret
+      g = group_at s (Startup generation)
+
+      by : (o : Option Joined) → P s (keying_done s from g (again_or_birth startup (keying_of keying) from near nr g o))
+      by (Some j) = again_made s startup from g j (get startup.kept (sha256 keying.cert))
       by None =
           let j : Joined = born_session startup.ledger (keying_of keying) near nr in
           let o : Option Held = held_with startup.ledger (sha256 keying.cert) in
-          let d : Did = birth s (way_made (sha256 keying.cert) o) j from in
-          b.steps.and_then s d (sent_answer d.state (session_answer startup j from)) (b.bears s (sha256 keying.cert) o j from) (b.quiet d.state _ (answer_made q.sends d.state (session_answer startup j from)))
-  keyed_with_made s startup from now near nr keying Bad = b.quiet s _ (answer_made q.sends s (change_answer startup keying from now))
-  keyed_with_made s startup from now near nr keying CookieMoved = b.quiet s _ (answer_made q.sends s (change_answer startup keying from now))
-  keyed_with_made s startup from now near nr keying Stale = b.quiet s _ (answer_made q.sends s (change_answer startup keying from now))
+          let d : Did = birth s (way_made (sha256 keying.cert) o) j from g in
+          b.steps.and_then s d (sent_answer d.state (session_answer startup j from g)) (b.bears s generation (sha256 keying.cert) o j from) (b.quiet d.state _ (answer_made q.sends d.state (session_answer startup j from g)))
+  keyed_with_made s generation startup from now near nr keying Bad = b.quiet s _ (answer_made q.sends s (change_answer startup keying from now (group_at s (Startup generation))))
+  keyed_with_made s generation startup from now near nr keying CookieMoved = b.quiet s _ (answer_made q.sends s (change_answer startup keying from now (group_at s (Startup generation))))
+  keyed_with_made s generation startup from now near nr keying Stale = b.quiet s _ (answer_made q.sends s (change_answer startup keying from now (group_at s (Startup generation))))
 
-  keyed_made : (s : State) (startup : StartupState) (from : AddressParts) (now near : ℕ) (nr : List ℕ) (r : Result InitiatorKeying Cause) → P s (keying_done s from (keyed_reading startup from now near nr r))
-  keyed_made s startup from now near nr (Ok keying) = keyed_with_made s startup from now near nr keying (cookie_test startup.cookie_secret keying.cookie from now)
-  keyed_made s startup from now near nr (Err cause) = b.steps.does_nothing s
+  keyed_made : (s : State) (generation : ℕ) (startup : StartupState) (from : AddressParts) (now near : ℕ) (nr : List ℕ) (r : Result InitiatorKeying Cause) →
+      P s (keying_done s from (group_at s (Startup generation)) (keyed_reading startup from now near nr (group_at s (Startup generation)) r))
+  keyed_made s generation startup from now near nr (Ok keying) = keyed_with_made s generation startup from now near nr keying (cookie_test startup.cookie_secret keying.cookie from now)
+  keyed_made s generation startup from now near nr (Err cause) = b.steps.does_nothing s
 
-  pub initiator_made : (s : State) (from : AddressParts) (draws : Draws) (payload : List ℕ) → P s (initiator_keyed s from draws payload)
-  initiator_made s from draws payload =
-      let t : State = with_startup s (after_keying s.startup payload from s.moment (free_from s draws.word) draws.nonce) in
-      b.steps.and_then s (nothing t) _ (b.quiet s (nothing t) (q.attempts s t.startup (kin_keying s.startup payload from s.moment (free_from s draws.word) draws.nonce)))
-      (keyed_made t s.startup from s.moment (free_from s draws.word) draws.nonce (initiator_keying_in payload))
+  -- it comes to startup alone
+  pub initiator_made : (s : State) (generation : ℕ) (from : AddressParts) (draws : Draws) (payload : List ℕ) → P s (initiator_keyed s (Startup generation) from draws payload)
+  initiator_made s generation from draws payload =
+      let t : State = with_startup s (after_keying s.startup payload from s.moment (free_from s draws.word) draws.nonce (group_at s (Startup generation))) in
+      b.steps.and_then s (nothing t) _ (b.quiet s (nothing t) (q.attempts s t.startup (kin_keying s (Startup generation) payload from s.moment (free_from s draws.word) draws.nonce)))
+      (keyed_made t generation s.startup from s.moment (free_from s draws.word) draws.nonce (initiator_keying_in payload))
 
-  opened_as_made : (s : State) (near : ℕ) (from : AddressParts) (keying : ResponderKeying) (ni : List ℕ) (aim : Aim) → P s (opening_done s near from (opened_as near keying ni aim))
+  -- wherever its kind is taken
+  pub initiator_at : (place : Place) (s : State) (from : AddressParts) (draws : Draws) (payload : List ℕ) → takes place 0x38 ≡ true → P s (initiator_keyed s place from draws payload)
+  initiator_at (Startup generation) s from draws payload taken = initiator_made s generation from draws payload
+  initiator_at (Attempt near generation) s from draws payload taken = absurd (cc)
+  initiator_at (Session near) s from draws payload taken = absurd (cc)
+
+  opened_as_made : (s : State) (near : ℕ) (from : AddressParts) (keying : ResponderKeying) (ni : List ℕ) (aim : Aim) →
+      P s (opening_done s near from (attempt_group s.group (get s.startup.attempts near)) (opened_as near keying ni aim))
   opened_as_made s near from keying ni (AtPeer peer n) =
       let fact : Fact = opened_with near keying peer n ni in
-      let t : State = with_opened (with_startup s (after_opening s.startup near fact)) fact from in
-      b.steps.and_then s (record { state = t; entries = FactEntry fact ∷ [] }) (sent_in_session t near from (chunk_bytes (Ping []))) (b.opens s (after_opening s.startup near fact) _ from (record { own = refl; secret = refl }))
+      let t : State = with_opened (with_startup s (after_opening s.startup near fact)) fact from (attempt_group s.group (get s.startup.attempts near)) in
+      b.steps.and_then s (record { state = t; entries = FactEntry fact ∷ [] }) (sent_in_session t near from (chunk_bytes (Ping []))) (b.opens s (after_opening s.startup near fact) _ from (kin_without s near (Some fact)))
       (b.quiet t _ (in_session_made q.sends t near from (chunk_bytes (Ping [])) q.empty_ping))
   opened_as_made s near from keying ni (ByName name) = b.steps.does_nothing s
 
-  opened_made : (s : State) (near : ℕ) (from : AddressParts) (o : Option AttemptState) (r : Result ResponderKeying Cause) → P s (opening_done s near from (opened_reading near o r))
+  opened_made : (s : State) (near : ℕ) (from : AddressParts) (o : Option AttemptState) (r : Result ResponderKeying Cause) →
+      P s (opening_done s near from (attempt_group s.group (get s.startup.attempts near)) (opened_reading near o r))
   opened_made s near from (Some e) (Ok keying) = opened_as_made s near from keying e.ni e.aim
   opened_made s near from (Some e) (Err cause) = b.steps.does_nothing s
   opened_made s near from None r = b.steps.does_nothing s
@@ -648,7 +674,7 @@ module _ {Body : List ℕ → Type 0} {Q P : State → Did → Type 0} (a : All 
 
   pub chunk_made : (place : Place) (from : AddressParts) (draws : Draws) (walk : Walk) (s : State) (c : Placed) → AreSmall walk.cursor → P s (chunk_did place from draws walk s c)
   chunk_made place from draws walk s c small =
-      chunk_by a (P s) place from draws walk s c small (b.quiet s) (λ kind taken none. initiator_made a.timed.quiet b s from draws c.payload) (λ taken. responder_made a.timed.quiet b s (sid_at place) from c.payload) (λ tag cookie cert is taken. hello_made a.timed.quiet b s place from tag cookie cert)
+      chunk_by a (P s) place from draws walk s c small (b.quiet s) (λ kind taken none. initiator_at a.timed.quiet b place s from draws c.payload taken) (λ taken. responder_made a.timed.quiet b s (sid_at place) from c.payload) (λ tag cookie cert is taken. hello_made a.timed.quiet b s place from tag cookie cert)
 
   pub chunks_made : (place : Place) (from : AddressParts) (draws : Draws) (walk : Walk) (s : State) (cs : List Placed) → AreSmall walk.cursor → P s (chunks_did place from draws walk s cs)
   chunks_made place from draws walk s [] small = b.steps.does_nothing s

@@ -31,7 +31,8 @@ use Rattle.endpoint_laws.proofs.Matching.{Found, of_peer, Matches, changed_match
 use Rattle.glare_core.specs.Account.{StandsFor}
 use Rattle.endpoint_model.proofs.Members.{tested}
 use Rattle.endpoint_laws.proofs.Tied.{Tied, IsKept, IsKeptIn, AreBy, by_later, closing_by, StageFits, IsClosed, IsClosedThing, thing_of, found_in}
-use Rattle.endpoint_laws.proofs.Agrees.{Agrees, IsOurs, IsGiven, IsAt, Fits, GoesOnBeside, ClosesAt, SearchesAt, none_searches, WasStarted, started_still, combined, thing_at, thing_here, thing_elsewhere, used_here, used_elsewhere, found_of_attempt, found_of_peer, found_at, held_row_is, closing_row_is, none_closes, no_attempt, agrees_changed, agrees_of, tied_of}
+use Rattle.endpoint_laws.proofs.Agrees.{Agrees, IsOurs, IsGiven, IsAt, Fits, GoesOnBeside, ClosesAt, SearchesAt, WasStarted, started_still, combined, thing_at, thing_here, thing_elsewhere, used_here, used_elsewhere, found_of_attempt, found_of_peer, found_at, held_row_is, closing_row_is, none_closes, no_attempt, agrees_changed, agrees_of, tied_of}
+use Rattle.endpoint_laws.proofs.Kin.{one_still, IsKin}
 
 -- ---- the ledger after a fact
 
@@ -263,7 +264,7 @@ tied_session setup past s near old new tied is alike =
     let t : State = with_row s near new in
     let a = agrees_of setup past s tied in
     let none = no_attempt s near old (a.apart near) is in
-    tied_of setup past t (agrees_same setup past s t near None (Some new) a (record { config = a.given.config; cert = a.given.cert; secret = a.given.secret; cookie_secret = a.given.cookie_secret; own = a.given.own; max_peers = a.given.max_peers }) (record {
+    tied_of setup past t (agrees_same setup past s t near None (Some new) a (record { config = a.given.config; cert = a.given.cert; one = one_still setup s t a.given.one refl refl refl; cookie_secret = a.given.cookie_secret; own = a.given.own; max_peers = a.given.max_peers }) (record {
       attempt = none;
       session = get_inserted s.sessions near new;
       attempts = λ q other. refl;
@@ -282,12 +283,12 @@ attempt_is_open setup past s a near old (ByName name) aims is thing at c = subst
 -- an attempt is replaced by one with the same values
 pub tied_attempt : (setup : Setup) (past : Past) (s : State) (near : ℕ) (old new : AttemptState) → Tied setup past s → get s.startup.attempts near ≡ Some old →
     combined near (Some new) None ≡ combined near (Some old) None → (WasStarted past near old → WasStarted past near new) → FitsStage new.aim new.stage → ((which : Search) (at : ℕ) → IsKept old which at → IsKept new which at) →
-    Tied setup past (with_startup s (with_attempt s.startup near new))
-tied_attempt setup past s near old new tied is same was stage kept =
+    IsKin s (with_attempt s.startup near new) → Tied setup past (with_startup s (with_attempt s.startup near new))
+tied_attempt setup past s near old new tied is same was stage kept kin =
     let t : State = with_startup s (with_attempt s.startup near new) in
     let a = agrees_of setup past s tied in
     let there = found_of_attempt s near old is in
-    tied_of setup past t (agrees_same setup past s t near (Some new) None a (record { config = a.given.config; cert = a.given.cert; secret = a.given.secret; cookie_secret = a.given.cookie_secret; own = a.given.own; max_peers = a.given.max_peers }) (record {
+    tied_of setup past t (agrees_same setup past s t near (Some new) None a (record { config = a.given.config; cert = a.given.cert; one = kin.one setup a.given.one; cookie_secret = a.given.cookie_secret; own = a.given.own; max_peers = a.given.max_peers }) (record {
       attempt = get_inserted s.startup.attempts near new;
       session = a.apart near old is;
       attempts = λ q other. get_beside s.startup.attempts near new q other;
@@ -347,7 +348,7 @@ pub tied_alike : (setup : Setup) (past : Past) (s : State) (moment sealed : ℕ)
 tied_alike setup past s moment sealed up t = record {
   config = t.config;
   cert = t.cert;
-  secret = t.secret;
+  one = one_still setup s (record s { moment = moment; sealed = sealed }) t.one refl refl refl;
   cookie_secret = t.cookie_secret;
   own = t.own;
   max_peers = t.max_peers;
@@ -374,7 +375,7 @@ pub tied_unseen : (setup : Setup) (past : Past) (s : State) (introduces : Bool) 
 tied_unseen setup past s introduces redirects t = record {
   config = t.config;
   cert = t.cert;
-  secret = t.secret;
+  one = one_still setup s (record s { introduces = introduces; redirects = redirects }) t.one refl refl refl;
   cookie_secret = t.cookie_secret;
   own = t.own;
   max_peers = t.max_peers;

@@ -31,6 +31,6 @@ none_in_both (x ∷ xs) ys p q = and_then (fact_in x) (NoFacts xs) (NoFacts (xs 
 pub none_sends : Sends Any (λ s d. NoFacts d.entries)
 none_sends = record {
   steps = record { does_nothing = λ s. tt; and_then = λ s d e first later. none_in_both d.entries e.entries first later };
-  out = λ s to sid plain. tt;
+  out = λ s generation keys to sid plain. tt;
   out_in = λ s near row to body is carries. tt;
 }

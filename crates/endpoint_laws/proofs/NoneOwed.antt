@@ -55,7 +55,7 @@ use Rattle.endpoint_laws.proofs.EachRow.{IsKeptAlone, Each, Keeps, put, each_qui
 use Rattle.endpoint_laws.proofs.EachRow.{each_calls, each_begins, each_enters, after_every_log}
 use Rattle.endpoint_laws.proofs.FlowsWithin.{sound_is_kept}
 use Rattle.endpoint_laws.proofs.Made.{Given, admission_made, answers_by, acked_made, carries_any}
-use Rattle.endpoint_laws.proofs.Made.{confirming_made, initiator_made, left_by}
+use Rattle.endpoint_laws.proofs.Made.{confirming_made, initiator_at, left_by}
 use Rattle.endpoint_laws.proofs.Made.{read_made, responder_made, tested_made, told_made}
 use Rattle.endpoint_laws.proofs.Made.{unowed_made}
 use Rattle.endpoint_laws.proofs.Small.{Any}
@@ -169,7 +169,7 @@ module _ (place : Place) (from : AddressParts) (draws : Draws) where
       let b = each_begins (IsPaidBut place) (kept place) in
       chunk_by_kind (Stays place s) place from draws walk s c (record {
         discarded = λ cause. q.discards s c.at cause;
-        initiator = λ kind taken none formed. initiator_made q b s from draws c.payload;
+        initiator = λ kind taken none formed. initiator_at q b place s from draws c.payload taken;
         responder = λ kind taken none formed. responder_made q b s (sid_at place) from c.payload;
         told = λ told taken has. told_made q s (sid_at place) from c;
         flows = λ is taken none. taken_stays place s (sid_at place) (own_of place c.kind is taken)

@@ -3,33 +3,34 @@ use Rattle.std.proofs.Common.{◌≡◌, ℕ, ◌⊎◌, inl, inr, List, [], ◌
 use Rattle.crypto_profile.specs.declared.keys.Context.{Context}
 use Rattle.crypto_profile.specs.declared.keys.Context.TheVariants.{Startup}
 use Rattle.glare_core.specs.declared.facts.Held.{Held}
+use Rattle.endpoint_model.specs.Event.{Setup}
 use Rattle.endpoint_laws.specs.Past.{Past}
-use Rattle.endpoint_laws.specs.Contexts.{ContextsOf, OpensFirst, OpensUnder, SearchUnder, StandsUnder, inward}
+use Rattle.endpoint_laws.specs.Contexts.{ContextsOf, OpensFirst, OpensUnder, SearchUnder, StandsUnder, inward, Secrets}
 
 -- the one context of a session ID at an end that did this
-abbrev pub ContextOf : List ℕ → Past → ℕ → Context → Type 0
-ContextOf own past sid context =
-    (((sid ≡ 0) ⊎ SearchUnder past sid) × (context ≡ Startup 0)) ⊎ ((thing : Held) × StandsUnder past sid thing ×
-    (context ≡ inward own thing))
+abbrev pub ContextOf : Setup → Past → ℕ → Context → Type 0
+ContextOf setup past sid context =
+    (((sid ≡ 0) ⊎ SearchUnder past sid) × (context ≡ Startup setup.generation)) ⊎ ((thing : Held) × StandsUnder past sid thing ×
+    (context ≡ inward setup thing))
 
-pub one_context : (own : List ℕ) (past : Past) (sid : ℕ) (context : Context) → ContextOf own past sid context → ContextsOf own past sid (context ∷ [])
-one_context own past sid context (inl zero) = inl (zero.0, ap (λ (c : Context). c ∷ []) zero.1)
-one_context own past sid context (inr under) = inr (under.0, under.1, ap (λ (c : Context). c ∷ []) under.2)
+pub one_context : (setup : Setup) (past : Past) (sid : ℕ) (context : Context) → ContextOf setup past sid context → ContextsOf setup past sid (context ∷ [])
+one_context setup past sid context (inl zero) = inl (zero.0, ap (λ (c : Context). c ∷ []) zero.1)
+one_context setup past sid context (inr under) = inr (under.0, under.1, ap (λ (c : Context). c ∷ []) under.2)
 
-pub opens_first : (secret : List ℕ) (sid : ℕ) (datagram : List ℕ) (context : Context) (plain : List ℕ) → OpensUnder secret context sid datagram plain →
-    OpensFirst secret (context ∷ []) sid datagram context plain
-opens_first secret sid datagram context plain opens = inl (refl, opens)
+pub opens_first : (secrets : Secrets) (sid : ℕ) (datagram : List ℕ) (context : Context) (plain : List ℕ) → OpensUnder secrets context sid datagram plain →
+    OpensFirst secrets (context ∷ []) sid datagram context plain
+opens_first secrets sid datagram context plain opens = inl (refl, opens)
 
-only : (secret : List ℕ) (first : Context) (sid : ℕ) (datagram : List ℕ) (context : Context) (plain : List ℕ) → OpensFirst secret (first ∷ []) sid datagram context plain →
-    (first ≡ context) × OpensUnder secret context sid datagram plain
-only secret first sid datagram context plain (inl here) = here
-only secret first sid datagram context plain (inr later) = absurd later.1
+only : (secrets : Secrets) (first : Context) (sid : ℕ) (datagram : List ℕ) (context : Context) (plain : List ℕ) → OpensFirst secrets (first ∷ []) sid datagram context plain →
+    (first ≡ context) × OpensUnder secrets context sid datagram plain
+only secrets first sid datagram context plain (inl here) = here
+only secrets first sid datagram context plain (inr later) = absurd later.1
 
-pub the_context : (secret own : List ℕ) (past : Past) (sid : ℕ) (contexts : List Context) (datagram : List ℕ) (context : Context) (plain : List ℕ) → ContextsOf own past sid contexts →
-    OpensFirst secret contexts sid datagram context plain → ContextOf own past sid context × OpensUnder secret context sid datagram plain
-the_context secret own past sid contexts datagram context plain (inl zero) opens =
-    let here = only secret (Startup 0) sid datagram context plain (subst (λ (cs : List Context). OpensFirst secret cs sid datagram context plain) zero.1 opens) in
+pub the_context : (secrets : Secrets) (setup : Setup) (past : Past) (sid : ℕ) (contexts : List Context) (datagram : List ℕ) (context : Context) (plain : List ℕ) → ContextsOf setup past sid contexts →
+    OpensFirst secrets contexts sid datagram context plain → ContextOf setup past sid context × OpensUnder secrets context sid datagram plain
+the_context secrets setup past sid contexts datagram context plain (inl zero) opens =
+    let here = only secrets (Startup setup.generation) sid datagram context plain (subst (λ (cs : List Context). OpensFirst secrets cs sid datagram context plain) zero.1 opens) in
     (inl (zero.0, sym here.0), here.1)
-the_context secret own past sid contexts datagram context plain (inr under) opens =
-    let here = only secret (inward own under.0) sid datagram context plain (subst (λ (cs : List Context). OpensFirst secret cs sid datagram context plain) under.2 opens) in
+the_context secrets setup past sid contexts datagram context plain (inr under) opens =
+    let here = only secrets (inward setup under.0) sid datagram context plain (subst (λ (cs : List Context). OpensFirst secrets cs sid datagram context plain) under.2 opens) in
     (inr (under.0, under.1, sym here.0), here.1)

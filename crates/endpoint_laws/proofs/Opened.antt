@@ -1,11 +1,11 @@
 -- The context in which a datagram opens: by what is kept it is the same as by what the end has stated.
-use Rattle.std.proofs.Common.{◌≡◌, ◌≢◌, ℕ, ◌≤◌, ◌==◌, List, [], ◌∷◌, length, drop, length-drop, nat_lt, Bool, true, false, ◌||◌, if◌then◌else◌, Option, Some, None, is_some, inl, inr, ◌⊎◌, refl, sym, ap, subst, ◌∙◌, arith}
+use Rattle.std.proofs.Common.{◌≡◌, ◌≢◌, ℕ, ◌≤◌, List, [], ◌∷◌, length, drop, length-drop, nat_lt, Bool, true, false, ◌||◌, if◌then◌else◌, Option, Some, None, is_some, inl, inr, ◌⊎◌, refl, sym, ap, subst, ◌∙◌, arith}
 use Rattle.std.proofs.lemmas.Bool.Decides.{nat_tests}
 use Rattle.std.specs.FinMap.{get, contains_key}
 use Rattle.crypto_profile.specs.declared.keys.Context.{Context}
 use Rattle.crypto_profile.specs.declared.keys.Context.TheVariants.{Startup as StartupContext}
 use Rattle.crypto_profile.specs.declared.sealing.SealFault.{SealFault}
-use Rattle.crypto_profile.specs.Keys.{keys_of}
+use Rattle.crypto_profile.specs.Keys.{keys_of, startup_keys_of}
 use Rattle.crypto_profile.specs.Sealing.{Opens}
 use Rattle.crypto_profile.specs.Opening.{open_refusal, plain_of}
 use Rattle.crypto_profile.proofs.Opened.{opens_by_its_tag}
@@ -23,18 +23,17 @@ use Rattle.session_core.proofs.Keyed.{opens_in_context}
 use Rattle.endpoint_model.specs.declared.row.Row.{Row}
 use Rattle.endpoint_model.specs.declared.place.Place.{Place}
 use Rattle.endpoint_model.specs.declared.place.Place.TheVariants.{Startup, Attempt, Session}
-use Rattle.endpoint_model.specs.Event.{Setup, Event, own_of}
+use Rattle.endpoint_model.specs.Event.{Setup, Event}
 use Rattle.endpoint_laws.specs.Past.{Past, facts_of, IsClosing, past_of}
-use Rattle.endpoint_laws.specs.Contexts.{ContextsOf, HeldUnder, OpensFirst, SearchUnder, StandsUnder, inward}
+use Rattle.endpoint_laws.specs.Contexts.{ContextsOf, HeldUnder, OpensFirst, SearchUnder, StandsUnder, inward, generation_of, Secrets, Knows}
 use Rattle.endpoint_laws.proofs.OneContext.{ContextOf, one_context, opens_first, the_context}
 use Rattle.endpoint_laws.specs.OfTheLog.{WasThing}
 use Rattle.session_core.specs.Closing.{is_held as is_held_stage}
 use Rattle.endpoint_model.specs.State.{State, is_used}
-use Rattle.endpoint_model.specs.Admission.{place_of, startup_keys}
+use Rattle.endpoint_model.specs.Admission.{places_of, sid_at, group_at}
 use Rattle.endpoint_model.specs.Log.{StandsFor}
 use Rattle.endpoint_laws.specs.Laws.{IsSetup, AreCalls}
-use Rattle.endpoint_laws.specs.OpensIn.{startup_unless, context_in_startup, context_in_session, context_found, opens_in, OpensAt, IsContextAt, OpensByTheLog}
-use Rattle.endpoint_model.proofs.Naming.{place_by}
+use Rattle.endpoint_laws.specs.OpensIn.{startup_unless, context_in_startup, context_in_session, opens_in, OpensAt, IsContextAt, OpensByTheLog, context_first, context_at}
 use Rattle.endpoint_model.proofs.Members.{tested}
 use Rattle.endpoint_laws.proofs.Tied.{Tied, IsClosedThing, IsKeptIn, search_of, thing_of}
 use Rattle.endpoint_laws.proofs.Searching.{kept_as}
@@ -43,12 +42,23 @@ use Rattle.endpoint_laws.proofs.SessionChunks.{was_inward}
 use Rattle.endpoint_laws.proofs.Chunked.{either_way}
 use Rattle.endpoint_laws.proofs.Agrees.{agrees_of, combined, thing_at, in_row, no_attempt, found_as, found_of_peer, found_of_session}
 use Rattle.endpoint_laws.proofs.Logged.{tied_to_log}
+use Rattle.endpoint_laws.proofs.Kin.{group_is_one}
+use Rattle.endpoint_laws.proofs.Groups.{startup_place, places_by}
+use Rattle.rtmfp_base.specs.Reasons.{first_that_stands}
+use Rattle.crypto_profile.specs.declared.group.GroupSecret.{GroupSecret}
+use Rattle.endpoint_laws.proofs.Knowing.{known_opens, opens_known}
+use Rattle.endpoint_laws.proofs.ByMap.{inward_own}
 
 -- ---- contexts
 
-unrefused : (o : Option SealFault) (c : Context) → startup_unless 0 o ≡ Some c → (o ≡ None) × ((StartupContext 0) ≡ c)
-unrefused None c e = (refl, let same : (StartupContext 0) ≡ c = cc in same)
-unrefused (Some fault) c e = absurd (cc)
+unrefused : (generation : ℕ) (o : Option SealFault) (c : Context) → startup_unless generation o ≡ Some c → (o ≡ None) × ((StartupContext generation) ≡ c)
+unrefused generation None c e = (refl, let same : (StartupContext generation) ≡ c = cc in same)
+unrefused generation (Some fault) c e = absurd (cc)
+
+-- of one there is no other
+only_one : (o : Option Context) → first_that_stands (o ∷ []) ≡ o
+only_one None = refl
+only_one (Some c) = refl
 
 chosen : (b : Bool) (own c : Context) → ◌≡◌ {A = Option Context} (if b then Some own else None) (Some c) → (b ≡ true) × (own ≡ c)
 chosen true own c e = (refl, let same : own ≡ c = cc in same)
@@ -65,16 +75,22 @@ or_true : (a : Bool) → (a || true) ≡ true
 or_true true = refl
 or_true false = refl
 
-place_zero : (s : State) (sid : ℕ) → (sid == 0) ≡ true → place_of s sid ≡ Some (Startup 0)
-place_zero s sid zero =
-    ap (λ (b : Bool). if b then Some (Startup 0) else if contains_key s.startup.attempts sid then Some (Attempt sid 0) else if contains_key s.sessions sid then Some (Session sid) else None) zero
-
 module _ (setup : Setup) (past : Past) (s : State) (tied : Tied setup past s) (part : List ℕ) where
   abbrev facts : List Fact
   facts = facts_of past
 
-  abbrev own : List ℕ
-  own = own_of setup
+  -- session ID 0 has one place, and so has that of an attempt, of a search or of a session
+  zero_place : (sid : ℕ) → sid ≡ 0 → places_of s sid ≡ Startup setup.generation ∷ []
+  zero_place sid zero = ap (places_of s) zero ∙ startup_place setup s tied.one
+
+  attempt_place : (sid : ℕ) → sid ≢ 0 → contains_key s.startup.attempts sid ≡ true → places_of s sid ≡ Attempt sid setup.generation ∷ []
+  attempt_place sid other there = places_by setup s sid true (contains_key s.sessions sid) tied.one other there refl
+
+  session_place : (sid : ℕ) → sid ≢ 0 → contains_key s.startup.attempts sid ≡ false → contains_key s.sessions sid ≡ true → places_of s sid ≡ Session sid ∷ []
+  session_place sid other none there = places_by setup s sid false true tied.one other none there
+
+  at_place : (sid : ℕ) (place : Place) → places_of s sid ≡ place ∷ [] → context_first s (places_of s sid) part ≡ context_at s place part
+  at_place sid place e = ap (λ (places : List Place). context_first s places part) e ∙ only_one (context_at s place part)
 
   -- what is held is what stands under its session ID
   stands_there : (sid : ℕ) (thing : Held) (under : HeldUnder facts sid thing) → thing_at s sid ≡ Some (under.peer, thing)
@@ -89,52 +105,50 @@ module _ (setup : Setup) (past : Past) (s : State) (tied : Tied setup past s) (p
 
   -- ---- what opens in the context of its session ID is found
 
-  startup_found : (sid : ℕ) (plain : List ℕ) → Opens setup.secret (StartupContext 0) sid part plain → context_in_startup s 0 sid part ≡ Some (StartupContext 0)
-  startup_found sid plain opens =
-      let none : open_refusal (keys_of setup.secret (StartupContext 0)) sid part ≡ None = ((opens_by_its_tag setup.secret (StartupContext 0) sid part plain).0 opens).0 in
-      ap (λ (secret : List ℕ). startup_unless 0 (open_refusal (keys_of secret (StartupContext 0)) sid part)) tied.secret ∙ ap (startup_unless 0) none
+  startup_found : (place : Place) (plain : List ℕ) → Opens setup.secret (StartupContext setup.generation) (sid_at place) part plain → context_in_startup s place setup.generation part ≡ Some (StartupContext setup.generation)
+  startup_found place plain opens =
+      let none : open_refusal (keys_of setup.secret (StartupContext setup.generation)) (sid_at place) part ≡ None = ((opens_by_its_tag setup.secret (StartupContext setup.generation) (sid_at place) part plain).0 opens).0 in
+      ap (λ (g : GroupSecret). startup_unless setup.generation (open_refusal (startup_keys_of g) (sid_at place) part)) (group_is_one setup s tied.one place) ∙ ap (startup_unless setup.generation) none
 
   session_found : (sid : ℕ) (row : Row) (thing : Held) (plain : List ℕ) → get s.sessions sid ≡ Some row → WasThing row.session.role row.session.joined thing →
-      Opens setup.secret (inward own thing) sid part plain → context_in_session (get s.sessions sid) part ≡ Some (inward own thing)
+      Opens setup.secret (inward setup thing) sid part plain → context_in_session (get s.sessions sid) part ≡ Some (inward setup thing)
   session_found sid row thing plain at was opens =
       let ours = tied.sessions sid row at in
-      let context : context_of row.session false ≡ inward own thing =
+      let context : context_of row.session false ≡ inward setup thing =
       ap (λ (g : ℕ). context_between g row.session.joined row.session.own row.session.role false) ours.generation
-      ∙ ap (λ (o : List ℕ). context_between 0 row.session.joined o row.session.role false) ours.own ∙ was_inward own row.session.role row.session.joined thing was in
+      ∙ ap (λ (o : List ℕ). context_between setup.generation row.session.joined o row.session.role false) ours.own ∙ was_inward setup row.session.role row.session.joined thing was in
       let of_session : Opens setup.secret (context_of row.session false) row.session.joined.near part plain =
       subst (λ (c : Context). Opens setup.secret c row.session.joined.near part plain) (sym context)
-      (subst (λ (near : ℕ). Opens setup.secret (inward own thing) near part plain) (sym ours.id) opens) in
+      (subst (λ (near : ℕ). Opens setup.secret (inward setup thing) near part plain) (sym ours.id) opens) in
       let is : opens_in_session row.session part ≡ true = (opens_in_context setup.secret row.session ours.keyed.towards part).1 (plain, of_session) in
       ap (λ (o : Option Row). context_in_session o part) at
       ∙ ap (λ (b : Bool). if b then Some (context_of row.session false) else None) is
       ∙ ap (λ (c : Context). Some c) context
 
-  startup_context : (sid : ℕ) (ni : List ℕ) (aim : Aim) (peer : List ℕ) (thing : Held) → found_as sid ni aim ≡ Some (peer, thing) → (StartupContext 0) ≡ inward own thing
-  startup_context sid ni (AtPeer q n) peer thing is = let same : (q, OpeningHeld n sid ni) ≡ (peer, thing) = cc in ap (λ (x : List ℕ × Held). inward own x.1) same
+  startup_context : (sid : ℕ) (ni : List ℕ) (aim : Aim) (peer : List ℕ) (thing : Held) → found_as sid ni aim ≡ Some (peer, thing) → (StartupContext setup.generation) ≡ inward setup thing
+  startup_context sid ni (AtPeer q n) peer thing is = let same : (q, OpeningHeld n sid ni) ≡ (peer, thing) = cc in ap (λ (x : List ℕ × Held). inward setup x.1) same
   startup_context sid ni (ByName name) peer thing is = absurd (cc)
 
   -- a search is where an attempt is
-  search_found : (sid : ℕ) (plain : List ℕ) → sid ≢ 0 → SearchUnder past sid → Opens setup.secret (StartupContext 0) sid part plain → context_found s (place_of s sid) part ≡ Some (StartupContext 0)
+  search_found : (sid : ℕ) (plain : List ℕ) → sid ≢ 0 → SearchUnder past sid → Opens setup.secret (StartupContext setup.generation) sid part plain → context_first s (places_of s sid) part ≡ Some (StartupContext setup.generation)
   search_found sid plain other under opens = by (get s.startup.attempts sid) refl (tied.searching sid under.which under.at under.stands)
     where
-      by : (o : Option AttemptState) → get s.startup.attempts sid ≡ o → IsKeptIn o under.which under.at → context_found s (place_of s sid) part ≡ Some (StartupContext 0)
+      by : (o : Option AttemptState) → get s.startup.attempts sid ≡ o → IsKeptIn o under.which under.at → context_first s (places_of s sid) part ≡ Some (StartupContext setup.generation)
       by None e kept = absurd kept
-      by (Some a) e kept = ap (λ (p : Option Place). context_found s p part) (place_by s sid true (contains_key s.sessions sid) other (ap is_some e) refl) ∙ startup_found sid plain opens
+      by (Some a) e kept = at_place sid (Attempt sid setup.generation) (attempt_place sid other (ap is_some e)) ∙ startup_found (Attempt sid setup.generation) plain opens
 
   thing_found : (sid : ℕ) (oa : Option AttemptState) (os : Option Row) (peer : List ℕ) (thing : Held) (plain : List ℕ) → sid ≢ 0 →
-      get s.startup.attempts sid ≡ oa → get s.sessions sid ≡ os → combined sid oa os ≡ Some (peer, thing) → Opens setup.secret (inward own thing) sid part plain →
-      context_found s (place_of s sid) part ≡ Some (inward own thing)
+      get s.startup.attempts sid ≡ oa → get s.sessions sid ≡ os → combined sid oa os ≡ Some (peer, thing) → Opens setup.secret (inward setup thing) sid part plain →
+      context_first s (places_of s sid) part ≡ Some (inward setup thing)
   thing_found sid (Some a) os peer thing plain other ea es is opens =
-      let context : (StartupContext 0) ≡ inward own thing = startup_context sid a.ni a.aim peer thing is in
-      let place : place_of s sid ≡ Some (Attempt sid 0) = place_by s sid true (contains_key s.sessions sid) other (ap is_some ea) refl in
-      ap (λ (p : Option Place). context_found s p part) place
-      ∙ startup_found sid plain (subst (λ (c : Context). Opens setup.secret c sid part plain) (sym context) opens)
+      let context : (StartupContext setup.generation) ≡ inward setup thing = startup_context sid a.ni a.aim peer thing is in
+      at_place sid (Attempt sid setup.generation) (attempt_place sid other (ap is_some ea))
+      ∙ startup_found (Attempt sid setup.generation) plain (subst (λ (c : Context). Opens setup.secret c sid part plain) (sym context) opens)
       ∙ ap (λ (c : Context). Some c) context
   thing_found sid None (Some row) peer thing plain other ea es is opens =
       let found = in_row row peer thing is in
-      let place : place_of s sid ≡ Some (Session sid) = place_by s sid false true other (ap is_some ea) (ap is_some es) in
       let was : WasThing row.session.role row.session.joined thing = subst (λ (h : Held). WasThing row.session.role row.session.joined h) found.thing (was_itself row.session.role row.session.stage row.session.joined) in
-      ap (λ (p : Option Place). context_found s p part) place ∙ session_found sid row thing plain es was opens
+      at_place sid (Session sid) (session_place sid other (ap is_some ea) (ap is_some es)) ∙ session_found sid row thing plain es was opens
   thing_found sid None None peer thing plain other ea es is opens = absurd (cc)
 
   -- one that closes is there
@@ -145,13 +159,12 @@ module _ (setup : Setup) (past : Past) (s : State) (tied : Tied setup past s) (p
       go None e closed = absurd closed
       go (Some row) e closed = (row, e, closed.1)
 
-  closing_found : (sid : ℕ) (thing : Held) (at : ℕ) (plain : List ℕ) → sid ≢ 0 → IsClosing sid thing at past → Opens setup.secret (inward own thing) sid part plain → context_found s (place_of s sid) part ≡ Some (inward own thing)
+  closing_found : (sid : ℕ) (thing : Held) (at : ℕ) (plain : List ℕ) → sid ≢ 0 → IsClosing sid thing at past → Opens setup.secret (inward setup thing) sid part plain → context_first s (places_of s sid) part ≡ Some (inward setup thing)
   closing_found sid thing at plain other c opens =
       let found = closing_row sid thing at c in
       let row : Row = found.0 in
       let none = no_attempt s sid row (tied.apart sid) found.1 in
-      let place : place_of s sid ≡ Some (Session sid) = place_by s sid false true other (ap is_some none) (ap is_some found.1) in
-      ap (λ (p : Option Place). context_found s p part) place ∙ session_found sid row thing plain found.1 found.2 opens
+      at_place sid (Session sid) (session_place sid other (ap is_some none) (ap is_some found.1)) ∙ session_found sid row thing plain found.1 found.2 opens
 
   -- nothing stands under session ID 0
   none_closes_at_zero : (sid : ℕ) (thing : Held) (at : ℕ) → sid ≡ 0 → IsClosing sid thing at past → ⊥
@@ -167,56 +180,59 @@ module _ (setup : Setup) (past : Past) (s : State) (tied : Tied setup past s) (p
       let clash : true ≡ false = sym used ∙ ap (is_used s) zero ∙ tied.used 0 ∙ tied.not_zero in
       cc
 
-  found_at_zero : (sid : ℕ) (c : Context) (plain : List ℕ) → sid ≡ 0 → (sid == 0) ≡ true → ContextOf own past sid c → Opens setup.secret c sid part plain →
-      context_found s (place_of s sid) part ≡ Some c
-  found_at_zero sid c plain zero is (inl named) opens =
-      ap (λ (p : Option Place). context_found s p part) (place_zero s sid is)
-      ∙ startup_found 0 plain (subst (λ (id : ℕ). Opens setup.secret (StartupContext 0) id part plain) zero (subst (λ (x : Context). Opens setup.secret x sid part plain) named.1 opens))
+  found_at_zero : (sid : ℕ) (c : Context) (plain : List ℕ) → sid ≡ 0 → ContextOf setup past sid c → Opens setup.secret c sid part plain →
+      context_first s (places_of s sid) part ≡ Some c
+  found_at_zero sid c plain zero (inl named) opens =
+      at_place sid (Startup setup.generation) (zero_place sid zero)
+      ∙ startup_found (Startup setup.generation) plain (subst (λ (id : ℕ). Opens setup.secret (StartupContext setup.generation) id part plain) zero (subst (λ (x : Context). Opens setup.secret x sid part plain) named.1 opens))
       ∙ ap (λ (x : Context). Some x) (sym named.1)
-  found_at_zero sid c plain zero is (inr named) opens = absurd (stands named.1)
+  found_at_zero sid c plain zero (inr named) opens = absurd (stands named.1)
     where
       stands : StandsUnder past sid named.0 → ⊥
       stands (inl held) = none_at_zero sid named.0 zero held
       stands (inr closing) = none_closes_at_zero sid named.0 closing.0 zero closing.1
 
-  found_elsewhere : (sid : ℕ) (c : Context) (plain : List ℕ) → sid ≢ 0 → ContextOf own past sid c → Opens setup.secret c sid part plain → context_found s (place_of s sid) part ≡ Some c
+  found_elsewhere : (sid : ℕ) (c : Context) (plain : List ℕ) → sid ≢ 0 → ContextOf setup past sid c → Opens setup.secret c sid part plain → context_first s (places_of s sid) part ≡ Some c
   found_elsewhere sid c plain other (inl named) opens = by named.0
     where
-      by : (sid ≡ 0) ⊎ SearchUnder past sid → context_found s (place_of s sid) part ≡ Some c
+      by : (sid ≡ 0) ⊎ SearchUnder past sid → context_first s (places_of s sid) part ≡ Some c
       by (inl zero) = absurd (other zero)
       by (inr under) = search_found sid plain other under (subst (λ (x : Context). Opens setup.secret x sid part plain) named.1 opens) ∙ ap (λ (x : Context). Some x) (sym named.1)
   found_elsewhere sid c plain other (inr named) opens = stands named.1 ∙ ap (λ (x : Context). Some x) (sym named.2)
     where
-      here : Opens setup.secret (inward own named.0) sid part plain
+      here : Opens setup.secret (inward setup named.0) sid part plain
       here = subst (λ (x : Context). Opens setup.secret x sid part plain) named.2 opens
 
-      stands : StandsUnder past sid named.0 → context_found s (place_of s sid) part ≡ Some (inward own named.0)
+      stands : StandsUnder past sid named.0 → context_first s (places_of s sid) part ≡ Some (inward setup named.0)
       stands (inl held) = thing_found sid (get s.startup.attempts sid) (get s.sessions sid) held.peer named.0 plain other refl refl (stands_there sid named.0 held) here
       stands (inr closing) = closing_found sid named.0 closing.0 plain other closing.1 here
 
-  context_is_found : (sid : ℕ) (c : Context) (plain : List ℕ) → ContextOf own past sid c → Opens setup.secret c sid part plain → context_found s (place_of s sid) part ≡ Some c
+  context_is_found : (sid : ℕ) (c : Context) (plain : List ℕ) → ContextOf setup past sid c → Opens setup.secret c sid part plain → context_first s (places_of s sid) part ≡ Some c
   context_is_found sid c plain named opens = elim (tested sid 0) [
-    | inl is ↦ found_at_zero sid c plain is.0 is.1 named opens
+    | inl is ↦ found_at_zero sid c plain is.0 named opens
     | inr is ↦ found_elsewhere sid c plain is.0 named opens
   ]
 
   -- ---- and what is found is such a context
 
   pub record Named (sid : ℕ) (c : Context) : Type 0 where
-    pub context : ContextOf own past sid c
+    pub context : ContextOf setup past sid c
     pub plain : List ℕ
     pub opens : Opens setup.secret c sid part plain
 
-  opens_in_startup : (sid : ℕ) (c : Context) → context_in_startup s 0 sid part ≡ Some c → ((StartupContext 0) ≡ c) × ((plain : List ℕ) × Opens setup.secret c sid part plain)
-  opens_in_startup sid c e =
-      let both = unrefused (open_refusal (startup_keys s 0) sid part) c e in
-      let plain : List ℕ = plain_of (startup_keys s 0) part in
-      let opens : Opens s.startup.secret (StartupContext 0) sid part plain = (opens_by_its_tag s.startup.secret (StartupContext 0) sid part plain).1 (both.0, tt, refl) in
-      (both.1, (plain, subst (λ (x : Context). Opens setup.secret x sid part plain) both.1 (subst (λ (secret : List ℕ). Opens secret (StartupContext 0) sid part plain) tied.secret opens)))
+  opens_in_startup : (place : Place) (c : Context) → context_in_startup s place setup.generation part ≡ Some c → ((StartupContext setup.generation) ≡ c) × ((plain : List ℕ) × Opens setup.secret c (sid_at place) part plain)
+  opens_in_startup place c e =
+      let own : GroupSecret = group_at s place in
+      let sid : ℕ = sid_at place in
+      let both = unrefused setup.generation (open_refusal (startup_keys_of own) sid part) c e in
+      let plain : List ℕ = plain_of (startup_keys_of own) part in
+      let opens : Opens own.secret (StartupContext own.generation) sid part plain = (opens_by_its_tag own.secret (StartupContext own.generation) sid part plain).1 (both.0, tt, refl) in
+      let one : Opens setup.secret (StartupContext setup.generation) sid part plain = subst (λ (g : GroupSecret). Opens g.secret (StartupContext g.generation) sid part plain) (group_is_one setup s tied.one place) opens in
+      (both.1, (plain, subst (λ (x : Context). Opens setup.secret x sid part plain) both.1 one))
 
-  told_at_zero : (sid : ℕ) (c : Context) → sid ≡ 0 → context_in_startup s 0 0 part ≡ Some c → Named sid c
+  told_at_zero : (sid : ℕ) (c : Context) → sid ≡ 0 → context_in_startup s (Startup setup.generation) setup.generation part ≡ Some c → Named sid c
   told_at_zero sid c zero e =
-      let found = opens_in_startup 0 c e in
+      let found = opens_in_startup (Startup setup.generation) c e in
       record {
         context = inl (inl zero, sym found.0);
         plain = found.1.0;
@@ -228,9 +244,9 @@ module _ (setup : Setup) (past : Past) (s : State) (tied : Tied setup past s) (p
       let ours = tied.sessions sid row at in
       let both = chosen (opens_in_session row.session part) (context_of row.session false) c e in
       let found = (opens_in_context setup.secret row.session ours.keyed.towards part).0 both.0 in
-      let own_context : (thing : Held) → WasThing row.session.role row.session.joined thing → c ≡ inward own thing =
+      let own_context : (thing : Held) → WasThing row.session.role row.session.joined thing → c ≡ inward setup thing =
       λ thing was. sym both.1 ∙ ap (λ (g : ℕ). context_between g row.session.joined row.session.own row.session.role false) ours.generation
-      ∙ ap (λ (o : List ℕ). context_between 0 row.session.joined o row.session.role false) ours.own ∙ was_inward own row.session.role row.session.joined thing was in
+      ∙ ap (λ (o : List ℕ). context_between setup.generation row.session.joined o row.session.role false) ours.own ∙ was_inward setup row.session.role row.session.joined thing was in
       record {
         context = elim (either_way (is_held_stage row.session.stage)) [
           | inl e ↦
@@ -246,7 +262,7 @@ module _ (setup : Setup) (past : Past) (s : State) (tied : Tied setup past s) (p
             (subst (λ (x : Context). Opens setup.secret x row.session.joined.near part found.0) both.1 found.1);
       }
 
-  named_by : (sid : ℕ) (c : Context) (a : AttemptState) (aim : Aim) → a.aim ≡ aim → get s.startup.attempts sid ≡ Some a → (StartupContext 0) ≡ c → (plain : List ℕ) × Opens setup.secret c sid part plain → Named sid c
+  named_by : (sid : ℕ) (c : Context) (a : AttemptState) (aim : Aim) → a.aim ≡ aim → get s.startup.attempts sid ≡ Some a → (StartupContext setup.generation) ≡ c → (plain : List ℕ) × Opens setup.secret c sid part plain → Named sid c
   named_by sid c a (AtPeer peer n) aims ea is opens = record {
     context = inr (OpeningHeld n sid a.ni, inl (is_held sid peer (OpeningHeld n sid a.ni) (found_of_peer s sid a peer n ea aims)), sym is);
     plain = opens.0;
@@ -259,22 +275,20 @@ module _ (setup : Setup) (past : Past) (s : State) (tied : Tied setup past s) (p
   }
 
   told_elsewhere : (sid : ℕ) (oa : Option AttemptState) (os : Option Row) (c : Context) → sid ≢ 0 → get s.startup.attempts sid ≡ oa → get s.sessions sid ≡ os →
-      context_found s (place_of s sid) part ≡ Some c → Named sid c
+      context_first s (places_of s sid) part ≡ Some c → Named sid c
   told_elsewhere sid (Some a) os c other ea es e =
-      let place : place_of s sid ≡ Some (Attempt sid 0) = place_by s sid true (contains_key s.sessions sid) other (ap is_some ea) refl in
-      let found = opens_in_startup sid c (sym (ap (λ (p : Option Place). context_found s p part) place) ∙ e) in
+      let found = opens_in_startup (Attempt sid setup.generation) c (sym (at_place sid (Attempt sid setup.generation) (attempt_place sid other (ap is_some ea))) ∙ e) in
       named_by sid c a a.aim refl ea found.0 found.1
   told_elsewhere sid None (Some row) c other ea es e =
-      let place : place_of s sid ≡ Some (Session sid) = place_by s sid false true other (ap is_some ea) (ap is_some es) in
-      told_in_session sid row c ea es (sym (ap (λ (p : Option Place). context_found s p part) place ∙ ap (λ (o : Option Row). context_in_session o part) es) ∙ e)
+      told_in_session sid row c ea es (sym (at_place sid (Session sid) (session_place sid other (ap is_some ea) (ap is_some es)) ∙ ap (λ (o : Option Row). context_in_session o part) es) ∙ e)
   told_elsewhere sid None None c other ea es e =
-      let place : place_of s sid ≡ None = place_by s sid false false other (ap is_some ea) (ap is_some es) in
-      let clash : None ≡ Some c = sym (ap (λ (p : Option Place). context_found s p part) place) ∙ e in
+      let places : places_of s sid ≡ [] = places_by setup s sid false false tied.one other (ap is_some ea) (ap is_some es) in
+      let clash : None ≡ Some c = sym (ap (λ (ps : List Place). context_first s ps part) places) ∙ e in
       absurd (cc)
 
-  context_is_told : (sid : ℕ) (c : Context) → context_found s (place_of s sid) part ≡ Some c → Named sid c
+  context_is_told : (sid : ℕ) (c : Context) → context_first s (places_of s sid) part ≡ Some c → Named sid c
   context_is_told sid c e = elim (tested sid 0) [
-    | inl is ↦ told_at_zero sid c is.0 (sym (ap (λ (p : Option Place). context_found s p part) (place_zero s sid is.1)) ∙ e)
+    | inl is ↦ told_at_zero sid c is.0 (sym (at_place sid (Startup setup.generation) (zero_place sid is.0)) ∙ e)
     | inr is ↦ told_elsewhere sid (get s.startup.attempts sid) (get s.sessions sid) c is.0 refl refl e
   ]
 
@@ -289,32 +303,38 @@ whole secret datagram plain c sid opens =
     let long : 36 ≤ length datagram = omega (arith, opens.0, length-drop 4 datagram) in
     grind (arith, nat_tests, long)
 
-module _ (setup : Setup) (log : List Event) (s : State) (datagram : List ℕ) (is : IsSetup setup) (calls : AreCalls log) (stands : StandsFor setup log s) where
+-- the generation of such a context
+own_of_context : (setup : Setup) (past : Past) (sid : ℕ) (c : Context) → ContextOf setup past sid c → generation_of c ≡ setup.generation
+own_of_context setup past sid c (inl startup) = ap generation_of startup.1
+own_of_context setup past sid c (inr thing) = ap generation_of thing.2 ∙ inward_own setup thing.0
+
+module _ (secrets : Secrets) (setup : Setup) (log : List Event) (s : State) (datagram : List ℕ) (knows : Knows secrets setup) (is : IsSetup setup) (calls : AreCalls log) (stands : StandsFor setup log s) where
   -- The first of the contexts of the datagram's session ID in which it opens is what the end finds.
-  pub opens_in_found : (contexts : List Context) (c : Context) (plain : List ℕ) → ContextsOf (own_of setup) (past_of 0 [] log) (sid_of datagram) contexts →
-      OpensFirst setup.secret contexts (sid_of datagram) datagram c plain → opens_in s datagram ≡ Some c
+  pub opens_in_found : (contexts : List Context) (c : Context) (plain : List ℕ) → ContextsOf setup (past_of 0 [] log) (sid_of datagram) contexts →
+      OpensFirst secrets contexts (sid_of datagram) datagram c plain → opens_in s datagram ≡ Some c
   opens_in_found contexts c plain named first =
-      let one = the_context setup.secret (own_of setup) (past_of 0 [] log) (sid_of datagram) contexts datagram c plain named first in
-      ap (λ (b : Bool). if b then None else context_found s (place_of s (sid_of datagram)) (drop 4 datagram)) (whole setup.secret datagram plain c (sid_of datagram) one.1.opens)
-      ∙ context_is_found setup (past_of 0 [] log) s (tied_to_log setup log s is calls stands) (drop 4 datagram) (sid_of datagram) c plain one.0 one.1.opens
+      let one = the_context secrets setup (past_of 0 [] log) (sid_of datagram) contexts datagram c plain named first in
+      let opens : Opens setup.secret c (sid_of datagram) (drop 4 datagram) plain = known_opens setup secrets knows c (own_of_context setup (past_of 0 [] log) (sid_of datagram) c one.0) (sid_of datagram) datagram plain one.1 in
+      ap (λ (b : Bool). if b then None else context_first s (places_of s (sid_of datagram)) (drop 4 datagram)) (whole setup.secret datagram plain c (sid_of datagram) opens)
+      ∙ context_is_found setup (past_of 0 [] log) s (tied_to_log setup log s is calls stands) (drop 4 datagram) (sid_of datagram) c plain one.0 opens
 
   -- And what it finds is such a context.
-  pub opens_in_told : (c : Context) → opens_in s datagram ≡ Some c → OpensAt setup (past_of 0 [] log) datagram c
+  pub opens_in_told : (c : Context) → opens_in s datagram ≡ Some c → OpensAt secrets setup (past_of 0 [] log) datagram c
   opens_in_told c e =
       let told = context_is_told setup (past_of 0 [] log) s (tied_to_log setup log s is calls stands) (drop 4 datagram) (sid_of datagram) c
-      (long_if (nat_lt (length datagram) 36) (context_found s (place_of s (sid_of datagram)) (drop 4 datagram)) c e) in
+      (long_if (nat_lt (length datagram) 36) (context_first s (places_of s (sid_of datagram)) (drop 4 datagram)) c e) in
       record {
         contexts = c ∷ [];
-        named = one_context (own_of setup) (past_of 0 [] log) (sid_of datagram) c told.context;
+        named = one_context setup (past_of 0 [] log) (sid_of datagram) c told.context;
         plain = told.plain;
-        opens = opens_first setup.secret (sid_of datagram) datagram c told.plain (record { id = refl; opens = told.opens });
+        opens = opens_first secrets (sid_of datagram) datagram c told.plain (opens_known setup secrets knows c (own_of_context setup (past_of 0 [] log) (sid_of datagram) c told.context) (sid_of datagram) datagram told.plain refl told.opens);
       }
 
-  pub is_context_at : IsContextAt setup log datagram (opens_in s datagram)
+  pub is_context_at : IsContextAt secrets setup log datagram (opens_in s datagram)
   is_context_at = record { opens = opens_in_told; all = λ c at. opens_in_found at.contexts c at.plain at.named at.opens }
 
 -- whatever log the end stands for
 pub opens_by_the_log : (s : State) (datagram : List ℕ) (answer : Option Context) → answer ≡ opens_in s datagram → OpensByTheLog s datagram answer
-opens_by_the_log s datagram answer e = λ setup log is calls stands.
-    let P : Option Context → Type 0 = λ a. IsContextAt setup log datagram a in
-    subst P (sym e) (is_context_at setup log s datagram is calls stands)
+opens_by_the_log s datagram answer e = λ secrets setup log knows is calls stands.
+    let P : Option Context → Type 0 = λ a. IsContextAt secrets setup log datagram a in
+    subst P (sym e) (is_context_at secrets setup log s datagram knows is calls stands)

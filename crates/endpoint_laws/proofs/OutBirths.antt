@@ -30,6 +30,7 @@ use Rattle.rtmfp_base.specs.Reasons.{where_true, first_that_stands}
 use Rattle.glare_core.specs.Calls.{is_born_of, heard, heard_noted, way_made}
 use Rattle.glare_core.proofs.Accounts.{reads_held}
 use Rattle.glare_core.proofs.Tails.{same_end}
+use Rattle.startup.specs.declared.answer.Answer.{Answer}
 use Rattle.startup.specs.declared.answer.Keyed.TheVariants.{Change, Birth}
 use Rattle.rtmfp_base.specs.declared.cause.Cause.{Cause}
 use Rattle.rtmfp_base.specs.declared.cause.Cause.TheVariants.{SecondKeying, BadSignature, Wide}
@@ -39,7 +40,7 @@ use Rattle.startup.specs.declared.aim.Aim.TheVariants.{AtPeer, ByName}
 use Rattle.startup.specs.State.{AttemptState, Attempts, StartupState}
 use Rattle.startup.specs.Attempts.{wide}
 use Rattle.startup_packets.specs.Readings.{InitiatorKeying, ResponderKeying, initiator_keying_in, initiator_fields, with_initiator_part, responder_keying_in}
-use Rattle.startup.specs.Keyings.{cause_by, cookie_cause, named_cause, initiator_cause, keying_of, session_answer, change_answer, repeated_session, born_session, again_or_birth, keyed_with, keyed_reading, opening_id, without, after_again_or_birth, after_keyed_with, after_keyed_reading, opened_as, opened_reading, after_opening}
+use Rattle.startup.specs.Keyings.{cause_by, cookie_cause, named_cause, initiator_cause, keying_of, session_answer, change_answer, repeated_session, born_session, again_or_birth, keyed_with, keyed_reading, opening_id, without, after_again_or_birth, after_keyed_with, after_keyed_reading, opened_as, opened_reading, after_opening, again_by, kept_answer}
 use Rattle.session_core.specs.declared.stage.Role.TheVariants.{Initiator, Responder}
 use Rattle.session_core.specs.Session.{new_session}
 use Rattle.session_core.proofs.Keyed.{keyed_begun}
@@ -48,7 +49,7 @@ use Rattle.endpoint_model.specs.declared.row.Row.{Row}
 use Rattle.endpoint_model.specs.declared.walk.Walk.{Walk}
 use Rattle.endpoint_model.specs.declared.config.Draws.{Draws}
 use Rattle.endpoint_model.specs.declared.entry.Entry.TheVariants.{Fact as FactEntry}
-use Rattle.endpoint_model.specs.Event.{Setup, own_of, Call}
+use Rattle.endpoint_model.specs.Event.{Setup, own_of, Call, first_group}
 use Rattle.endpoint_laws.specs.Past.{Past, stamped, onto, facts_of}
 use Rattle.endpoint_model.specs.State.{State, new_row, with_row, Sessions, fact_entries, with_startup, free_among, free_from, next_id, is_free, full}
 use Rattle.endpoint_model.specs.Sending.{sent_answer, sent_by, sent_in_session}
@@ -61,9 +62,14 @@ use Rattle.endpoint_laws.proofs.Facts.{test_fails}
 use Rattle.endpoint_laws.proofs.OutNumbers.{Numbered, numbered_removed, numbered_born, numbered_opened}
 use Rattle.endpoint_laws.proofs.OutHeld.{held_sized, may_send_held}
 use Rattle.endpoint_laws.proofs.OutPackets.{one_is_modest}
-use Rattle.endpoint_laws.proofs.OutSends.{AreShort, Sent, Meets, MayGo, meets_nothing, meets_after, meets_session}
-use Rattle.endpoint_laws.proofs.OutKeyings.{cookiechange_may, rikeying_may, length-cookie_of}
-use Rattle.endpoint_laws.proofs.OutItems.{IsLight, sent_facts, sent_startup_changed, short_left, meets_answer, attempt_held}
+use Rattle.endpoint_laws.proofs.OutSends.{AreShort, Sent, Meets, meets_nothing, meets_after, meets_session, under_one}
+use Rattle.endpoint_laws.proofs.OutKeyings.{cookiechange_may, rikeying_may, length-cookie_of, kept_may}
+use Rattle.endpoint_laws.proofs.OutItems.{IsLight, sent_facts, sent_startup_changed, short_left, meets_answer, attempt_held, MayAnswer}
+use Rattle.crypto_profile.specs.declared.group.GroupSecret.{GroupSecret}
+use Rattle.endpoint_model.specs.declared.place.Place.{Place}
+use Rattle.startup.specs.declared.kept.KeptKeying.{KeptKeying}
+use Rattle.endpoint_model.specs.Admission.{group_at, attempt_group}
+use Rattle.endpoint_laws.proofs.Kin.{attempt_is_one, group_is_one}
 
 -- ---- the session ID that is chosen
 
@@ -197,73 +203,86 @@ lines_either : (setup : Setup) (now : ℕ) (call : Call) (past : Past) (ended : 
 lines_either setup now call past None fact = (tt, tt)
 lines_either setup now call past (Some f) fact = (tt, (tt, tt))
 
-module _ (setup : Setup) (now : ℕ) (call : Call) (past : Past) (s : State) (sent : Sent setup past s) (tied : Tied setup past s) (from : AddressParts) where
+module _ (setup : Setup) (now : ℕ) (call : Call) (past : Past) (s : State) (sent : Sent setup past s) (tied : Tied setup past s) (from : AddressParts) (g : GroupSecret) (one : g ≡ first_group setup) where
   -- the state t keeps what is kept of s but for the attempts and the ledger
-  meets_birth : (t : StartupState) (ended : Option Fact) (j : Joined) → AreShort t.attempts → t.secret ≡ setup.secret → t.cert ≡ setup.cert → t.ledger.own ≡ own_of setup → IsLight ended →
-      j.near < 2 ^ 32 → length j.ni ≤ 16 → length j.nr ≤ 16 → (old : StartupState) → old.secret ≡ t.secret → old.cert ≡ setup.cert →
-      Meets setup now call past (keying_done (with_startup s t) from (Some (Birth ended (Born j) (session_answer old j from))))
-  meets_birth t ended j short secret cert own light near ni nr old old_secret old_cert =
+  meets_birth : (t : StartupState) (ended : Option Fact) (j : Joined) → AreShort t.attempts → t.ledger.own ≡ own_of setup → IsLight ended →
+      j.near < 2 ^ 32 → length j.ni ≤ 16 → length j.nr ≤ 16 → (old : StartupState) → old.cert ≡ setup.cert →
+      Meets setup now call past (keying_done (with_startup s t) from g (Some (Birth ended (Born j) (session_answer old j from g))))
+  meets_birth t ended j short own light near ni nr old old_cert =
       let before : Past = onto now (fact_entries ended) past in
       let after : Past = stamped now (FactEntry (Born j)) ∷ before in
       let told : Sent setup before s = sent_facts setup past s now ended sent light in
-      let new : Row = new_row (new_session j t.ledger.own Responder from t.secret s.moment) in
-      let state : State = with_born (with_startup s t) ended (Born j) from in
+      let new : Row = new_row (new_session j t.ledger.own Responder from g.generation g.secret s.moment) in
+      let state : State = with_born (with_startup s t) ended (Born j) from g in
       let kept : Sent setup after state = record {
         numbered = numbered_born (own_of setup) before s.sealed (without_ended s.sessions ended) (numbered_without (own_of setup) before s.sealed s.sessions ended told.numbered) now j new refl refl refl;
         sized = ((near, ni, nr), told.sized);
         short = short;
         rows = sent.rows;
       } in
-      let may : MayGo setup after j.far (session_answer old j from).plain =
-      rikeying_may setup after j.far old.secret j (sha256 old.cert) (ap sha256 old_cert) refl (inl (held_born j (facts_of before))) near ni nr in
-      let last : Meets setup now call after (sent_answer state (session_answer old j from)) = meets_answer setup now call after state kept secret own (session_answer old j from) may in
-      meets_after setup now call past (fact_entries ended ++ FactEntry (Born j) ∷ []) (sent_answer state (session_answer old j from)) (lines_either setup now call past ended (Born j))
-      (subst (λ (p : Past). Meets setup now call p (sent_answer state (session_answer old j from))) (sym (entries_either now ended (Born j) past)) last)
+      let answer : Answer = session_answer old j from g in
+      let may : MayAnswer setup after answer = record {
+        under = under_one setup g one;
+        may = rikeying_may setup after j.far g.secret j (sha256 old.cert) (ap sha256 old_cert) refl (inl (held_born j (facts_of before))) near ni nr;
+      } in
+      let last : Meets setup now call after (sent_answer state answer) = meets_answer setup now call after state kept own answer may in
+      meets_after setup now call past (fact_entries ended ++ FactEntry (Born j) ∷ []) (sent_answer state answer) (lines_either setup now call past ended (Born j))
+      (subst (λ (p : Past). Meets setup now call p (sent_answer state answer)) (sym (entries_either now ended (Born j) past)) last)
 
   module _ (near : ℕ) (nr : List ℕ) (near_small : near < 2 ^ 32) (nr_small : length nr ≤ 16) where
-    by_repeat : (keying : Keying) (o : Option Joined) → length keying.ni ≤ 16 → repeated_session (held_with s.startup.ledger keying.peer) keying ≡ o →
-        Meets setup now call past (keying_done (with_startup s (after_again_or_birth s.startup keying near nr o)) from (Some (again_or_birth s.startup keying from near nr o)))
-    by_repeat keying (Some j) fine is =
-        let here : BornHere (facts_of past) j = born_here setup past s sent tied keying.peer keying j is in
-        meets_answer setup now call past (with_startup s s.startup) (sent_startup_changed setup past s s.startup sent sent.short) tied.secret tied.own (session_answer s.startup j from)
-        (rikeying_may setup past j.far s.startup.secret j (sha256 s.startup.cert) (ap sha256 tied.cert) refl here.is_held here.near here.ni here.nr)
-    by_repeat keying None fine is =
-        meets_birth (after_again_or_birth s.startup keying near nr None) (way_made keying.peer (held_with s.startup.ledger keying.peer)) (born_session s.startup.ledger keying near nr)
-        (short_without s.startup.attempts (opening_id (held_with s.startup.ledger keying.peer)) sent.short) tied.secret tied.cert
-        (heard_own s.startup.ledger (heard s.startup.ledger keying near nr) ∙ tied.own) (way_light keying.peer (held_with s.startup.ledger keying.peer))
-        near_small fine nr_small s.startup refl tied.cert
+    -- what is kept of its birth answers a repeat
+    by_kept : (j : Joined) → BornHere (facts_of past) j → (peer : List ℕ) (o : Option KeptKeying) → get s.startup.kept peer ≡ o → Meets setup now call past (keying_done (with_startup s s.startup) from g (again_by s.startup j from o))
+    by_kept j here peer None is = meets_nothing setup now call past (with_startup s s.startup) (sent_startup_changed setup past s s.startup sent sent.short)
+    by_kept j here peer (Some kept) is =
+        let under = tied.one.kept peer kept is in
+        meets_answer setup now call past (with_startup s s.startup) (sent_startup_changed setup past s s.startup sent sent.short) tied.own (kept_answer s.startup j from kept) (record {
+          under = record { generation_is = under.generation; keys_are = under.keys };
+          may = kept_may setup past j.far kept.sign j (sha256 s.startup.cert) (omega (arith, under.sign)) (ap sha256 tied.cert) refl here.is_held here.near here.ni here.nr;
+        })
 
-    meets_change : (keying : InitiatorKeying) → length keying.cookie ≤ 128 → Meets setup now call past (keying_done (with_startup s s.startup) from (Some (Change (change_answer s.startup keying from s.moment))))
+    by_repeat : (keying : Keying) (o : Option Joined) → length keying.ni ≤ 16 → repeated_session (held_with s.startup.ledger keying.peer) keying ≡ o →
+        Meets setup now call past (keying_done (with_startup s (after_again_or_birth s.startup keying near nr g o)) from g (again_or_birth s.startup keying from near nr g o))
+    by_repeat keying (Some j) fine is = by_kept j (born_here setup past s sent tied keying.peer keying j is) keying.peer (get s.startup.kept keying.peer) refl
+    by_repeat keying None fine is =
+        meets_birth (after_again_or_birth s.startup keying near nr g None) (way_made keying.peer (held_with s.startup.ledger keying.peer)) (born_session s.startup.ledger keying near nr)
+        (short_without s.startup.attempts (opening_id (held_with s.startup.ledger keying.peer)) sent.short)
+        (heard_own s.startup.ledger (heard s.startup.ledger keying near nr) ∙ tied.own) (way_light keying.peer (held_with s.startup.ledger keying.peer))
+        near_small fine nr_small s.startup tied.cert
+
+    meets_change : (keying : InitiatorKeying) → length keying.cookie ≤ 128 → Meets setup now call past (keying_done (with_startup s s.startup) from g (Some (Change (change_answer s.startup keying from s.moment g))))
     meets_change keying narrow =
-        meets_answer setup now call past (with_startup s s.startup) (sent_startup_changed setup past s s.startup sent sent.short) tied.secret tied.own (change_answer s.startup keying from s.moment)
-        (cookiechange_may setup past keying.near keying.cookie (cookie_of s.startup.cookie_secret from s.moment) narrow (length-cookie_of s.startup.cookie_secret from s.moment))
+        meets_answer setup now call past (with_startup s s.startup) (sent_startup_changed setup past s s.startup sent sent.short) tied.own (change_answer s.startup keying from s.moment g) (record {
+          under = under_one setup g one;
+          may = cookiechange_may setup past keying.near keying.cookie (cookie_of s.startup.cookie_secret from s.moment) narrow (length-cookie_of s.startup.cookie_secret from s.moment);
+        })
 
     by_test : (keying : InitiatorKeying) (test : CookieTest) → length keying.part.ni ≤ 16 → length keying.cookie ≤ 128 →
-        Meets setup now call past (keying_done (with_startup s (after_keyed_with s.startup near nr keying test)) from (Some (keyed_with s.startup from s.moment near nr keying test)))
+        Meets setup now call past (keying_done (with_startup s (after_keyed_with s.startup near nr g keying test)) from g (keyed_with s.startup from s.moment near nr g keying test))
     by_test keying Current fine narrow = by_repeat (keying_of keying) (repeated_session (held_with s.startup.ledger (sha256 keying.cert)) (keying_of keying)) fine refl
     by_test keying Bad fine narrow = meets_change keying narrow
     by_test keying Moved fine narrow = meets_change keying narrow
     by_test keying Expired fine narrow = meets_change keying narrow
 
-    by_reading : (payload : List ℕ) (read : Result InitiatorKeying Cause) → IsFine read → cause_by (initiator_cause s.startup payload from s.moment (full s)) read ≡ None →
-        Meets setup now call past (keying_done (with_startup s (after_keyed_reading s.startup from s.moment near nr read)) from (keyed_reading s.startup from s.moment near nr read))
+    by_reading : (payload : List ℕ) (read : Result InitiatorKeying Cause) → IsFine read → cause_by (initiator_cause s.startup payload from s.moment (full s) g) read ≡ None →
+        Meets setup now call past (keying_done (with_startup s (after_keyed_reading s.startup from s.moment near nr g read)) from g (keyed_reading s.startup from s.moment near nr g read))
     by_reading payload (Ok keying) fine none =
         let small : wide keying.cookie ≡ None =
-        second_none (where_true (not (is_signed s.startup.secret payload keying.sign)) BadSignature) (wide keying.cookie)
+        second_none (where_true (not (is_signed g.secret payload keying.sign)) BadSignature) (wide keying.cookie)
         (cookie_cause (cookie_test s.startup.cookie_secret keying.cookie from s.moment) (named_cause s.startup keying (full s))) none in
         let narrow : length keying.cookie ≤ 128 = ltb-false 128 (length keying.cookie) (test_fails (nat_lt 128 (length keying.cookie)) (Wide (length keying.cookie)) small) in
         by_test keying (cookie_test s.startup.cookie_secret keying.cookie from s.moment) fine narrow
     by_reading payload (Err cause) fine none = absurd (cc)
 
+module _ (setup : Setup) (now : ℕ) (call : Call) (past : Past) (s : State) (sent : Sent setup past s) (tied : Tied setup past s) (from : AddressParts) where
   not_second : (b : Bool) (o : Option Cause) → (if b then Some SecondKeying else o) ≡ None → o ≡ None
   not_second true o e = absurd (cc)
   not_second false o e = e
 
   -- a keying of an initiator
-  pub meets_initiator : (draws : Draws) (walk : Walk) (payload : List ℕ) → draws.word < 2 ^ 32 → length draws.nonce ≡ 16 → initiator_keying_cause s walk from payload ≡ None →
-      Meets setup now call past (initiator_keyed s from draws payload)
-  meets_initiator draws walk payload small nonce none =
-      by_reading (free_from s draws.word) draws.nonce (small_free s draws.word small) (omega (arith, nonce)) payload (initiator_keying_in payload) (fine_keying payload) (not_second walk.keyed _ none)
+  pub meets_initiator : (place : Place) (draws : Draws) (walk : Walk) (payload : List ℕ) → draws.word < 2 ^ 32 → length draws.nonce ≡ 16 → initiator_keying_cause s place walk from payload ≡ None →
+      Meets setup now call past (initiator_keyed s place from draws payload)
+  meets_initiator place draws walk payload small nonce none =
+      by_reading setup now call past s sent tied from (group_at s place) (group_is_one setup s tied.one place) (free_from s draws.word) draws.nonce (small_free s draws.word small) (omega (arith, nonce)) payload (initiator_keying_in payload) (fine_keying payload) (not_second walk.keyed _ none)
 
 -- ---- a session is opened
 
@@ -271,10 +290,16 @@ held_opened : (j : Joined) (earlier : List Fact) → held j.peer earlier ≡ Som
 held_opened j earlier was = elim (same_end j.peer j.peer) [ inl d ↦ rw d.1 (ap (opened_thing j) was) | inr d ↦ absurd (d.0 refl) ]
 
 module _ (setup : Setup) (now : ℕ) (call : Call) (past : Past) (s : State) (sent : Sent setup past s) (tied : Tied setup past s) (from : AddressParts) (near : ℕ) where
-  meets_opened : (j : Joined) → held j.peer (facts_of past) ≡ Some (OpeningHeld j.n j.near j.ni) → Meets setup now call past (opening_done s j.near from (Some (Opened j)))
+  abbrev g : GroupSecret
+  g = attempt_group s.group (get s.startup.attempts near)
+
+  one : g ≡ first_group setup
+  one = attempt_is_one setup s tied.one near
+
+  meets_opened : (j : Joined) → held j.peer (facts_of past) ≡ Some (OpeningHeld j.n j.near j.ni) → Meets setup now call past (opening_done s j.near from g (Some (Opened j)))
   meets_opened j was =
       let after : Past = stamped now (FactEntry (Opened j)) ∷ past in
-      let new : Row = new_row (new_session j s.startup.ledger.own Initiator from s.startup.secret s.moment) in
+      let new : Row = new_row (new_session j s.startup.ledger.own Initiator from g.generation g.secret s.moment) in
       let state : State = with_row (with_startup s (after_opening s.startup j.near (Opened j))) j.near new in
       let lawful : AreLawful (own_of setup) 0 (facts_of past) = subst (λ (o : List ℕ). AreLawful o 0 (facts_of past)) tied.own tied.account.lawful in
       let kept : Sent setup after state = record {
@@ -285,15 +310,15 @@ module _ (setup : Setup) (now : ℕ) (call : Call) (past : Past) (s : State) (se
       } in
       let there : get state.sessions j.near ≡ Some new = get_inserted s.sessions j.near new in
       let ping : Meets setup now call after (sent_by state j.near from (chunk_bytes (Ping [])) (Some new)) =
-      meets_session setup now call after state kept j.near new there (may_send_held setup after new.session (keyed_begun tied.secret 0 j s.startup.ledger.own Initiator from s.moment) refl tied.own (held_opened j (facts_of past) was)) from (chunk_bytes (Ping [])) (one_is_modest (Ping []) (omega arith) (omega arith) (omega arith)) in
+      meets_session setup now call after state kept j.near new there (may_send_held setup after new.session (keyed_begun (ap (λ (x : GroupSecret). x.secret) one) g.generation j s.startup.ledger.own Initiator from s.moment) (ap (λ (x : GroupSecret). x.generation) one) tied.own (held_opened j (facts_of past) was)) from (chunk_bytes (Ping [])) (one_is_modest (Ping []) (omega arith) (omega arith) (omega arith)) in
       meets_after setup now call past (FactEntry (Opened j) ∷ []) (sent_in_session state j.near from (chunk_bytes (Ping []))) (tt, tt)
       (subst (λ (o : Option Row). Meets setup now call after (sent_by state j.near from (chunk_bytes (Ping [])) o)) (sym there) ping)
 
-  by_aim : (a : AttemptState) (keying : ResponderKeying) (aim : Aim) → a.aim ≡ aim → get s.startup.attempts near ≡ Some a → Meets setup now call past (opening_done s near from (opened_as near keying a.ni aim))
+  by_aim : (a : AttemptState) (keying : ResponderKeying) (aim : Aim) → a.aim ≡ aim → get s.startup.attempts near ≡ Some a → Meets setup now call past (opening_done s near from g (opened_as near keying a.ni aim))
   by_aim a keying (AtPeer peer n) aims is = meets_opened _ (attempt_held setup past s sent tied near a peer n aims is)
   by_aim a keying (ByName _) aims is = meets_nothing setup now call past s sent
 
-  by_attempt : (o : Option AttemptState) → get s.startup.attempts near ≡ o → (read : Result ResponderKeying Cause) → Meets setup now call past (opening_done s near from (opened_reading near o read))
+  by_attempt : (o : Option AttemptState) → get s.startup.attempts near ≡ o → (read : Result ResponderKeying Cause) → Meets setup now call past (opening_done s near from g (opened_reading near o read))
   by_attempt None is read = meets_nothing setup now call past s sent
   by_attempt (Some a) is (Ok keying) = by_aim a keying a.aim refl is
   by_attempt (Some a) is (Err cause) = meets_nothing setup now call past s sent

@@ -43,7 +43,7 @@ module _ (setup : Setup) (from : AddressParts) (datagram : List ℕ) (draws : Dr
     pub meets_chunk : Meets setup s.moment call past (chunk_did place from draws walk s c)
     meets_chunk = chunk_by_kind (λ d. Meets setup s.moment call past d) place from draws walk s c (record {
       discarded = λ cause. meets_discarded setup s.moment call past s c.at cause sent;
-      initiator = λ kind taken none formed. meets_initiator setup s.moment call past s sent tied from draws walk c.payload small nonce none;
+      initiator = λ kind taken none formed. meets_initiator setup s.moment call past s sent tied from place draws walk c.payload small nonce none;
       responder = λ kind taken none formed. meets_responder setup s.moment call past s sent tied from (sid_at place) c.payload;
       told = λ told taken has. told_at place passed told taken;
       flows = λ is taken none. meets_flow_taken setup call past s sent (sid_at place) (data_reading walk.cursor c.kind c.payload);

@@ -126,7 +126,7 @@ held_sized p facts thing sized is = subst (λ (o : Option Held). HasSizes p o) i
 -- ---- the session in whose context a datagram goes
 
 in_session : (setup : Setup) (past : Past) (role : Role) (stage : Stage) (j : Joined) → held j.peer (facts_of past) ≡ Some (thing_of role stage j) →
-    InSession setup past j.far (context_between 0 j (own_of setup) role true)
+    InSession setup past j.far (context_between setup.generation j (own_of setup) role true)
 in_session setup past Initiator stage j is = (KeptAsInitiator j, j.near, inl (record { peer = j.peer; is_held = is; id = refl }), refl, refl)
 in_session setup past Responder StageOpening j is = (HalfOpen j, j.near, inl (record { peer = j.peer; is_held = is; id = refl }), refl, refl)
 in_session setup past Responder Open j is = (KeptAsResponder j, j.near, inl (record { peer = j.peer; is_held = is; id = refl }), refl, refl)
@@ -159,14 +159,15 @@ was_known g facts own Responder j thing (inl w) h = subst (λ (t : Held). HasNon
 was_known g facts own Responder j thing (inr w) h = subst (λ (t : Held). HasNonce facts (Some t)) w h
 
 was_in_session : (setup : Setup) (past : Past) (near : ℕ) (role : Role) (j : Joined) (thing : Held) (at : ℕ) → WasThing role j thing → IsClosing near thing at past →
-    InSession setup past j.far (context_between 0 j (own_of setup) role true)
-was_in_session setup past near Initiator j thing at w c = (thing, near, inr (at, c), ap (outward (own_of setup)) (sym w), subst (λ (t : Held). IsFarOf t j.far) (sym w) refl)
-was_in_session setup past near Responder j thing at (inl w) c = (thing, near, inr (at, c), ap (outward (own_of setup)) (sym w), subst (λ (t : Held). IsFarOf t j.far) (sym w) refl)
-was_in_session setup past near Responder j thing at (inr w) c = (thing, near, inr (at, c), ap (outward (own_of setup)) (sym w), subst (λ (t : Held). IsFarOf t j.far) (sym w) refl)
+    InSession setup past j.far (context_between setup.generation j (own_of setup) role true)
+was_in_session setup past near Initiator j thing at w c = (thing, near, inr (at, c), ap (outward setup) (sym w), subst (λ (t : Held). IsFarOf t j.far) (sym w) refl)
+was_in_session setup past near Responder j thing at (inl w) c = (thing, near, inr (at, c), ap (outward setup) (sym w), subst (λ (t : Held). IsFarOf t j.far) (sym w) refl)
+was_in_session setup past near Responder j thing at (inr w) c = (thing, near, inr (at, c), ap (outward setup) (sym w), subst (λ (t : Held). IsFarOf t j.far) (sym w) refl)
 
 -- A datagram may go out in the session: its nonce is known, and it is held or closing.
 pub record MaySend (setup : Setup) (past : Past) (session : SessionState) : Type 0 where
   pub keyed : IsKeyed setup.secret session
+  pub generation : session.generation ≡ setup.generation
   pub known : Known (context_of session true) (facts_of past)
   pub stands : InSession setup past session.joined.far (context_of session true)
 
@@ -175,13 +176,14 @@ either_way true = inl refl
 either_way false = inr refl
 
 -- one that is held
-pub may_send_held : (setup : Setup) (past : Past) (session : SessionState) → IsKeyed setup.secret session → session.generation ≡ 0 → session.own ≡ own_of setup →
+pub may_send_held : (setup : Setup) (past : Past) (session : SessionState) → IsKeyed setup.secret session → session.generation ≡ setup.generation → session.own ≡ own_of setup →
     held session.joined.peer (facts_of past) ≡ Some (thing_of session.role session.stage session.joined) → MaySend setup past session
 may_send_held setup past session keyed generation own thing = record {
   keyed = keyed;
+  generation = generation;
   known = held_known session.generation (facts_of past) session.own session.role session.stage session.joined thing;
   stands = subst (λ (g : ℕ). InSession setup past session.joined.far (context_between g session.joined session.own session.role true)) (sym generation)
-      (subst (λ (o : List ℕ). InSession setup past session.joined.far (context_between 0 session.joined o session.role true)) (sym own) (in_session setup past session.role session.stage session.joined thing));
+      (subst (λ (o : List ℕ). InSession setup past session.joined.far (context_between setup.generation session.joined o session.role true)) (sym own) (in_session setup past session.role session.stage session.joined thing));
 }
 
 pub may_send : (setup : Setup) (past : Past) (s : State) (near : ℕ) (row : Row) → Tied setup past s → get s.sessions near ≡ Some row → MaySend setup past row.session
@@ -189,15 +191,16 @@ may_send setup past s near row tied there =
     let session : SessionState = row.session in
     let j : Joined = session.joined in
     let is = tied.sessions near row there in
-    let in_own : InSession setup past j.far (context_between 0 j (own_of setup) session.role true) → InSession setup past j.far (context_of session true) =
+    let in_own : InSession setup past j.far (context_between setup.generation j (own_of setup) session.role true) → InSession setup past j.far (context_of session true) =
     λ i. subst (λ (g : ℕ). InSession setup past j.far (context_between g j session.own session.role true)) (sym is.generation)
-    (subst (λ (o : List ℕ). InSession setup past j.far (context_between 0 j o session.role true)) (sym is.own) i) in
+    (subst (λ (o : List ℕ). InSession setup past j.far (context_between setup.generation j o session.role true)) (sym is.own) i) in
     elim (either_way (is_held session.stage)) [
       | inl e ↦ may_send_held setup past session is.keyed is.generation is.own (sym (reads_held 0 s.startup.ledger (facts_of past) tied.account j.peer) ∙ is.thing e)
       | inr e ↦
           let c = is.closed e in
           record {
             keyed = is.keyed;
+            generation = is.generation;
             known = was_known session.generation (facts_of past) session.own session.role j c.thing c.was (closing_nonce near c.thing c.at past c.closing);
             stands = in_own (was_in_session setup past near session.role j c.thing c.at c.was c.closing);
           }

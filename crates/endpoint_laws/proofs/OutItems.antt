@@ -24,9 +24,9 @@ use Rattle.startup.specs.Aims.{IsHeldAs, discriminator_of_aim, keying_of_aim, en
 use Rattle.identity.specs.ServiceNames.{IsServiceName}
 use Rattle.glare_core.specs.declared.facts.Why.{Why}
 use Rattle.startup.specs.State.{AttemptState, Attempts, FitsStage, StartupState}
-use Rattle.startup.specs.Attempts.{lowest, has_number, with_attempt, without_attempt, end_of, after_end_of, keying_answer, begun_attempt, begun_search, has_search, after_unseek, distinct_candidates, confirm_fact, after_confirm}
-use Rattle.crypto_profile.specs.Keys.{sign_key_of}
-use Rattle.startup.specs.Due.{repeat_signed, repeated, repeat_of}
+use Rattle.startup.specs.Attempts.{lowest, has_number, with_attempt, without_attempt, end_of, after_end_of, begun_attempt, begun_search, has_search, after_unseek, distinct_candidates, confirm_fact, after_confirm, keying_under}
+use Rattle.crypto_profile.specs.Keys.{sign_key_of, startup_keys_of}
+use Rattle.startup.specs.Due.{repeated, repeat_of, repeat_under}
 use Rattle.session_core.specs.Session.{is_opening, confirmed}
 use Rattle.endpoint_model.specs.declared.row.Row.{Row}
 use Rattle.endpoint_model.specs.declared.config.Draws.{Draws}
@@ -34,18 +34,19 @@ use Rattle.endpoint_model.specs.declared.place.Place.{Place}
 use Rattle.endpoint_model.specs.declared.place.Place.TheVariants.{Startup as StartupPlace, Attempt, Session}
 use Rattle.endpoint_model.specs.declared.entry.Entry.{Entry}
 use Rattle.endpoint_model.specs.declared.entry.Entry.TheVariants.{Fact as FactEntry, Sought, Unsought, Discard}
-use Rattle.endpoint_model.specs.Event.{Setup, own_of, Call}
+use Rattle.endpoint_model.specs.Event.{Setup, own_of, Call, first_group}
 use Rattle.endpoint_laws.specs.Past.{Past, stamped, onto, facts_of}
 use Rattle.endpoint_model.specs.State.{State, Did, nothing, fact_entries, with_startup, with_row, with_session, with_sealed, free_from}
 use Rattle.endpoint_model.specs.Sending.{last_count, sent_startup, sent_answer, sent_each}
-use Rattle.endpoint_model.specs.Admission.{confirming, confirming_by}
+use Rattle.endpoint_model.specs.Admission.{confirming, confirming_by, stage_group}
 use Rattle.endpoint_model.specs.Effects.{opening, seeking, unseeking, cancelling, due_done, discarded}
 use Rattle.endpoint_laws.proofs.Lines.{EntriesMeet, OutPart}
 use Rattle.endpoint_laws.proofs.Tied.{Tied}
 use Rattle.endpoint_laws.proofs.OutNumbers.{numbered_fact, numbered_quiet, numbered_changed}
 use Rattle.endpoint_laws.proofs.OutHeld.{IsSized, HasSizes, held_sized}
-use Rattle.endpoint_laws.proofs.OutSends.{IsNarrow, IsNamed, IsShort, AreShort, Sent, Meets, MayGo, meets_nothing, meets_after, meets_then, meets_startup}
+use Rattle.endpoint_laws.proofs.OutSends.{IsNarrow, IsNamed, IsShort, AreShort, Sent, Meets, MayGo, meets_nothing, meets_after, meets_then, meets_startup, IsUnder, under_one}
 use Rattle.endpoint_laws.proofs.OutKeyings.{ihello_may, iikeying_may}
+use Rattle.crypto_profile.specs.declared.group.GroupSecret.{GroupSecret}
 
 -- ---- attempts towards a peer
 
@@ -54,10 +55,10 @@ IsAtPeer (AtPeer peer n) = Unit {0}
 IsAtPeer (ByName name) = ⊥
 
 -- in the keying stage it is one
-pub keyed_towards : (aim : Aim) (stage : Stage) (at : AddressParts) (cookie : List ℕ) → stage ≡ Keying at cookie → FitsStage aim stage → IsAtPeer aim
-keyed_towards (AtPeer peer n) stage at cookie is fits = tt
-keyed_towards (ByName name) Hello at cookie is fits = absurd (cc)
-keyed_towards (ByName name) (Keying other old) at cookie is fits = fits
+pub keyed_towards : (aim : Aim) (stage : Stage) (at : AddressParts) (cookie : List ℕ) (under : GroupSecret) → stage ≡ Keying at cookie under → FitsStage aim stage → IsAtPeer aim
+keyed_towards (AtPeer peer n) stage at cookie under is fits = tt
+keyed_towards (ByName name) Hello at cookie under is fits = absurd (cc)
+keyed_towards (ByName name) (Keying other old kept) at cookie under is fits = fits
 
 -- ---- what is kept when something changes
 
@@ -116,23 +117,27 @@ meets_discarded setup now call past s at cause sent = record {
 
 -- ---- answers, and one packet to several addresses
 
-pub meets_answer : (setup : Setup) (now : ℕ) (call : Call) (past : Past) (s : State) → Sent setup past s → s.startup.secret ≡ setup.secret → s.startup.ledger.own ≡ own_of setup →
-    (answer : Answer) → MayGo setup past answer.sid answer.plain → Meets setup now call past (sent_answer s answer)
-meets_answer setup now call past s sent secret own answer may = meets_startup setup now call past s sent secret own answer.to answer.sid answer.plain may
+-- an answer that goes out under the one secret, and whose packet may go
+pub record MayAnswer (setup : Setup) (past : Past) (answer : Answer) : Type 0 where
+  pub under : IsUnder setup answer.generation answer.keys
+  pub may : MayGo setup past answer.sid answer.plain
 
-startup_stays : (b : Bool) (s : State) (entries : List Entry) → ◌≡◌ {A = StartupState} ((if b then nothing s else record { state = with_sealed s (s.sealed + 1); entries = entries }).state.startup) s.startup
-startup_stays true s entries = refl
-startup_stays false s entries = refl
+pub meets_answer : (setup : Setup) (now : ℕ) (call : Call) (past : Past) (s : State) → Sent setup past s → s.startup.ledger.own ≡ own_of setup → (answer : Answer) → MayAnswer setup past answer → Meets setup now call past (sent_answer s answer)
+meets_answer setup now call past s sent own answer may = meets_startup setup now call past s sent own answer.generation answer.keys answer.to answer.sid answer.plain may.under may.may
+
+startup_stays : (b : Bool) (s : State) (entries : List Entry) → let t : State = (if b then nothing s else record { state = with_sealed s (s.sealed + 1); entries = entries }).state in (t.group ≡ s.group) × (t.startup ≡ s.startup)
+startup_stays true s entries = (refl, refl)
+startup_stays false s entries = (refl, refl)
 
 pub meets_each : (setup : Setup) (now : ℕ) (call : Call) (plain : List ℕ) → ((past : Past) → MayGo setup past 0 plain) → (to : List AddressParts) (past : Past) (s : State) → Sent setup past s →
-    s.startup.secret ≡ setup.secret → s.startup.ledger.own ≡ own_of setup → Meets setup now call past (sent_each s plain to)
-meets_each setup now call plain may [] past s sent secret own = meets_nothing setup now call past s sent
-meets_each setup now call plain may (to ∷ rest) past s sent secret own =
-    let d : Did = sent_startup s to 0 plain in
-    let first : Meets setup now call past d = meets_startup setup now call past s sent secret own to 0 plain (may past) in
-    let same : d.state.startup ≡ s.startup = startup_stays (s.sealed == last_count) s _ in
+    s.group ≡ first_group setup → s.startup.ledger.own ≡ own_of setup → Meets setup now call past (sent_each s plain to)
+meets_each setup now call plain may [] past s sent group own = meets_nothing setup now call past s sent
+meets_each setup now call plain may (to ∷ rest) past s sent group own =
+    let d : Did = sent_startup s s.group.generation (startup_keys_of s.group) to 0 plain in
+    let first : Meets setup now call past d = meets_startup setup now call past s sent own s.group.generation (startup_keys_of s.group) to 0 plain (under_one setup s.group group) (may past) in
+    let same = startup_stays (s.sealed == last_count) s _ in
     meets_then setup now call past d (λ t. sent_each t plain rest) first
-    (meets_each setup now call plain may rest (onto now d.entries past) d.state first.sent (ap (λ (t : StartupState). t.secret) same ∙ secret) (ap (λ (t : StartupState). t.ledger.own) same ∙ own))
+    (meets_each setup now call plain may rest (onto now d.entries past) d.state first.sent (same.0 ∙ group) (ap (λ (t : StartupState). t.ledger.own) same.1 ∙ own))
 
 -- ---- an attempt begins
 
@@ -147,7 +152,7 @@ meets_opening setup now call past s sent tied peer candidates draws peer_len non
     (meets_each setup now call (ihello_packet (0x01 ∷ peer) draws.tag) (λ p. ihello_may setup p 0 (0x01 ∷ peer) draws.tag (omega arith) (omega arith)) (distinct_candidates candidates)
     (stamped now (FactEntry fact) ∷ past) _
     record { numbered = begun.numbered; sized = begun.sized; short = short_put s.startup.attempts near a sent.short (record { tag = omega arith; cookie = tt; name = tt }); rows = sent.rows }
-    tied.secret tied.own)
+    tied.one.group_is tied.own)
 
 -- ---- a search begins, and is over
 
@@ -169,7 +174,7 @@ meets_seeking setup now call past s sent tied name candidates draws named tag_le
       short = short_put s.startup.attempts near a sent.short (record { tag = omega arith; cookie = tt; name = named });
       rows = sent.rows;
     }
-    tied.secret tied.own)
+    tied.one.group_is tied.own)
 
 pub meets_unsought : (setup : Setup) (past : Past) (s : State) → Sent setup past s → (now : ℕ) (call : Call) (near : ℕ) (why : Why) (left : StartupState) → AreShort left.attempts → Meets setup now call past (record { state = with_startup s left; entries = Unsought near why ∷ [] })
 meets_unsought setup past s sent now call near why left short = record {
@@ -222,17 +227,21 @@ module _ (setup : Setup) (past : Past) (s : State) (sent : Sent setup past s) (t
   attempt_sized : (near : ℕ) (a : AttemptState) (peer : List ℕ) (n : ℕ) → a.aim ≡ AtPeer peer n → get s.startup.attempts near ≡ Some a → HasSizes peer (Some (OpeningHeld n near a.ni))
   attempt_sized near a peer n aims there = held_sized peer (facts_of past) (OpeningHeld n near a.ni) sent.sized (attempt_held near a peer n aims there)
 
-  keying_may : (near : ℕ) (a : AttemptState) (cookie : List ℕ) (aim : Aim) → IsAtPeer aim → a.aim ≡ aim → get s.startup.attempts near ≡ Some a → length cookie ≤ 128 → length s.startup.cert ≤ 80 →
-      MayGo setup past 0 (keying_of_aim (sign_key_of s.startup.secret) near cookie s.startup.cert a.ni aim)
-  keying_may near a cookie (ByName name) other aims there narrow cert = absurd other
-  keying_may near a cookie (AtPeer peer n) other aims there narrow cert =
-      iikeying_may setup past 0 s.startup.secret near cookie s.startup.cert a.ni n peer narrow cert tied.cert (attempt_held near a peer n aims there) (attempt_sized near a peer n aims there)
+  keying_may : (group : GroupSecret) (near : ℕ) (a : AttemptState) (cookie : List ℕ) (aim : Aim) → IsAtPeer aim → a.aim ≡ aim → get s.startup.attempts near ≡ Some a → length cookie ≤ 128 → length s.startup.cert ≤ 80 →
+      MayGo setup past 0 (keying_of_aim (sign_key_of group.secret) near cookie s.startup.cert a.ni aim)
+  keying_may group near a cookie (ByName name) other aims there narrow cert = absurd other
+  keying_may group near a cookie (AtPeer peer n) other aims there narrow cert =
+      iikeying_may setup past 0 group.secret near cookie s.startup.cert a.ni n peer narrow cert tied.cert (attempt_held near a peer n aims there) (attempt_sized near a peer n aims there)
 
-  pub attempt_may : (near : ℕ) (a : AttemptState) (to : AddressParts) (cookie : List ℕ) → IsAtPeer a.aim → get s.startup.attempts near ≡ Some a → length cookie ≤ 128 → length setup.cert ≤ 80 →
-      MayGo setup past 0 (keying_answer s.startup near a to cookie).plain
-  attempt_may near a to cookie towards there narrow short =
+  pub attempt_may : (group : GroupSecret) → group ≡ first_group setup → (near : ℕ) (a : AttemptState) (to : AddressParts) (cookie : List ℕ) → IsAtPeer a.aim → get s.startup.attempts near ≡ Some a → length cookie ≤ 128 → length setup.cert ≤ 80 →
+      MayAnswer setup past (keying_under group s.startup.cert near a to cookie)
+  attempt_may group one near a to cookie towards there narrow short =
       let cert : length s.startup.cert ≤ 80 = subst (λ (c : List ℕ). length c ≤ 80) (sym tied.cert) short in
-      keying_may near a cookie a.aim towards refl there narrow cert
+      record { under = under_one setup group one; may = keying_may group near a cookie a.aim towards refl there narrow cert }
+
+  -- the secret that an attempt keeps is the one
+  pub kept_group : (near : ℕ) (a : AttemptState) (at : AddressParts) (cookie : List ℕ) (under : GroupSecret) → a.stage ≡ Keying at cookie under → get s.startup.attempts near ≡ Some a → under ≡ first_group setup
+  kept_group near a at cookie under stage there = sym (ap (stage_group s.group) stage) ∙ tied.one.attempts near a there
 
   aimed_may : (near : ℕ) (a : AttemptState) (aim : Aim) → a.aim ≡ aim → get s.startup.attempts near ≡ Some a → (p : Past) → MayGo setup p 0 (ihello_packet (discriminator_of_aim aim) a.tag)
   aimed_may near a (AtPeer peer n) aims there p = ihello_may setup p 0 (0x01 ∷ peer) a.tag (omega (arith, (attempt_sized near a peer n aims there).0)) (sent.short near a there).tag
@@ -244,14 +253,14 @@ module _ (setup : Setup) (past : Past) (s : State) (sent : Sent setup past s) (t
   -- ---- what is due
 
   module _ (now : ℕ) (call : Call) (short : length setup.cert ≤ 80) where
-    by_stage : (e : ℕ × AttemptState) (stage : Stage) → get s.startup.attempts e.0 ≡ Some e.1 → e.1.stage ≡ stage → (t : StartupState) → AreShort t.attempts → t.secret ≡ s.startup.secret → t.ledger.own ≡ s.startup.ledger.own →
-        Meets setup now call past (due_done (with_startup s t) (repeat_signed (sign_key_of s.startup.secret) s.startup.cert e.0 e.1 stage))
-    by_stage e Hello there is t after secret own =
-        meets_each setup now call (ihello_packet (discriminator_of_aim e.1.aim) e.1.tag) (hello_may e.0 e.1 there) e.1.candidates past (with_startup s t) (sent_startup_changed setup past s t sent after) (secret ∙ tied.secret) (own ∙ tied.own)
-    by_stage e (Keying at cookie) there is t after secret own =
+    by_stage : (e : ℕ × AttemptState) (stage : Stage) → get s.startup.attempts e.0 ≡ Some e.1 → e.1.stage ≡ stage → (t : StartupState) → AreShort t.attempts → t.ledger.own ≡ s.startup.ledger.own →
+        Meets setup now call past (due_done (with_startup s t) (repeat_under s.startup.cert e.0 e.1 stage))
+    by_stage e Hello there is t after own =
+        meets_each setup now call (ihello_packet (discriminator_of_aim e.1.aim) e.1.tag) (hello_may e.0 e.1 there) e.1.candidates past (with_startup s t) (sent_startup_changed setup past s t sent after) tied.one.group_is (own ∙ tied.own)
+    by_stage e (Keying at cookie under) there is t after own =
         let narrow : length cookie ≤ 128 = subst IsNarrow is (sent.short e.0 e.1 there).cookie in
-        meets_answer setup now call past (with_startup s t) (sent_startup_changed setup past s t sent after) (secret ∙ tied.secret) (own ∙ tied.own) (keying_answer s.startup e.0 e.1 at cookie)
-        (attempt_may e.0 e.1 at cookie (keyed_towards e.1.aim e.1.stage at cookie is (tied.sound.stages e.0 e.1 there)) there narrow short)
+        meets_answer setup now call past (with_startup s t) (sent_startup_changed setup past s t sent after) (own ∙ tied.own) (keying_under under s.startup.cert e.0 e.1 at cookie)
+        (attempt_may under (kept_group e.0 e.1 at cookie under is there) e.0 e.1 at cookie (keyed_towards e.1.aim e.1.stage at cookie under is (tied.sound.stages e.0 e.1 there)) there narrow short)
 
     -- an attempt ends, or sends again
     pub meets_end : (near : ℕ) (peer : List ℕ) → Meets setup now call past (due_done (with_startup s (without_attempt s.startup near (Ended peer near Expired))) (EndDue (Ended peer near Expired)))
@@ -263,7 +272,7 @@ module _ (setup : Setup) (past : Past) (s : State) (sent : Sent setup past s) (t
     meets_repeat e there =
         let kept : IsShort e.1 = sent.short e.0 e.1 there in
         by_stage e e.1.stage there refl (with_attempt s.startup e.0 (repeated e.1 s.moment))
-        (short_put s.startup.attempts e.0 (repeated e.1 s.moment) sent.short (record { tag = kept.tag; cookie = kept.cookie; name = kept.name })) refl refl
+        (short_put s.startup.attempts e.0 (repeated e.1 s.moment) sent.short (record { tag = kept.tag; cookie = kept.cookie; name = kept.name })) refl
 
 -- ---- a session is confirmed
 

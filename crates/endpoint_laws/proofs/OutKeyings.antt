@@ -13,7 +13,7 @@ use Rattle.sha2.proofs.Facts256.{length-sha256}
 use Rattle.glare_core.specs.declared.facts.Held.TheVariants.{Opening}
 use Rattle.glare_core.specs.declared.facts.Joined.{Joined}
 use Rattle.glare_core.specs.Standing.{held}
-use Rattle.startup_packets.specs.Packets.{startup_packet, ihello_packet, rhello_packet, cookiechange_packet, initiator_part, responder_part, iikeying_packet, iikeying_signed, rikeying_packet, rikeying_signed}
+use Rattle.startup_packets.specs.Packets.{startup_packet, ihello_packet, rhello_packet, cookiechange_packet, initiator_part, responder_part, iikeying_packet, iikeying_signed, rikeying_packet, rikeying_signed, rikeying_with}
 use Rattle.startup_packets.specs.Packets.{addresses_bytes, redirect_packet}
 use Rattle.startup_packets.proofs.Sizes.{startup_length, ihello_length, rhello_length, redirect_length, length-addresses_bytes, cookiechange_length, iikeying_length, rikeying_length}
 use Rattle.endpoint_model.specs.Event.{Setup, own_of}
@@ -89,16 +89,27 @@ module _ (setup : Setup) (past : Past) (sid : ℕ) where
       (ii_fits near cookie cert part sign sizes.1 narrow short part_len)
       record { startup = refl; own = mine; peer = peer; n = n; ni = ni; is_held = is_held; values = refl }
 
-  pub rikeying_may : (secret : List ℕ) (j : Joined) (own : List ℕ) → own ≡ own_of setup → sid ≡ j.far → IsBornHere (held j.peer (facts_of past)) j → j.near < 2 ^ 32 → length j.ni ≤ 16 → length j.nr ≤ 16 →
-      MayGo setup past sid (rikeying_packet secret j.near j.nr j.k own j.ni)
-  unfolding rikeying_signed
-  rikeying_may secret j own mine far is_held near ni nr packet reads =
+  -- with whatever signature
+  signed_may : (sign : List ℕ) (j : Joined) (own : List ℕ) → length sign ≤ 32 → own ≡ own_of setup → sid ≡ j.far → IsBornHere (held j.peer (facts_of past)) j → j.near < 2 ^ 32 → length j.ni ≤ 16 → length j.nr ≤ 16 →
+      MayGo setup past sid (startup_packet (RIKeying j.near (responder_part j.nr j.k own j.ni) sign))
+  signed_may sign j own sign_len mine far is_held near ni nr packet reads =
       let part : List ℕ = responder_part j.nr j.k own j.ni in
-      let sign : List ℕ = hmac (sign_key_of secret) (payload_bytes (RIKeying j.near part [])) in
       let chunk : Chunk = RIKeying j.near part sign in
       let own_len : length own ≡ 32 = ap length mine ∙ length-sha256 setup.cert in
       let part_len : length part ≤ 80 =
       omega (arith, length-append (j.nr ++ to_be_bytes w64 j.k ++ own) j.ni, length-append (j.nr ++ to_be_bytes w64 j.k) own, length-append j.nr (to_be_bytes w64 j.k), own_len, ni, nr) in
-      let sign_len : length sign ≤ 32 = omega (arith, length-hmac (sign_key_of secret) (payload_bytes (RIKeying j.near part []))) in
       these_keyings _ _ packet chunk (startup_alone chunk packet (small chunk (rikeying_length j.near part sign part_len sign_len)) reads) (ri_fits j.near part sign near part_len)
       record { startup = refl; j = j; is_held = is_held; sid_is = far; near_is = refl; values = ap (λ (o : List ℕ). responder_part j.nr j.k o j.ni) mine }
+
+  pub rikeying_may : (secret : List ℕ) (j : Joined) (own : List ℕ) → own ≡ own_of setup → sid ≡ j.far → IsBornHere (held j.peer (facts_of past)) j → j.near < 2 ^ 32 → length j.ni ≤ 16 → length j.nr ≤ 16 →
+      MayGo setup past sid (rikeying_packet secret j.near j.nr j.k own j.ni)
+  unfolding rikeying_signed
+  rikeying_may secret j own =
+      let before : List ℕ = payload_bytes (RIKeying j.near (responder_part j.nr j.k own j.ni) []) in
+      signed_may (hmac (sign_key_of secret) before) j own (omega (arith, length-hmac (sign_key_of secret) before))
+
+  -- with the one that was kept
+  pub kept_may : (sign : List ℕ) (j : Joined) (own : List ℕ) → length sign ≤ 32 → own ≡ own_of setup → sid ≡ j.far → IsBornHere (held j.peer (facts_of past)) j → j.near < 2 ^ 32 → length j.ni ≤ 16 → length j.nr ≤ 16 →
+      MayGo setup past sid (rikeying_with j.near j.nr j.k own j.ni sign)
+  unfolding rikeying_with
+  kept_may sign j own = signed_may sign j own

@@ -59,7 +59,7 @@ known_stays (Session generation ni nr fp_i fp_r sid_i sid_r false) fact earlier 
 -- The numbers that were used are those of the counts, and contexts tell the sessions apart.
 pub record Numbered (own : List ℕ) (past : Past) (sealed : ℕ) (sessions : Sessions) : Type 0 where
   pub few : sealed ≤ last_count
-  pub startup : (number : List ℕ) → WasNumbered (Startup 0) number past → Counted (startup_number own) sealed number
+  pub startup : (generation : ℕ) (number : List ℕ) → WasNumbered (Startup generation) number past → Counted (startup_number own) sealed number
   pub known : (context : Context) (number : List ℕ) → WasNumbered context number past → Known context (facts_of past)
   pub under : (near : ℕ) (row : Row) → get sessions near ≡ Some row → row.session.joined.near ≡ near
   pub few_in : (near : ℕ) (row : Row) → get sessions near ≡ Some row → row.session.sealed ≤ last_count
@@ -68,9 +68,9 @@ pub record Numbered (own : List ℕ) (past : Past) (sealed : ℕ) (sessions : Se
 
 -- ---- contexts
 
-not_startup : (g : ℕ) (j : Joined) (own : List ℕ) (role : Role) → context_between g j own role true ≡ Startup 0 → ⊥
-not_startup g j own Initiator e = cc
-not_startup g j own Responder e = cc
+not_startup : (g : ℕ) (j : Joined) (own : List ℕ) (role : Role) (generation : ℕ) → context_between g j own role true ≡ Startup generation → ⊥
+not_startup g j own Initiator generation e = cc
+not_startup g j own Responder generation e = cc
 
 same_near : (g : ℕ) (j : Joined) (own : List ℕ) (role : Role) (g' : ℕ) (j' : Joined) (own' : List ℕ) (role' : Role) →
     context_between g j own role true ≡ context_between g' j' own' role' true → j.near ≡ j'.near
@@ -90,7 +90,7 @@ numbered_new own =
     let none = λ (near : ℕ) (row : Row) (e : get {R = nat_cmp} empty near ≡ Some row). none_is_some row (get {R = nat_cmp} empty near) (get-empty nat_cmp near) e in
     record {
       few = omega arith;
-      startup = λ number was. absurd was;
+      startup = λ generation number was. absurd was;
       known = λ context number was. absurd was;
       under = λ near row e. absurd (none near row e);
       few_in = λ near row e. absurd (none near row e);
@@ -101,7 +101,7 @@ module _ (own : List ℕ) (past : Past) (sealed : ℕ) (sessions : Sessions) (n 
   pub numbered_fact : (now : ℕ) (fact : Fact) → Numbered own (stamped now (FactEntry fact) ∷ past) sealed sessions
   numbered_fact now fact = record {
     few = n.few;
-    startup = λ number was. elim was [ inl b ↦ absurd b | inr w ↦ n.startup number w ];
+    startup = λ generation number was. elim was [ inl b ↦ absurd b | inr w ↦ n.startup generation number w ];
     known = λ context number was. elim was [ inl b ↦ absurd b | inr w ↦ known_stays context fact (facts_of past) (n.known context number w) ];
     under = n.under;
     few_in = n.few_in;
@@ -119,7 +119,7 @@ module _ (own : List ℕ) (past : Past) (sealed : ℕ) (sessions : Sessions) (n 
     pub numbered_quiet : Numbered own (x ∷ past) sealed sessions
     numbered_quiet = record {
       few = n.few;
-      startup = λ number was. n.startup number (before (Startup 0) number was);
+      startup = λ generation number was. n.startup generation number (before (Startup generation) number was);
       known = λ context number was. subst (Known context) (sym facts_are) (n.known context number (before context number was));
       under = n.under;
       few_in = n.few_in;
@@ -129,14 +129,14 @@ module _ (own : List ℕ) (past : Past) (sealed : ℕ) (sessions : Sessions) (n 
   pub numbered_begun : (now : ℕ) (e : Event) → Numbered own (begun now e ∷ past) sealed sessions
   numbered_begun now e = numbered_quiet (begun now e) refl refl
 
-  -- a datagram in the startup context
-  pub numbered_startup : (now : ℕ) (to : AddressParts) (datagram : List ℕ) → sealed ≢ last_count → number_of (drop 4 datagram) ≡ startup_number own (sealed + 1) →
-      Numbered own (stamped now (Out to datagram (Startup 0)) ∷ past) (sealed + 1) sessions
-  numbered_startup now to datagram some is = record {
+  -- a datagram in the startup context of whatever generation
+  pub numbered_startup : (generation now : ℕ) (to : AddressParts) (datagram : List ℕ) → sealed ≢ last_count → number_of (drop 4 datagram) ≡ startup_number own (sealed + 1) →
+      Numbered own (stamped now (Out to datagram (Startup generation)) ∷ past) (sealed + 1) sessions
+  numbered_startup generation now to datagram some is = record {
     few = omega (arith, n.few, some);
-    startup = λ number was. elim was [
+    startup = λ other number was. elim was [
       | inl p ↦ counted_last (startup_number own) sealed number (sym p.1 ∙ is)
-      | inr w ↦ counted_more (startup_number own) sealed number (n.startup number w)
+      | inr w ↦ counted_more (startup_number own) sealed number (n.startup other number w)
     ];
     known = λ context number was. elim was [
       | inl p ↦ subst (λ (c : Context). Known c (facts_of past)) p.0 tt
@@ -145,14 +145,14 @@ module _ (own : List ℕ) (past : Past) (sealed : ℕ) (sessions : Sessions) (n 
     under = n.under;
     few_in = n.few_in;
     sent = λ near row e d number was. elim was [
-      | inl p ↦ absurd (not_startup row.session.generation row.session.joined row.session.own row.session.role (sym p.0))
+      | inl p ↦ absurd (not_startup row.session.generation row.session.joined row.session.own row.session.role generation (sym p.0))
       | inr w ↦ n.sent near row e d number w
     ];
   }
 
-  pub once_startup : sealed ≢ last_count → WasNumbered (Startup 0) (startup_number own (sealed + 1)) past → ⊥
-  once_startup some was =
-      let c = n.startup (startup_number own (sealed + 1)) was in
+  pub once_startup : (generation : ℕ) → sealed ≢ last_count → WasNumbered (Startup generation) (startup_number own (sealed + 1)) past → ⊥
+  once_startup generation some was =
+      let c = n.startup generation (startup_number own (sealed + 1)) was in
       let words : to_be_bytes w64 (sealed + 1) ≡ to_be_bytes w64 c.count =
       sym (past_front (length (take 8 own)) (take 8 own) (to_be_bytes w64 (sealed + 1)) refl)
       ∙ ap (drop (length (take 8 own))) c.is
@@ -242,9 +242,9 @@ module _ (own : List ℕ) (past : Past) (sealed : ℕ) (sessions : Sessions) (n 
         Numbered own (stamped now (Out to datagram (context_of row.session true)) ∷ past) sealed (insert sessions near new)
     numbered_session now to datagram new is number_is known = record {
       few = n.few;
-      startup = λ number was. elim was [
-        | inl p ↦ absurd (not_startup row.session.generation row.session.joined row.session.own row.session.role p.0)
-        | inr w ↦ n.startup number w
+      startup = λ generation number was. elim was [
+        | inl p ↦ absurd (not_startup row.session.generation row.session.joined row.session.own row.session.role generation p.0)
+        | inr w ↦ n.startup generation number w
       ];
       known = λ context number was. elim was [
         | inl p ↦ subst (λ (c : Context). Known c (facts_of past)) p.0 known

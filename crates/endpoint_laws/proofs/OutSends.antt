@@ -10,7 +10,7 @@ use Rattle.rtmfp_forms.specs.Address.{AddressParts}
 use Rattle.rtmfp_packet.specs.Whole.{Whole}
 use Rattle.rtmfp_packet.specs.Reading.{PacketReading}
 use Rattle.crypto_profile.specs.declared.keys.Context.TheVariants.{Startup}
-use Rattle.crypto_profile.specs.Keys.{Keys, keys_of}
+use Rattle.crypto_profile.specs.Keys.{Keys, startup_keys_of}
 use Rattle.crypto_profile.specs.Sealing.{number_of, sealed, sealed_in}
 use Rattle.crypto_profile.proofs.Opened.{sealed_carries}
 use Rattle.packet_scramble.specs.Datagram.{datagram}
@@ -26,7 +26,7 @@ use Rattle.session_core.specs.Sealed.{number_bytes, after_seal}
 use Rattle.endpoint_model.specs.declared.row.Row.{Row}
 use Rattle.endpoint_model.specs.declared.entry.Entry.{Entry}
 use Rattle.endpoint_model.specs.declared.entry.Entry.TheVariants.{Out}
-use Rattle.endpoint_model.specs.Event.{Setup, own_of, Call}
+use Rattle.endpoint_model.specs.Event.{Setup, own_of, Call, first_group}
 use Rattle.endpoint_laws.specs.Past.{Past, stamped, onto, facts_of}
 use Rattle.endpoint_model.specs.State.{State, Did, nothing, after_entries, then_do, with_sealed, with_session}
 use Rattle.endpoint_model.specs.Sending.{last_count, startup_number, startup_datagram, sent_startup, session_packet, session_datagram, sent_by}
@@ -38,11 +38,13 @@ use Rattle.endpoint_laws.proofs.Going.{onto_append}
 use Rattle.endpoint_laws.proofs.OutNumbers.{Numbered, numbered_startup, once_startup, once_session, numbered_session}
 use Rattle.endpoint_laws.proofs.OutPackets.{IsModest, body_plain, no_keyings_among}
 use Rattle.endpoint_laws.proofs.OutHeld.{AreSized, MaySend}
+use Rattle.crypto_profile.specs.declared.group.GroupSecret.{GroupSecret}
+use Rattle.endpoint_laws.proofs.Knowing.{own_secrets, own_known, is_known, context_generation}
 
 -- a cookie that an attempt keeps has 128 bytes or fewer
 abbrev pub IsNarrow : Stage → Type 0
 IsNarrow Hello = Unit {0}
-IsNarrow (Keying at cookie) = length cookie ≤ 128
+IsNarrow (Keying at cookie under) = length cookie ≤ 128
 
 -- the name that is looked for is one
 abbrev pub IsNamed : Aim → Type 0
@@ -102,48 +104,66 @@ unequal a b h e = grind (arith, nat_tests)
 abbrev pub MayGo : Setup → Past → ℕ → List ℕ → Type 0
 MayGo setup past sid plain =
     (packet : Whole) → PacketReading plain (Ok packet) →
-    KeyingsAre (λ near cookie cert part sign. KeyingOfAttempt setup (Startup 0) (facts_of past) near cert part) (λ near part sign. KeyingOfBorn setup (Startup 0) (facts_of past) sid near part) packet
+    KeyingsAre (λ near cookie cert part sign. KeyingOfAttempt setup (Startup setup.generation) (facts_of past) near cert part) (λ near part sign. KeyingOfBorn setup (Startup setup.generation) (facts_of past) sid near part) packet
 
 startup_sized : (setup : Setup) (count : ℕ) → length (startup_number (own_of setup) count) ≡ 16
 startup_sized setup count =
     omega (arith, length-append (take 8 (sha256 setup.cert)) (to_be_bytes w64 count), length-take-le 8 (sha256 setup.cert) (omega (arith, length-sha256 setup.cert)))
 
-module _ (setup : Setup) (now : ℕ) (call : Call) (past : Past) (s : State) (sent : Sent setup past s) (secret : s.startup.secret ≡ setup.secret) (own : s.startup.ledger.own ≡ own_of setup) where
-  pub meets_startup : (to : AddressParts) (sid : ℕ) (plain : List ℕ) → MayGo setup past sid plain → Meets setup now call past (sent_startup s to sid plain)
-  meets_startup to sid plain may = by_test (s.sealed == last_count) refl
+-- what goes out under the one secret: its generation and its keys
+pub record IsUnder (setup : Setup) (generation : ℕ) (keys : Keys) : Type 0 where
+  pub generation_is : generation ≡ setup.generation
+  pub keys_are : keys ≡ startup_keys_of (first_group setup)
+
+pub under_one : (setup : Setup) (g : GroupSecret) → g ≡ first_group setup → IsUnder setup g.generation (startup_keys_of g)
+under_one setup g same = record { generation_is = ap (λ (x : GroupSecret). x.generation) same; keys_are = ap startup_keys_of same }
+
+module _ (setup : Setup) (now : ℕ) (call : Call) (past : Past) (s : State) (sent : Sent setup past s) (own : s.startup.ledger.own ≡ own_of setup) where
+  -- in the first generation
+  first_startup : (to : AddressParts) (sid : ℕ) (plain : List ℕ) → MayGo setup past sid plain → Meets setup now call past (sent_startup s setup.generation (startup_keys_of (first_group setup)) to sid plain)
+  first_startup to sid plain may = by_test (s.sealed == last_count) refl
     where
-      is : startup_datagram s sid plain ≡ datagram sid (sealed_in setup.secret (Startup 0) sid (startup_number (own_of setup) (s.sealed + 1)) plain)
-      is = ap (λ (o : List ℕ). datagram sid (sealed_in s.startup.secret (Startup 0) sid (startup_number o (s.sealed + 1)) plain)) own
-          ∙ ap (λ (k : List ℕ). datagram sid (sealed_in k (Startup 0) sid (startup_number (own_of setup) (s.sealed + 1)) plain)) secret
+      keys : Keys
+      keys = startup_keys_of (first_group setup)
 
-      carries : number_of (drop 4 (startup_datagram s sid plain)) ≡ startup_number (own_of setup) (s.sealed + 1)
+      is : startup_datagram s keys sid plain ≡ datagram sid (sealed_in setup.secret (Startup setup.generation) sid (startup_number (own_of setup) (s.sealed + 1)) plain)
+      is = ap (λ (o : List ℕ). datagram sid (sealed keys sid (startup_number o (s.sealed + 1)) plain)) own
+
+      carries : number_of (drop 4 (startup_datagram s keys sid plain)) ≡ startup_number (own_of setup) (s.sealed + 1)
       carries = ap (λ (d : List ℕ). number_of (drop 4 d)) is
-          ∙ (sealed_carries (keys_of setup.secret (Startup 0)) sid (startup_number (own_of setup) (s.sealed + 1)) plain (startup_sized setup (s.sealed + 1))).0
+          ∙ (sealed_carries keys sid (startup_number (own_of setup) (s.sealed + 1)) plain (startup_sized setup (s.sealed + 1))).0
 
-      line : s.sealed ≢ last_count → OutLine setup past (startup_datagram s sid plain) (Startup 0)
+      line : s.sealed ≢ last_count → OutLine (own_secrets setup) setup past (startup_datagram s keys sid plain) (Startup setup.generation)
       line some = record {
         sid = sid;
         number = startup_number (own_of setup) (s.sealed + 1);
         plain = plain;
         numbered = startup_sized setup (s.sealed + 1);
+        secret = setup.secret;
+        known = own_known setup;
         is = is;
-        once = λ far was. once_startup (own_of setup) past s.sealed s.sessions sent.numbered some was;
+        once = λ far was. once_startup (own_of setup) past s.sealed s.sessions sent.numbered setup.generation some was;
         keyings = may;
         session = tt;
       }
 
       by_test : (b : Bool) → (s.sealed == last_count) ≡ b →
-          Meets setup now call past (if b then nothing s else record { state = with_sealed s (s.sealed + 1); entries = Out to (startup_datagram s sid plain) (Startup 0) ∷ [] })
+          Meets setup now call past (if b then nothing s else record { state = with_sealed s (s.sealed + 1); entries = Out to (startup_datagram s keys sid plain) (Startup setup.generation) ∷ [] })
       by_test true e = meets_nothing setup now call past s sent
       by_test false e = record {
         lines = (line (unequal s.sealed last_count e), tt);
         sent = record {
-          numbered = numbered_startup (own_of setup) past s.sealed s.sessions sent.numbered now to (startup_datagram s sid plain) (unequal s.sealed last_count e) carries;
+          numbered = numbered_startup (own_of setup) past s.sealed s.sessions sent.numbered setup.generation now to (startup_datagram s keys sid plain) (unequal s.sealed last_count e) carries;
           sized = sent.sized;
           short = sent.short;
           rows = sent.rows;
         };
       }
+
+  pub meets_startup : (generation : ℕ) (keys : Keys) (to : AddressParts) (sid : ℕ) (plain : List ℕ) → IsUnder setup generation keys → MayGo setup past sid plain → Meets setup now call past (sent_startup s generation keys to sid plain)
+  meets_startup generation keys to sid plain under may =
+      subst (λ (k : Keys). Meets setup now call past (sent_startup s generation k to sid plain)) (sym under.keys_are)
+      (subst (λ (g : ℕ). Meets setup now call past (sent_startup s g (startup_keys_of (first_group setup)) to sid plain)) (sym under.generation_is) (first_startup to sid plain may))
 
 -- ---- a packet in a session
 
@@ -158,12 +178,14 @@ module _ (setup : Setup) (now : ℕ) (call : Call) (past : Past) (s : State) (se
       carries : number_of (drop 4 (session_datagram row.session s.moment body)) ≡ number_bytes (row.session.sealed + 1)
       carries = (sealed_carries row.session.outward row.session.joined.far (number_bytes (row.session.sealed + 1)) (session_packet row.session s.moment body) refl).0
 
-      line : row.session.sealed ≢ last_count → OutLine setup past (session_datagram row.session s.moment body) (context_of row.session true)
+      line : row.session.sealed ≢ last_count → OutLine (own_secrets setup) setup past (session_datagram row.session s.moment body) (context_of row.session true)
       line some = record {
         sid = row.session.joined.far;
         number = number_bytes (row.session.sealed + 1);
         plain = session_packet row.session s.moment body;
         numbered = refl;
+        secret = setup.secret;
+        known = is_known setup (own_secrets setup) (own_known setup) (context_of row.session true) (context_generation row.session.generation row.session.joined row.session.own row.session.role true ∙ may.generation);
         is = is;
         once = λ far was. once_session (own_of setup) past s.sealed s.sessions sent.numbered near row there some far was;
         keyings = λ packet reads. no_keyings_among _ _ packet (body_plain row.session s.moment body packet modest reads);

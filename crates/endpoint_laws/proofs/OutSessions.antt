@@ -13,7 +13,7 @@ use Rattle.glare_core.specs.declared.facts.Fact.{Fact}
 use Rattle.glare_core.specs.declared.facts.Held.{Held}
 use Rattle.glare_core.specs.Ledger.{held_with}
 use Rattle.glare_core.specs.Calls.{ended_fact}
-use Rattle.startup.specs.Attempts.{session_in, end_fact}
+use Rattle.startup.specs.Attempts.{session_in, end_fact, after_end_by}
 use Rattle.session_core.specs.declared.stage.Stage.TheVariants.{NearClose, FarLinger}
 use Rattle.session_core.specs.declared.stage.SessionDue.{SessionDue}
 use Rattle.session_core.specs.declared.stage.SessionDue.TheVariants.{Unconfirmed, Idle, Over, RepeatClose}
@@ -36,7 +36,7 @@ use Rattle.endpoint_laws.specs.Past.{Past, stamped, onto}
 use Rattle.endpoint_laws.specs.Lawful.{IsTick}
 use Rattle.endpoint_laws.proofs.Tied.{Tied}
 use Rattle.endpoint_laws.proofs.OutNumbers.{numbered_quiet, numbered_removed}
-use Rattle.endpoint_laws.proofs.OutSends.{Sent, Meets, meets_nothing, meets_then}
+use Rattle.endpoint_laws.proofs.OutSends.{Sent, Meets, meets_nothing, meets_then, AreShort}
 use Rattle.endpoint_laws.proofs.OutItems.{IsLight, sent_facts, lines_facts, sent_session_changed}
 use Rattle.endpoint_laws.proofs.OutPackets.{IsModest, one_is_modest}
 use Rattle.endpoint_laws.proofs.Replies.{says, home_by}
@@ -61,6 +61,11 @@ ping_is_modest bytes short = one_is_modest (Ping bytes) (omega arith) (omega ari
 -- ---- what is kept when a session changes, ends, or is over
 
 module _ (setup : Setup) (call : Call) (past : Past) (s : State) (sent : Sent setup past s) (near : ℕ) (row : Row) (there : get s.sessions near ≡ Some row) where
+  -- the attempts stay where a session ends
+  short_after : (o : Option Fact) → AreShort (after_end_by s.startup row.session.joined.peer o).attempts
+  short_after None = sent.short
+  short_after (Some fact) = sent.short
+
   meets_ended : (why : Why) (left : SessionState) → left.joined ≡ row.session.joined → left.own ≡ row.session.own → left.role ≡ row.session.role → left.generation ≡ row.session.generation → left.sealed ≡ row.session.sealed → Meets setup s.moment call past (ended_as s near row why left)
   meets_ended why left joined own role generation count =
       let o : Option Fact = end_fact s.startup row.session.joined.peer why in
@@ -69,7 +74,7 @@ module _ (setup : Setup) (call : Call) (past : Past) (s : State) (sent : Sent se
       sent_session_changed setup (onto s.moment (fact_entries o) past) s near row (record row { session = left }) after there joined own role generation count in
       record {
         lines = lines_facts setup s.moment call past o;
-        sent = record { numbered = changed.numbered; sized = changed.sized; short = sent.short; rows = sent.rows };
+        sent = record { numbered = changed.numbered; sized = changed.sized; short = short_after o; rows = sent.rows };
       }
 
   meets_dropped : (why : Why) → Meets setup s.moment call past (dropped s near row why)
@@ -78,7 +83,7 @@ module _ (setup : Setup) (call : Call) (past : Past) (s : State) (sent : Sent se
       let after : Sent setup (onto s.moment (fact_entries o) past) s = sent_facts setup past s s.moment o sent (ended_light (session_in (held_with s.startup.ledger row.session.joined.peer)) row.session.joined.peer why) in
       record {
         lines = lines_facts setup s.moment call past o;
-        sent = record { numbered = numbered_removed _ _ s.sealed s.sessions after.numbered near; sized = after.sized; short = sent.short; rows = sent.rows };
+        sent = record { numbered = numbered_removed _ _ s.sealed s.sessions after.numbered near; sized = after.sized; short = short_after o; rows = sent.rows };
       }
 
   meets_changed : (new : Row) → new.session.joined ≡ row.session.joined → new.session.own ≡ row.session.own → new.session.role ≡ row.session.role → new.session.generation ≡ row.session.generation → new.session.sealed ≡ row.session.sealed → Meets setup s.moment call past (nothing (with_row s near new))

@@ -43,13 +43,16 @@ use Rattle.startup_packets.specs.Packets.{initiator_part_in, is_signed, is_signe
 use Rattle.startup_packets.specs.Readings.{InitiatorKeying, part_offset, cert_offset, with_initiator_part, initiator_fields, initiator_keying_in}
 use Rattle.startup.specs.Keyings.{keying_of, heard_cause, named_cause, cookie_cause, initiator_cause, cause_by, iikeying_cause, repeated_session}
 use Rattle.startup.specs.Attempts.{is_own}
-use Rattle.endpoint_model.specs.Event.{Setup, own_of}
+use Rattle.crypto_profile.specs.declared.keys.Context.TheVariants.{Startup as StartupContext}
+use Rattle.endpoint_model.specs.Event.{Setup, own_of, first_group}
 use Rattle.endpoint_laws.specs.Past.{Past, facts_of, ids_in_use}
 use Rattle.endpoint_model.specs.Keying.{IsSigned, initiator_part}
 use Rattle.endpoint_laws.specs.Admissible.{Admissible, Offer}
 use Rattle.endpoint_model.specs.State.{State, full, uses}
 use Rattle.endpoint_laws.proofs.Facts.{AllNone}
 use Rattle.endpoint_laws.proofs.Tied.{Tied}
+use Rattle.crypto_profile.specs.declared.group.GroupSecret.{GroupSecret}
+use Rattle.endpoint_laws.proofs.Knowing.{own_secrets, signed_own}
 
 -- ---- small facts
 
@@ -239,15 +242,15 @@ narrow_is_false : (n : ℕ) → n ≤ 128 → nat_lt 128 n ≡ false
 narrow_is_false n le = grind (arith, nat_tests)
 
 -- What stands of an admissible keying at an end that agrees with its facts.
-pub record IsBearing (s : State) (from : AddressParts) (payload : List ℕ) (keying : InitiatorKeying) : Type 0 where
+pub record IsBearing (s : State) (group : GroupSecret) (from : AddressParts) (payload : List ℕ) (keying : InitiatorKeying) : Type 0 where
   pub reads : initiator_keying_in payload ≡ Ok keying
-  pub cause : iikeying_cause s.startup payload from s.moment (full s) ≡ None
+  pub cause : iikeying_cause s.startup payload from s.moment (full s) group ≡ None
   pub current : cookie_test s.startup.cookie_secret keying.cookie from s.moment ≡ Current
   pub again : again_of (held_with s.startup.ledger (keying_of keying).peer) (keying_of keying) ≡ None
   pub repeated : repeated_session (held_with s.startup.ledger (keying_of keying).peer) (keying_of keying) ≡ None
 
-module _ (setup : Setup) (past : Past) (s : State) (tied : Tied setup past s) (from : AddressParts) (datagram : List ℕ) (offer : Offer) (before : Past) (now : ℕ) (a : Admissible setup before now from datagram offer)
-    (same : facts_of past ≡ facts_of before) (same_ids : ids_in_use past ≡ ids_in_use before) (at : s.moment ≡ now) (other : offer.peer ≢ own_of setup) where
+module _ (setup : Setup) (past : Past) (s : State) (tied : Tied setup past s) (from : AddressParts) (datagram : List ℕ) (offer : Offer) (before : Past) (now : ℕ) (a : Admissible (own_secrets setup) setup before now from datagram offer)
+    (same : facts_of past ≡ facts_of before) (same_ids : ids_in_use past ≡ ids_in_use before) (at : s.moment ≡ now) (other : offer.peer ≢ own_of setup) (group : GroupSecret) (one : group ≡ first_group setup) where
   abbrev l : Ledger
   l = s.startup.ledger
 
@@ -338,24 +341,24 @@ module _ (setup : Setup) (past : Past) (s : State) (tied : Tied setup past s) (f
         (where_false (is_own s.startup read.cert) OwnCertificate not_own, (ap (heard_cause (full s)) refusal, tt)),
       )
 
-  cause : initiator_cause s.startup a.chunk.payload from s.moment (full s) read ≡ None
+  cause : initiator_cause s.startup a.chunk.payload from s.moment (full s) group read ≡ None
   cause = none_all (
-      where_true (not (is_signed s.startup.secret a.chunk.payload read.sign)) BadSignature
+      where_true (not (is_signed group.secret a.chunk.payload read.sign)) BadSignature
       ∷ where_true (nat_lt 128 (length read.cookie)) (Wide (length read.cookie))
       ∷ cookie_cause (cookie_test s.startup.cookie_secret read.cookie from s.moment) (named_cause s.startup read (full s))
       ∷ []) (
-        where_false (not (is_signed s.startup.secret a.chunk.payload read.sign)) BadSignature
-            (ap not (signed_again s.startup.secret a.chunk.payload a.sign (subst (λ secret. IsSigned secret a.chunk.payload a.sign) (sym tied.secret) a.signed))),
+        where_false (not (is_signed group.secret a.chunk.payload read.sign)) BadSignature
+            (ap not (signed_again group.secret a.chunk.payload a.sign (subst (λ (x : GroupSecret). IsSigned x.secret a.chunk.payload a.sign) (sym one) (signed_own setup (StartupContext setup.generation) refl 0 datagram a.reads.plain a.reads.opens a.chunk.payload a.sign a.signed)))),
         (
           where_false (nat_lt 128 (length read.cookie)) (Wide (length read.cookie)) (narrow_is_false (length a.cookie) a.narrow),
           (ap (λ test. cookie_cause test (named_cause s.startup read (full s))) current ∙ named, tt),
         ),
       )
 
-  pub is_bearing : IsBearing s from a.chunk.payload read
+  pub is_bearing : IsBearing s group from a.chunk.payload read
   is_bearing = record {
     reads = reads;
-    cause = ap (cause_by (initiator_cause s.startup a.chunk.payload from s.moment (full s))) reads ∙ cause;
+    cause = ap (cause_by (initiator_cause s.startup a.chunk.payload from s.moment (full s) group)) reads ∙ cause;
     current = current;
     again = new.0;
     repeated = new.1;

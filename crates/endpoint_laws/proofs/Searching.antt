@@ -1,15 +1,14 @@
 -- Searches begin, are over, and are answered: what is stated is lawful, and the state agrees with it.
-use Rattle.std.proofs.Common.{◌≡◌, ℕ, ◌+◌, ◌-◌, ◌<◌, ◌≤◌, ◌^◌, List, [], ◌∷◌, length, drop, Bool, true, false, not, if◌then◌else◌, ◌||◌, Option, Some, None, is_some, Result, Ok, inl, inr, refl, sym, ap, subst, ◌∙◌, arith}
+use Rattle.std.proofs.Common.{◌≡◌, ℕ, ◌+◌, ◌-◌, ◌<◌, ◌≤◌, ◌^◌, List, [], ◌∷◌, length, drop, Bool, true, false, not, if◌then◌else◌, ◌||◌, Option, Some, None, is_some, Ok, inl, inr, refl, sym, ap, subst, ◌∙◌, arith}
 use Rattle.std.specs.Prelude.{◌==◌}
 use Rattle.std.specs.Str.{bytes_eq}
-use Rattle.std.specs.FinMap.{get, insert, len, remove}
+use Rattle.std.specs.FinMap.{get, len, remove}
 use Rattle.std.proofs.lemmas.Slice.Eq.{bytes_eq-Decides}
 use Rattle.sha2.specs.Sha256.{sha256}
 use Rattle.rtmfp_forms.specs.Address.{AddressParts}
 use Rattle.rtmfp_base.proofs.Lowest.{first_is_there}
 use Rattle.rtmfp_base.proofs.Maps.{get_inserted, get_beside, get_removed, get_left, len_new, len_known, len_less}
 use Rattle.rtmfp_base.specs.Reasons.{where_true, first_that_stands}
-use Rattle.rtmfp_base.specs.declared.cause.Cause.{Cause}
 use Rattle.rtmfp_base.specs.declared.cause.Cause.TheVariants.{WrongPeer, OwnCertificate, AttemptsSpent as NoNumber, PeersFull as NoRow}
 use Rattle.rtmfp_chunks.specs.Chunk.{RHello, Spells}
 use Rattle.rtmfp_chunks.specs.FieldReading.{chunk_reading}
@@ -22,7 +21,6 @@ use Rattle.glare_core.specs.declared.facts.Fact.{Fact}
 use Rattle.glare_core.specs.declared.facts.Held.{Held}
 use Rattle.glare_core.specs.declared.facts.Held.TheVariants.{Opening}
 use Rattle.glare_core.specs.declared.answers.StartRefusal.TheVariants.{OwnPrint, AttemptsSpent, PeersFull}
-use Rattle.glare_core.specs.Standing.{count}
 use Rattle.glare_core.specs.Things.{near_of}
 use Rattle.glare_core.specs.Ledger.{Ledger, held_with, row_count, noted}
 use Rattle.glare_core.specs.Calls.{start_held, start_refusal, started_fact, peers_full}
@@ -32,35 +30,39 @@ use Rattle.startup.specs.declared.aim.Aim.{Aim}
 use Rattle.startup.specs.declared.aim.Aim.TheVariants.{AtPeer, ByName}
 use Rattle.startup.specs.declared.attempt.Stage.{Stage}
 use Rattle.startup.specs.declared.attempt.Stage.TheVariants.{Hello, Keying}
-use Rattle.startup.specs.State.{AttemptState, FitsStage, StartupState}
+use Rattle.startup.specs.State.{AttemptState, FitsStage}
 use Rattle.startup.specs.Due.{is_over}
 use Rattle.startup.specs.Aims.{is_search}
-use Rattle.startup.specs.Attempts.{lowest, has_tag, with_ledger, with_attempt, begun_search, after_seek, seek_spread, is_search_in, has_search, after_unseek, is_own, held_cause, spent_cause, search_cause, aim_cause, hello_cause, hello_cause_at, answered, met, answer_fact_as, answer_fact, after_answer_as, after_answer, without_attempt_by}
+use Rattle.startup.specs.Attempts.{lowest, has_tag, with_ledger, with_attempt, begun_search, after_seek, seek_spread, is_search_in, has_search, is_own, held_cause, spent_cause, search_cause, hello_cause, hello_cause_at, answered, met, answer_fact_as, answer_fact, after_answer_as, after_answer}
 use Rattle.endpoint_model.specs.declared.row.Row.{Row}
 use Rattle.endpoint_model.specs.declared.config.Draws.{Draws}
 use Rattle.endpoint_model.specs.declared.entry.Entry.TheVariants.{Fact as FactEntry, Sought, Unsought}
 use Rattle.session_flows.specs.declared.refusal.CallRefusal.TheVariants.{NoAttempt}
 use Rattle.endpoint_model.specs.Event.{Setup, own_of, Call, Seek, Unseek, Receive}
-use Rattle.endpoint_model.specs.State.{State, Did, uses, is_used, full, free_from, fact_entries, with_startup}
+use Rattle.endpoint_model.specs.State.{State, Did, is_used, full, free_from, fact_entries, with_startup}
 use Rattle.endpoint_model.specs.Keying.{IsAmong, chunks_of}
 use Rattle.endpoint_model.specs.Sending.{sent_spread}
 use Rattle.endpoint_model.specs.Effects.{places_refusal, no_place, seek_refusal, seeking, unseek_refusal, unseeking}
 use Rattle.endpoint_model.proofs.Members.{tested}
-use Rattle.endpoint_laws.specs.Past.{Past, Search, DrawsFor, IsSearch, seek_of, last_call, stamped, onto, facts_of, ids_in_use}
+use Rattle.endpoint_laws.specs.Past.{Past, DrawsFor, IsSearch, seek_of, last_call, stamped, onto, facts_of, ids_in_use}
 use Rattle.endpoint_laws.specs.Lawful.{AnswersSearch, IsTick}
 use Rattle.endpoint_laws.proofs.Matching.{of_peer, ids_more, ids_less, ids_renewed}
 use Rattle.endpoint_laws.proofs.Tied.{Tied, WasStartedAs, IsClosedThing, search_of}
-use Rattle.endpoint_laws.proofs.Agrees.{IsAt, IsGiven, GoesOnBeside, combined, found_as, found_of_attempt, thing_at, thing_here, thing_elsewhere, used_here, used_elsewhere, agrees_changed, agrees_of, tied_of}
+use Rattle.endpoint_laws.proofs.Agrees.{IsAt, GoesOnBeside, combined, found_as, found_of_attempt, thing_at, thing_here, thing_elsewhere, used_here, used_elsewhere, agrees_changed, agrees_of, tied_of}
 use Rattle.endpoint_laws.proofs.Moving.{beside_fact, none_sought, none_there_still, noted_matches, same_matches, tied_attempt}
 use Rattle.endpoint_laws.proofs.Facts.{all_none, test_fails, stands_of}
 use Rattle.endpoint_laws.proofs.Starting.{IsNew, new_id, is_free_of, room_left, row_left, rows_after_either, few_more}
 use Rattle.endpoint_laws.proofs.Ending.{some_entry, used_before, less_one, over_is}
 use Rattle.endpoint_laws.proofs.ByKind.{not_false}
 use Rattle.endpoint_laws.proofs.Made.{spread_made}
-use Rattle.endpoint_laws.proofs.Going.{Goes, Keeps, goes_then, goes_sends}
+use Rattle.endpoint_laws.proofs.Going.{Goes, goes_then, goes_sends}
 use Rattle.endpoint_laws.proofs.Spelled.{hello_kind, hello_spelled}
 use Rattle.endpoint_laws.proofs.Bearing.{good_certificate}
 use Rattle.endpoint_laws.proofs.Admitting.{IsRead}
+use Rattle.endpoint_laws.proofs.Kin.{kin_begin, kin_without, kin_answered}
+use Rattle.endpoint_model.specs.declared.place.Place.{Place}
+use Rattle.endpoint_model.specs.Admission.{group_at}
+use Rattle.endpoint_laws.proofs.Knowing.{own_secrets}
 
 -- ---- what goes on beside a search that begins, or is over
 
@@ -111,7 +113,7 @@ module _ (setup : Setup) (past : Past) (s : State) (tied : Tied setup past s) (n
       let draw : DrawsFor (search_of name begun_as) (seek_of (last_call past)) = subst (λ (c : Option Call). DrawsFor (search_of name begun_as) (seek_of c)) (sym last) (refl, refl) in
       tied_of setup sought_past sought_state
       (agrees_changed setup past sought_past s sought_state near (Some begun_as) None a
-      (record { config = a.given.config; cert = a.given.cert; secret = a.given.secret; cookie_secret = a.given.cookie_secret; own = a.given.own; max_peers = a.given.max_peers }) at
+      (record { config = a.given.config; cert = a.given.cert; one = (kin_begin s s.startup.ledger near begun_as refl refl).one setup a.given.one; cookie_secret = a.given.cookie_secret; own = a.given.own; max_peers = a.given.max_peers }) at
       (same_matches (thing_at s) (thing_at sought_state) (held_with s.startup.ledger) all a.matches)
       ((inl ((refl, refl, draw), refl), size, small), tt) (beside_sought near s.moment name past)
       (λ thing m c. elim c [ inl b ↦ absurd b.0 | inr p ↦ subst (λ (o : Option Row). IsClosedThing o thing) new.session (a.closing near thing m p.1) ])
@@ -172,7 +174,7 @@ module _ (setup : Setup) (past : Past) (s : State) (tied : Tied setup past s) (n
       ] in
       tied_of setup now unsought_state
       (agrees_changed setup past now s unsought_state near None None g
-      (record { config = g.given.config; cert = g.given.cert; secret = g.given.secret; cookie_secret = g.given.cookie_secret; own = g.given.own; max_peers = g.given.max_peers }) at
+      (record { config = g.given.config; cert = g.given.cert; one = (kin_without s near None).one setup g.given.one; cookie_secret = g.given.cookie_secret; own = g.given.own; max_peers = g.given.max_peers }) at
       (same_matches (thing_at s) (thing_at unsought_state) (held_with s.startup.ledger) all g.matches)
       tt (beside_unsought near s.moment why past)
       (λ thing m c. elim c [ inl b ↦ absurd b.0 | inr p ↦ subst (λ (o : Option Row). IsClosedThing o thing) (tied.apart near a there) (g.closing near thing m p.1) ])
@@ -265,12 +267,12 @@ met_if setup past s tied name cert none =
       may = record { start = starts_if l peer (ap (bytes_eq peer) tied.sound.own ∙ own.1) unheld unspent row; unheld = unheld; row = row; unspent = unspent };
     }
 
-module _ (setup : Setup) (past : Past) (s : State) (tied : Tied setup past s) (near : ℕ) (a : AttemptState) (name : List ℕ) (aims : a.aim ≡ ByName name) (there : get s.startup.attempts near ≡ Some a) (peer : List ℕ) (from : AddressParts) (cookie : List ℕ) where
+module _ (setup : Setup) (past : Past) (s : State) (tied : Tied setup past s) (near : ℕ) (a : AttemptState) (name : List ℕ) (aims : a.aim ≡ ByName name) (there : get s.startup.attempts near ≡ Some a) (peer : List ℕ) (place : Place) (from : AddressParts) (cookie : List ℕ) where
   abbrev met_fact : Fact
   met_fact = started_fact s.startup.ledger peer near a.ni
 
   abbrev met_as : AttemptState
-  met_as = met a peer (s.startup.ledger.started + 1) from cookie s.moment
+  met_as = met a peer (s.startup.ledger.started + 1) from cookie s.moment (group_at s place)
 
   abbrev met_state : State
   met_state = with_startup s (with_attempt (with_ledger s.startup (noted s.startup.ledger met_fact)) near met_as)
@@ -294,7 +296,7 @@ module _ (setup : Setup) (past : Past) (s : State) (tied : Tied setup past s) (n
       ] in
       tied_of setup met_past met_state
       (agrees_changed setup past met_past s met_state near (Some met_as) None g
-      (record { config = g.given.config; cert = g.given.cert; secret = g.given.secret; cookie_secret = g.given.cookie_secret; own = g.given.own; max_peers = g.given.max_peers }) at
+      (record { config = g.given.config; cert = g.given.cert; one = (kin_answered s place (noted s.startup.ledger met_fact) near met_as from cookie refl refl).one setup g.given.one; cookie_secret = g.given.cookie_secret; own = g.given.own; max_peers = g.given.max_peers }) at
       (noted_matches s met_state met_fact near (Some met_as) None g.matches at refl (nothing_there setup past s tied near a name aims there ∙ sym (ap (of_peer peer) may.unheld)) refl
       (λ h e. let same : Opening (s.startup.ledger.started + 1) near a.ni ≡ h = cc in sym (ap near_of same)))
       (inl refl, tt) (beside_fact near s.moment past met_fact refl) (none_there_still past near (get s.sessions near) (g.closing near) (tied.apart near a there) s.moment met_fact tt None)
@@ -307,26 +309,27 @@ module _ (setup : Setup) (past : Past) (s : State) (tied : Tied setup past s) (n
 -- ---- a responder's hello, whether it answers an attempt or a search
 
 -- what it states and leaves
-abbrev pub hello_first : State → List ℕ → Option (ℕ × AttemptState) → AddressParts → List ℕ → Did
-hello_first s print o from cookie = record { state = with_startup s (after_answer s.startup print o from cookie s.moment); entries = fact_entries (answer_fact s.startup print o) }
+abbrev pub hello_first : State → Place → List ℕ → Option (ℕ × AttemptState) → AddressParts → List ℕ → Did
+hello_first s place print o from cookie = record { state = with_startup s (after_answer s.startup print o from cookie s.moment (group_at s place)); entries = fact_entries (answer_fact s.startup print o) }
 
-module _ (setup : Setup) (past : Past) (s : State) (tied : Tied setup past s) (from : AddressParts) (cookie cert : List ℕ) where
+module _ (setup : Setup) (past : Past) (s : State) (tied : Tied setup past s) (place : Place) (from : AddressParts) (cookie cert : List ℕ) where
   abbrev TiedAfter : Did → Type 0
   TiedAfter d = Tied setup (onto s.moment d.entries past) d.state
 
   answered_tied : (e : ℕ × AttemptState) → get s.startup.attempts e.0 ≡ Some e.1 → (stage : Stage) (aim : Aim) → e.1.aim ≡ aim → hello_cause s.startup stage aim cert ≡ None →
-      TiedAfter (record { state = with_startup s (after_answer_as s.startup (sha256 cert) e from cookie s.moment aim); entries = fact_entries (answer_fact_as s.startup (sha256 cert) e.0 e.1.ni aim) })
+      TiedAfter (record { state = with_startup s (after_answer_as s.startup (sha256 cert) e from cookie s.moment (group_at s place) aim); entries = fact_entries (answer_fact_as s.startup (sha256 cert) e.0 e.1.ni aim) })
   answered_tied e there stage (AtPeer peer n) aims none =
-      tied_attempt setup past s e.0 e.1 (answered e.1 from cookie s.moment) tied there refl (λ w. w) (subst (λ (aim : Aim). FitsStage aim (Keying from cookie)) (sym aims) tt) (λ which at kept. kept)
-  answered_tied e there Hello (ByName name) aims none = met_tied setup past s tied e.0 e.1 name aims there (sha256 cert) from cookie (met_if setup past s tied name cert none).may
-  answered_tied e there (Keying at old) (ByName name) aims none = absurd (cc)
+      tied_attempt setup past s e.0 e.1 (answered e.1 from cookie s.moment (group_at s place)) tied there refl (λ w. w) (subst (λ (aim : Aim). FitsStage aim (Keying from cookie (group_at s place))) (sym aims) tt) (λ which at kept. kept)
+      (kin_answered s place s.startup.ledger e.0 (answered e.1 from cookie s.moment (group_at s place)) from cookie refl refl)
+  answered_tied e there Hello (ByName name) aims none = met_tied setup past s tied e.0 e.1 name aims there (sha256 cert) place from cookie (met_if setup past s tied name cert none).may
+  answered_tied e there (Keying at old under) (ByName name) aims none = absurd (cc)
 
-  pub hello_tied : (tag : List ℕ) (o : Option (ℕ × AttemptState)) → lowest (has_tag tag) s.startup.attempts ≡ o → hello_cause_at s.startup o cert ≡ None → TiedAfter (hello_first s (sha256 cert) o from cookie)
+  pub hello_tied : (tag : List ℕ) (o : Option (ℕ × AttemptState)) → lowest (has_tag tag) s.startup.attempts ≡ o → hello_cause_at s.startup o cert ≡ None → TiedAfter (hello_first s place (sha256 cert) o from cookie)
   hello_tied tag None is none = tied
   hello_tied tag (Some e) is none = answered_tied e (first_is_there (has_tag tag) s.startup.attempts e is).0 e.1.stage e.1.aim refl none
 
 -- of a datagram that opens in the startup context
-module _ (setup : Setup) (from : AddressParts) (datagram : List ℕ) (draws : Draws) (packet : Whole) (c : Placed) (read : IsRead setup.secret 0 datagram packet) (among : IsAmong c (chunks_of packet)) (past : Past) (s : State) (tied : Tied setup past s)
+module _ (setup : Setup) (from : AddressParts) (datagram : List ℕ) (draws : Draws) (packet : Whole) (c : Placed) (read : IsRead setup 0 datagram packet) (among : IsAmong c (chunks_of packet)) (past : Past) (s : State) (tied : Tied setup past s) (place : Place)
     (tag cookie cert : List ℕ) (is : chunk_reading c.kind c.payload ≡ Ok (RHello tag cookie cert)) (good : is_some (certificate_fault cert) ≡ false) where
   abbrev call : Call
   call = Receive from datagram draws
@@ -337,7 +340,7 @@ module _ (setup : Setup) (from : AddressParts) (datagram : List ℕ) (draws : Dr
       subst (λ (k : ℕ). Spells (RHello tag cookie cert) k c.payload) (sym kind) (hello_spelled c.payload (RHello tag cookie cert) (read.bytes c among) (sym (ap (λ (k : ℕ). chunk_reading k c.payload) kind) ∙ is))
 
   answers : (near : ℕ) (a : AttemptState) (name : List ℕ) → a.aim ≡ ByName name → get s.startup.attempts near ≡ Some a → bytes_eq a.tag tag ≡ true → IsMet s name cert →
-      AnswersSearch setup.secret past datagram (sha256 cert) (s.startup.ledger.started + 1) near a.ni
+      AnswersSearch (own_secrets setup) setup.generation past datagram (sha256 cert) (s.startup.ledger.started + 1) near a.ni
   answers near a name aims there tagged m =
       let kept = kept_as setup past s tied near a name aims there in
       let same : a.tag ≡ tag = (bytes_eq-Decides a.tag tag).0 tagged in
@@ -361,11 +364,11 @@ module _ (setup : Setup) (from : AddressParts) (datagram : List ℕ) (draws : Dr
       }
 
   met_goes : (e : ℕ × AttemptState) → get s.startup.attempts e.0 ≡ Some e.1 → bytes_eq e.1.tag tag ≡ true → (stage : Stage) (aim : Aim) → e.1.aim ≡ aim → hello_cause s.startup stage aim cert ≡ None →
-      Goes setup call past s (record { state = with_startup s (after_answer_as s.startup (sha256 cert) e from cookie s.moment aim); entries = fact_entries (answer_fact_as s.startup (sha256 cert) e.0 e.1.ni aim) })
-  met_goes e there tagged stage (AtPeer peer n) aims none = record { meets = tt; tied = answered_tied setup past s tied from cookie cert e there stage (AtPeer peer n) aims none; moment = refl }
+      Goes setup call past s (record { state = with_startup s (after_answer_as s.startup (sha256 cert) e from cookie s.moment (group_at s place) aim); entries = fact_entries (answer_fact_as s.startup (sha256 cert) e.0 e.1.ni aim) })
+  met_goes e there tagged stage (AtPeer peer n) aims none = record { meets = tt; tied = answered_tied setup past s tied place from cookie cert e there stage (AtPeer peer n) aims none; moment = refl }
   met_goes e there tagged Hello (ByName name) aims none =
       let m = met_if setup past s tied name cert none in
-      let after = met_tied setup past s tied e.0 e.1 name aims there (sha256 cert) from cookie m.may in
+      let after = met_tied setup past s tied e.0 e.1 name aims there (sha256 cert) place from cookie m.may in
       record {
         meets = (
           (
@@ -380,9 +383,9 @@ module _ (setup : Setup) (from : AddressParts) (datagram : List ℕ) (draws : Dr
         tied = after;
         moment = refl;
       }
-  met_goes e there tagged (Keying at old) (ByName name) aims none = absurd (cc)
+  met_goes e there tagged (Keying at old under) (ByName name) aims none = absurd (cc)
 
-  pub hello_goes : (o : Option (ℕ × AttemptState)) → lowest (has_tag tag) s.startup.attempts ≡ o → hello_cause_at s.startup o cert ≡ None → Goes setup call past s (hello_first s (sha256 cert) o from cookie)
+  pub hello_goes : (o : Option (ℕ × AttemptState)) → lowest (has_tag tag) s.startup.attempts ≡ o → hello_cause_at s.startup o cert ≡ None → Goes setup call past s (hello_first s place (sha256 cert) o from cookie)
   hello_goes None at none = record { meets = tt; tied = tied; moment = refl }
   hello_goes (Some e) at none =
       let found = first_is_there (has_tag tag) s.startup.attempts e at in

@@ -52,49 +52,50 @@ use Rattle.endpoint_laws.proofs.Going.{Goes, Keeps, goes_nothing, goes_then, kee
 use Rattle.endpoint_laws.proofs.Hearing.{lasting, first_fact, IsKnown}
 use Rattle.endpoint_laws.proofs.Passing.{Passed, PassedIn}
 use Rattle.endpoint_laws.proofs.InSessions.{IsLeft, was_itself, held_facts, id, goes_ended, goes_dropped, goes_closed, goes_changed, goes_moved, goes_and_home}
+use Rattle.endpoint_laws.proofs.Knowing.{own_secrets, own_known}
 
 -- ---- a session as the thing that it is or was
 
-pub was_inward : (own : List ℕ) (role : Role) (j : Joined) (thing : Held) → WasThing role j thing → context_between 0 j own role false ≡ inward own thing
-was_inward own Initiator j thing w = ap (inward own) (sym w)
-was_inward own Responder j thing (inl w) = ap (inward own) (sym w)
-was_inward own Responder j thing (inr w) = ap (inward own) (sym w)
+pub was_inward : (setup : Setup) (role : Role) (j : Joined) (thing : Held) → WasThing role j thing → context_between setup.generation j (own_of setup) role false ≡ inward setup thing
+was_inward setup Initiator j thing w = ap (inward setup) (sym w)
+was_inward setup Responder j thing (inl w) = ap (inward setup) (sym w)
+was_inward setup Responder j thing (inr w) = ap (inward setup) (sym w)
 
 was_mode : (role : Role) (j : Joined) (thing : Held) → WasThing role j thing → peers_mode role ≡ inward_mode thing
 was_mode Initiator j thing w = ap inward_mode (sym w)
 was_mode Responder j thing (inl w) = ap inward_mode (sym w)
 was_mode Responder j thing (inr w) = ap inward_mode (sym w)
 
-module _ (setup : Setup) (session : SessionState) (thing : Held) (own : session.own ≡ own_of setup) (generation : session.generation ≡ 0) (was : WasThing session.role session.joined thing) where
-  context : context_between session.generation session.joined session.own session.role false ≡ inward (own_of setup) thing
-  context = ap (λ (g : ℕ). context_between g session.joined session.own session.role false) generation ∙ ap (λ (o : List ℕ). context_between 0 session.joined o session.role false) own ∙ was_inward (own_of setup) session.role session.joined thing was
+module _ (setup : Setup) (session : SessionState) (thing : Held) (own : session.own ≡ own_of setup) (generation : session.generation ≡ setup.generation) (was : WasThing session.role session.joined thing) where
+  context : context_between session.generation session.joined session.own session.role false ≡ inward setup thing
+  context = ap (λ (g : ℕ). context_between g session.joined session.own session.role false) generation ∙ ap (λ (o : List ℕ). context_between setup.generation session.joined o session.role false) own ∙ was_inward setup session.role session.joined thing was
 
   mode : peers_mode session.role ≡ inward_mode thing
   mode = was_mode session.role session.joined thing was
 
   -- what passes in the session, passes in it as this thing
   as_thing : (near : ℕ) (before : List Taken) (datagram : List ℕ) →
-      PassesIn setup.secret (context_between session.generation session.joined session.own session.role false) (peers_mode session.role) near before datagram → Passes setup thing near before datagram
+      PassesIn (own_secrets setup) (context_between session.generation session.joined session.own session.role false) (peers_mode session.role) near before datagram → Passes (own_secrets setup) setup thing near before datagram
   as_thing near before datagram p = record {
     packet = p.packet;
-    reads = subst (λ (c : Context). ReadsUnder setup.secret c near datagram p.packet) context p.reads;
-    number = subst (λ (c : Context). IsNewAfter setup.secret c near (count_in datagram) before) context p.number;
+    reads = subst (λ (c : Context). ReadsUnder (own_secrets setup) c near datagram p.packet) context p.reads;
+    number = subst (λ (c : Context). IsNewAfter (own_secrets setup) c near (count_in datagram) before) context p.number;
     mode_is = p.mode_is ∙ mode;
   }
 
   -- and what it took as this thing it took
   took_as : (near moment : ℕ) (taken : List Taken) →
-      TookIn setup.secret (context_between session.generation session.joined session.own session.role false) (peers_mode session.role) near moment taken ≡ TookAt setup thing near moment taken
+      TookIn (own_secrets setup) (context_between session.generation session.joined session.own session.role false) (peers_mode session.role) near moment taken ≡ TookAt (own_secrets setup) setup thing near moment taken
   took_as near moment taken =
-      ap (λ (c : Context). TookIn setup.secret c (peers_mode session.role) near moment taken) context
-      ∙ ap (λ (m : Mode). TookIn setup.secret (inward (own_of setup) thing) m near moment taken) mode
+      ap (λ (c : Context). TookIn (own_secrets setup) c (peers_mode session.role) near moment taken) context
+      ∙ ap (λ (m : Mode). TookIn (own_secrets setup) (inward setup thing) m near moment taken) mode
 
 -- the session of a row takes a chunk of the call's datagram
 takes_chunk : (setup : Setup) (past : Past) (from : AddressParts) (datagram : List ℕ) (draws : Draws) (packet : Whole) (session : SessionState) (near : ℕ) (thing : Held) → session.own ≡ own_of setup → IsKeyed setup.secret session →
-    session.generation ≡ 0 → WasThing session.role session.joined thing → Passed past near datagram packet (lasting session) → (c : Placed) → IsAmong c (chunks_of packet) → (chunk : Chunk) → Spells chunk c.kind c.payload →
-    TakesChunkOf setup past thing near (record { from = from; datagram = datagram; draws = draws }) chunk
+    session.generation ≡ setup.generation → WasThing session.role session.joined thing → Passed past near datagram packet (lasting session) → (c : Placed) → IsAmong c (chunks_of packet) → (chunk : Chunk) → Spells chunk c.kind c.payload →
+    TakesChunkOf (own_secrets setup) setup past thing near (record { from = from; datagram = datagram; draws = draws }) chunk
 unfolding as_thing
-takes_chunk setup past from datagram draws packet session near thing own keyed generation was passed c among chunk spells = let p = passed setup.secret keyed.towards in record {
+takes_chunk setup past from datagram draws packet session near thing own keyed generation was passed c among chunk spells = let p = passed (own_secrets setup) (setup.secret, ap (get (own_secrets setup)) generation ∙ own_known setup, keyed.towards) in record {
   moment = p.moment;
   before = p.before;
   last = p.last;
@@ -201,14 +202,14 @@ module _ (setup : Setup) (from : AddressParts) (datagram : List ℕ) (draws : Dr
   closes row there kind true held =
       let is = tied.sessions near row there in
       let thing : Held = thing_of row.session.role row.session.stage row.session.joined in
-      let line : FarLine setup call past row.session.joined.peer near = record {
+      let line : FarLine (own_secrets setup) setup call past row.session.joined.peer near = record {
         thing = thing;
         is_held = held_facts setup call past s tied near row there held Far;
         by = takes_chunk setup past from datagram draws packet row.session near thing is.own is.keyed is.generation (was_itself row.session.role row.session.stage row.session.joined) (passed row there) c among CloseChunk (kind, tt);
       } in
       subst (λ d. Goes setup call past s d) (sym (if_true (is_held row.session.stage) _ (nothing (with_session s near row (asked_to_close s.moment row.session))) held))
       (goes_ended setup call past s tied near row there held Far (asked_to_close s.moment row.session) refl (may_close row.session.role row.session.stage row.session.joined) (far_left s.moment row.session is.stage held)
-      (subst (λ k. FarLine setup call past row.session.joined.peer k) (sym (id setup call past s tied near row there held Far)) line))
+      (subst (λ k. FarLine (own_secrets setup) setup call past row.session.joined.peer k) (sym (id setup call past s tied near row there held Far)) line))
   closes row there kind false held =
       subst (λ d. Goes setup call past s d) (sym (if_false (is_held row.session.stage) _ (nothing (with_session s near row (asked_to_close s.moment row.session))) held))
       (goes_changed setup call s near row (record row { session = asked_to_close s.moment row.session }) there (far_alike s.moment row.session (tied.sessions near row there).stage held) past tied)
@@ -389,7 +390,7 @@ module _ (setup : Setup) (call : Call) (is_tick : IsTick call) (past : Past) (s 
       let held_now : is_held session.stage ≡ true = open_held session.stage both.0 in
       let is = tied.sessions near row there in
       let late : session.taken + 120000 ≤ s.moment = past_is 119999 session.taken s.moment both.1 in
-      let line : IsIdle setup s.moment past session.joined.peer near = record {
+      let line : IsIdle (own_secrets setup) setup s.moment past session.joined.peer near = record {
         thing = thing;
         is_held = held_facts setup call past s tied near row there held_now WasIdle;
         first = known.began.first;
@@ -398,11 +399,11 @@ module _ (setup : Setup) (call : Call) (is_tick : IsTick call) (past : Past) (s 
         began = known.began.done;
         old = omega (arith, late, known.began.early);
         quiet = λ moment took.
-            let by_then : moment ≤ session.taken = (known.counts setup.secret is.keyed.towards).times moment (subst (λ (t : Type 0). t) (sym (took_as setup session thing is.own is.generation was near moment (taken_since near past))) took) in
+            let by_then : moment ≤ session.taken = (known.counts (own_secrets setup) (setup.secret, ap (get (own_secrets setup)) is.generation ∙ own_known setup, is.keyed.towards)).times moment (subst (λ (t : Type 0). t) (sym (took_as setup session thing is.own is.generation was near moment (taken_since near past))) took) in
             omega (arith, late, by_then);
       } in
       goes_dropped setup call past s tied near row there held_now WasIdle refl (is_kept session.role session.stage session.joined both.0)
-      (subst (λ k. IsTick call × IsIdle setup s.moment past session.joined.peer k) (sym (id setup call past s tied near row there held_now WasIdle)) (is_tick, line))
+      (subst (λ k. IsTick call × IsIdle (own_secrets setup) setup s.moment past session.joined.peer k) (sym (id setup call past s tied near row there held_now WasIdle)) (is_tick, line))
 
   over : DueOf session s.moment Over → Goes setup call past s (session_due_done s near row Over)
   over due =

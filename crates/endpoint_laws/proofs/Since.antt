@@ -12,6 +12,7 @@ use Rattle.endpoint_model.specs.declared.entry.Entry.{Entry}
 use Rattle.endpoint_model.specs.Event.{Setup, Call, Receive, ReceiveCall, receive_in}
 use Rattle.endpoint_laws.specs.Past.{Past, facts_of}
 use Rattle.endpoint_laws.specs.Lawful.{FactLine}
+use Rattle.endpoint_laws.specs.Contexts.{Secrets}
 
 -- An attempt was held at the start, or a search became it by this datagram, which then goes under session ID 0; and a half-open session was held at the start, or it was born of this datagram.
 abbrev pub Comes : ℕ → List Fact → List ℕ → Option Held → Type 0
@@ -73,20 +74,20 @@ came_at_first (Some r) start = λ peer. comes_first (sid_of r.datagram) start pe
 pub came_first : (call : Call) (start : List Fact) → CameSince call start start
 came_first call start = came_at_first (receive_in call) start
 
-brings : (setup : Setup) (now : ℕ) (past : Past) (rest : List Entry) (r : ReceiveCall) (f : Fact) → FactLine setup now (Receive r.from r.datagram r.draws) past rest f → FactComes (sid_of r.datagram) f
-brings setup now past rest r (Started p n near ni) (inl by_open) = absurd by_open.0
-brings setup now past rest r (Started p n near ni) (inr hello) = hello.reads.opens.id
-brings setup now past rest r (Born j) l = (l.by.0.reads.opens.id, l.id.some)
-brings setup now past rest r (Opened j) l = tt
-brings setup now past rest r (Confirmed p near) l = tt
-brings setup now past rest r (Ended p near why) l = tt
+brings : (secrets : Secrets) (setup : Setup) (now : ℕ) (past : Past) (rest : List Entry) (r : ReceiveCall) (f : Fact) → FactLine secrets setup now (Receive r.from r.datagram r.draws) past rest f → FactComes (sid_of r.datagram) f
+brings secrets setup now past rest r (Started p n near ni) (inl by_open) = absurd by_open.0
+brings secrets setup now past rest r (Started p n near ni) (inr hello) = hello.reads.opens.id
+brings secrets setup now past rest r (Born j) l = (l.by.0.reads.opens.id, l.id.some)
+brings secrets setup now past rest r (Opened j) l = tt
+brings secrets setup now past rest r (Confirmed p near) l = tt
+brings secrets setup now past rest r (Ended p near why) l = tt
 
-pub came_more : (setup : Setup) (now : ℕ) (call : Call) (start : List Fact) (past : Past) (rest : List Entry) (fact : Fact) → FactLine setup now call past rest fact →
+pub came_more : (secrets : Secrets) (setup : Setup) (now : ℕ) (call : Call) (start : List Fact) (past : Past) (rest : List Entry) (fact : Fact) → FactLine secrets setup now call past rest fact →
     CameSince call start (facts_of past) → CameSince call start (fact ∷ facts_of past)
-came_more setup now call start past rest fact line came = in_receive (receive_in call) refl came
+came_more secrets setup now call start past rest fact line came = in_receive (receive_in call) refl came
   where
     in_receive : (o : Option ReceiveCall) → receive_in call ≡ o → CameIn o start (facts_of past) → CameIn o start (fact ∷ facts_of past)
     in_receive None e since = tt
     in_receive (Some r) e since = λ peer.
         comes_did (sid_of r.datagram) start peer fact (facts_of past)
-        (brings setup now past rest r fact (subst (λ (c : Call). FactLine setup now c past rest fact) (receives_alone call r e) line)) (since peer)
+        (brings secrets setup now past rest r fact (subst (λ (c : Call). FactLine secrets setup now c past rest fact) (receives_alone call r e) line)) (since peer)

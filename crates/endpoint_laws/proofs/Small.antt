@@ -6,7 +6,9 @@ use Rattle.rtmfp_chunks.specs.Chunk.{Ping, Close as CloseChunk, CloseAck}
 use Rattle.rtmfp_chunks.specs.Writing.{chunk_bytes}
 use Rattle.rtmfp_data_chunks.specs.Chunk.{DataChunk}
 use Rattle.rtmfp_data_chunks.specs.Fitting.{FitsIn}
+use Rattle.crypto_profile.specs.declared.group.GroupSecret.{GroupSecret}
 use Rattle.crypto_profile.specs.declared.keys.Context.TheVariants.{Startup as StartupContext}
+use Rattle.crypto_profile.specs.Keys.{Keys}
 use Rattle.glare_core.specs.declared.facts.Fact.{Fact}
 use Rattle.glare_core.specs.declared.facts.Fact.TheVariants.{Started, Born, Opened, Confirmed, Ended}
 use Rattle.glare_core.specs.declared.facts.Held.{Held}
@@ -32,6 +34,8 @@ use Rattle.endpoint_model.specs.FlowCall.{FlowCall, flow_refusal, flow_did}
 use Rattle.endpoint_model.specs.OnFlows.{flow_entry, flows_done}
 use Rattle.endpoint_model.specs.FlowChunks.{flow_taken_by, acked_by, unowed_by}
 use Rattle.endpoint_model.specs.FlowTimes.{late_marked, late_at, data_packed, data_sent}
+use Rattle.endpoint_model.specs.declared.place.Place.TheVariants.{Startup as StartupPlace}
+use Rattle.endpoint_model.specs.Admission.{attempt_group, group_at}
 use Rattle.endpoint_model.specs.Effects.{discarded, with_born, with_opened}
 use Rattle.endpoint_laws.proofs.Walks.{Steps}
 use Rattle.endpoint_laws.proofs.Kin.{IsKin}
@@ -89,9 +93,9 @@ IsNoChunk thing = Unit {0}
 abbrev pub on_flows : State → ℕ → Row → FlowThing → Did
 on_flows s near row thing = record { state = with_row s near (row_after s.moment row thing); entries = map (flow_entry near) (stated_of row thing) }
 
--- a session is born, and this makes way for it
-abbrev pub birth : State → Option Fact → Joined → AddressParts → Did
-birth s ended j from = record { state = with_born s ended (Born j) from; entries = fact_entries ended ++ FactEntry (Born j) ∷ [] }
+-- a session is born under this secret of the group, and this makes way for it
+abbrev pub birth : State → Option Fact → Joined → AddressParts → GroupSecret → Did
+birth s ended j from g = record { state = with_born s ended (Born j) from g; entries = fact_entries ended ++ FactEntry (Born j) ∷ [] }
 
 abbrev pub stated : State → StartupState → Fact → Did
 stated s startup fact = record { state = with_startup s startup; entries = FactEntry fact ∷ [] }
@@ -108,22 +112,22 @@ given_up s startup near why = record { state = with_startup s startup; entries =
 -- Of nothing, of one thing after another, and of a datagram, in the startup context and in a session. Of the bodies that go out in sessions something may be known.
 pub record Sends (Body : List ℕ → Type 0) (P : State → Did → Type 0) : Type 0 where
   pub steps : Steps P
-  pub out : (s : State) (to : AddressParts) (sid : ℕ) (plain : List ℕ) →
-      P s (record { state = with_sealed s (s.sealed + 1); entries = Out to (startup_datagram s sid plain) (StartupContext 0) ∷ [] })
+  pub out : (s : State) (generation : ℕ) (keys : Keys) (to : AddressParts) (sid : ℕ) (plain : List ℕ) →
+      P s (record { state = with_sealed s (s.sealed + 1); entries = Out to (startup_datagram s keys sid plain) (StartupContext generation) ∷ [] })
   pub out_in : (s : State) (near : ℕ) (row : Row) (to : AddressParts) (body : List ℕ) → get s.sessions near ≡ Some row → Body body →
       P s (record { state = with_session s near row (after_seal row.session); entries = Out to (session_datagram row.session s.moment body) (context_of row.session true) ∷ [] })
 
 -- And of what begins no session, but for what is done with flows: a change of the attempts alone, facts, searches that are over, and sessions that go on and end.
 pub record Quiet (Body : List ℕ → Type 0) (P : State → Did → Type 0) : Type 0 where
   pub sends : Sends Body P
-  pub attempts : (s : State) (startup : StartupState) → IsKin s.startup startup → P s (nothing (with_startup s startup))
+  pub attempts : (s : State) (startup : StartupState) → IsKin s startup → P s (nothing (with_startup s startup))
   pub close : Body (chunk_bytes CloseChunk)
   pub close_ack : Body (chunk_bytes CloseAck)
   pub empty_ping : Body (chunk_bytes (Ping []))
   pub discards : (s : State) (at : ℕ) (cause : Cause) → P s (discarded s at cause)
-  pub ends : (s : State) (startup : StartupState) (peer : List ℕ) (near : ℕ) (why : Why) → IsKin s.startup startup → P s (stated s startup (Ended peer near why))
-  pub unseeks : (s : State) (startup : StartupState) (near : ℕ) (why : Why) → IsKin s.startup startup → P s (given_up s startup near why)
-  pub confirms : (s : State) (startup : StartupState) (peer : List ℕ) (near : ℕ) → IsKin s.startup startup → P s (stated s startup (Confirmed peer near))
+  pub ends : (s : State) (startup : StartupState) (peer : List ℕ) (near : ℕ) (why : Why) → IsKin s startup → P s (stated s startup (Ended peer near why))
+  pub unseeks : (s : State) (startup : StartupState) (near : ℕ) (why : Why) → IsKin s startup → P s (given_up s startup near why)
+  pub confirms : (s : State) (startup : StartupState) (peer : List ℕ) (near : ℕ) → IsKin s startup → P s (stated s startup (Confirmed peer near))
   pub closes : (s : State) (near : ℕ) → P s (closed s near)
   pub forgets : (s : State) (near : ℕ) → P s (nothing (without_row s near))
   pub moves : (s : State) (near : ℕ) (to : AddressParts) → P s (record { state = s; entries = Moved near to ∷ [] })
@@ -145,14 +149,15 @@ pub record All (Body : List ℕ → Type 0) (P : State → Did → Type 0) : Typ
   pub calls : (s : State) (near : ℕ) (row : Row) (call : FlowCall) → get s.sessions near ≡ Some row → flow_refusal row.flows call ≡ None → P s (flows_done s near row (flow_did row.flows call))
   pub takes : (s : State) (near : ℕ) (row : Row) (chunk : DataChunk) → get s.sessions near ≡ Some row → FitsIn chunk → flows_cause row.session row.flows chunk ≡ None → P s (flow_taken_by s near chunk (Some row))
 
--- And of attempts, searches and sessions that begin, by a law of which the one before is a part.
+-- And of attempts, searches and sessions that begin, by a law of which the one before is a part. A session that is born is under the secret of the generation in which its keying came, and one that is opened under that of its attempt.
 pub record Begins (Q P : State → Did → Type 0) : Type 0 where
   pub quiet : (s : State) (d : Did) → Q s d → P s d
   pub steps : Steps P
-  pub starts : (s : State) (startup : StartupState) (peer : List ℕ) (n near : ℕ) (ni : List ℕ) → IsKin s.startup startup → P s (stated s startup (Started peer n near ni))
-  pub seeks : (s : State) (startup : StartupState) (near : ℕ) (name : List ℕ) → IsKin s.startup startup → P s (began s startup near name)
-  pub bears : (s : State) (peer : List ℕ) (o : Option Held) (j : Joined) (from : AddressParts) → P s (birth s (way_made peer o) j from)
-  pub opens : (s : State) (startup : StartupState) (j : Joined) (from : AddressParts) → IsKin s.startup startup → P s (record { state = with_opened (with_startup s startup) (Opened j) from; entries = FactEntry (Opened j) ∷ [] })
+  pub starts : (s : State) (startup : StartupState) (peer : List ℕ) (n near : ℕ) (ni : List ℕ) → IsKin s startup → P s (stated s startup (Started peer n near ni))
+  pub seeks : (s : State) (startup : StartupState) (near : ℕ) (name : List ℕ) → IsKin s startup → P s (began s startup near name)
+  pub bears : (s : State) (generation : ℕ) (peer : List ℕ) (o : Option Held) (j : Joined) (from : AddressParts) → P s (birth s (way_made peer o) j from (group_at s (StartupPlace generation)))
+  pub opens : (s : State) (startup : StartupState) (j : Joined) (from : AddressParts) → IsKin s startup →
+      P s (record { state = with_opened (with_startup s startup) (Opened j) from (attempt_group s.group (get s.startup.attempts j.near)); entries = FactEntry (Opened j) ∷ [] })
 
 -- And of what a datagram leaves of its session before its chunks, and of what no other thing sees.
 pub record Enters (P : State → Did → Type 0) : Type 0 where

@@ -36,6 +36,7 @@ use Rattle.endpoint_laws.proofs.Moving.{beside_fact, none_there_still, noted_mat
 use Rattle.endpoint_laws.proofs.Facts.{all_none, test_fails, stands_of}
 use Rattle.endpoint_laws.proofs.Made.{spread_made}
 use Rattle.endpoint_laws.proofs.Going.{Goes, goes_then, goes_sends}
+use Rattle.endpoint_laws.proofs.Kin.{kin_begin}
 
 -- ---- a free session ID
 
@@ -167,7 +168,7 @@ started_tied setup past s peer candidates near ni tag tied may new =
     ap (λ (o : Option AttemptState). combined near o (get s.sessions near)) new.attempt ∙ ap (combined near None) new.session ∙ sym (ap (of_peer peer) may.unheld) in
     tied_of setup now t
     (agrees_changed setup past now s t near (Some begun) None a
-    (record { config = a.given.config; cert = a.given.cert; secret = a.given.secret; cookie_secret = a.given.cookie_secret; own = a.given.own; max_peers = a.given.max_peers }) at
+    (record { config = a.given.config; cert = a.given.cert; one = (kin_begin s (noted s.startup.ledger fact) near begun refl refl).one setup a.given.one; cookie_secret = a.given.cookie_secret; own = a.given.own; max_peers = a.given.max_peers }) at
     (noted_matches s t fact near (Some begun) None a.matches at refl was refl (λ h e. let same : Opening (s.startup.ledger.started + 1) near ni ≡ h = cc in sym (ap near_of same)))
     (inl refl, tt) (beside_fact near s.moment past fact refl) (none_there_still past near (get s.sessions near) (a.closing near) new.session s.moment fact tt None)
     (still_unsought past near s.moment fact (none_sought past near (get s.startup.attempts near) (a.searching near) new.attempt) (Some begun))

@@ -20,26 +20,27 @@ use Rattle.rtmfp_data_chunks.specs.Fitting.{AreSmall}
 use Rattle.endpoint_laws.proofs.Following.{follows_quiet, follows_law}
 use Rattle.endpoint_laws.proofs.Made.{confirming_made, session_chunk_made}
 use Rattle.endpoint_laws.proofs.Passing.{PassedIn, passed_follows}
+use Rattle.endpoint_laws.specs.Contexts.{Secrets}
 
-module _ (secret : List ℕ) (near : ℕ) (l : Lasting) (t : Taken) (taken : List Taken) (k : CountsUnder secret taken near l) where
+module _ (secrets : Secrets) (near : ℕ) (l : Lasting) (t : Taken) (taken : List Taken) (k : CountsUnder secrets taken near l) where
   abbrev pub OpensHere : List ℕ → Type 0
-  OpensHere plain = OpensUnder secret (inward_of l) near t.datagram plain
+  OpensHere plain = OpensUnder secrets (inward_of l) near t.datagram plain
 
   abbrev pub PassesHere : Type 0
-  PassesHere = PassesIn secret (inward_of l) (mode_in l) near taken t.datagram
+  PassesHere = PassesIn secrets (inward_of l) (mode_in l) near taken t.datagram
 
   abbrev pub with_number : Lasting
   with_number = record l { window = window_after l.window (count_in t.datagram) }
 
   -- one that doesn't open
-  pub counts_unopened : ((plain : List ℕ) → OpensHere plain → ⊥) → CountsUnder secret (t ∷ taken) near l
+  pub counts_unopened : ((plain : List ℕ) → OpensHere plain → ⊥) → CountsUnder secrets (t ∷ taken) near l
   counts_unopened none = record {
     numbers = λ n. ((λ ok. ((λ plain opens. absurd (none plain opens)), (k.numbers n).0 ok)), (λ new. (k.numbers n).1 new.1));
     times = λ moment took. elim took [ inl here ↦ absurd (none here.0.reads.plain here.0.reads.opens) | inr before ↦ k.times moment before ];
   }
 
   -- one that opens, whose number is refused
-  pub counts_refused : (why : Seen) → window_answer l.window (count_in t.datagram) ≡ Err why → CountsUnder secret (t ∷ taken) near l
+  pub counts_refused : (why : Seen) → window_answer l.window (count_in t.datagram) ≡ Err why → CountsUnder secrets (t ∷ taken) near l
   counts_refused why refused = record {
     numbers = λ n. (
       (λ ok. let room = refused_after l.window (count_in t.datagram) n why refused ok in ((λ plain opens. (room.1, room.2)), (k.numbers n).0 ok)),
@@ -51,21 +52,21 @@ module _ (secret : List ℕ) (near : ℕ) (l : Lasting) (t : Taken) (taken : Lis
     ];
   }
 
-  numbers_with : (plain : List ℕ) → OpensHere plain → (n : ℕ) → (window_answer (window_after l.window (count_in t.datagram)) n ≡ Ok tt) ↔ IsNewAfter secret (inward_of l) near n (t ∷ taken)
+  numbers_with : (plain : List ℕ) → OpensHere plain → (n : ℕ) → (window_answer (window_after l.window (count_in t.datagram)) n ≡ Ok tt) ↔ IsNewAfter secrets (inward_of l) near n (t ∷ taken)
   numbers_with plain opens n = let c : ℕ = count_in t.datagram in (
     (λ ok. let room = (room_after l.window c n).0 ok in ((λ other there. (room.1, room.2)), (k.numbers n).0 room.0)),
     (λ new. let apart = new.0 plain opens in (room_after l.window c n).1 ((k.numbers n).1 new.1, apart.0, apart.1)),
   )
 
   -- one that opens, whose number was taken, but that doesn't pass
-  pub counts_counted : (plain : List ℕ) → OpensHere plain → (PassesHere → ⊥) → CountsUnder secret (t ∷ taken) near with_number
+  pub counts_counted : (plain : List ℕ) → OpensHere plain → (PassesHere → ⊥) → CountsUnder secrets (t ∷ taken) near with_number
   counts_counted plain opens none = record {
     numbers = numbers_with plain opens;
     times = λ moment took. elim took [ inl here ↦ absurd (none here.0) | inr before ↦ k.times moment before ];
   }
 
   -- one that is taken
-  pub counts_taken : (plain : List ℕ) → OpensHere plain → l.taken ≤ t.moment → CountsUnder secret (t ∷ taken) near (record with_number { taken = t.moment })
+  pub counts_taken : (plain : List ℕ) → OpensHere plain → l.taken ≤ t.moment → CountsUnder secrets (t ∷ taken) near (record with_number { taken = t.moment })
   counts_taken plain opens later = record {
     numbers = numbers_with plain opens;
     times = λ moment took. elim took [ inl here ↦ omega (arith, here.1) | inr before ↦ omega (arith, k.times moment before, later) ];

@@ -1,11 +1,12 @@
 -- The state of an end agrees with what it did.
 use Rattle.std.proofs.Common.{◌≡◌, ℕ, ◌+◌, ◌≤◌, ◌<◌, ◌^◌, List, [], ◌∷◌, length, true, false, if◌then◌else◌, Option, Some, None, is_some, ◌||◌, inl, inr, refl, ap, ◌∙◌, arith}
 use Rattle.std.specs.Ordering.{nat_cmp}
+use Rattle.sha2.specs.Sha256.{sha256}
 use Rattle.std.specs.Cmp.Lexicographic.{slice_cmp}
 use Rattle.std.specs.FinMap.{get, get-empty, len-empty}
 use Rattle.glare_core.specs.declared.facts.Joined.{Joined}
 use Rattle.glare_core.specs.declared.facts.Held.{Held}
-use Rattle.glare_core.specs.declared.facts.Held.TheVariants.{HalfOpen, KeptAsResponder, KeptAsInitiator}
+use Rattle.glare_core.specs.declared.facts.Held.TheVariants.{Opening as OpeningHeld, HalfOpen, KeptAsResponder, KeptAsInitiator}
 use Rattle.glare_core.specs.Things.{IsSession, near_of}
 use Rattle.glare_core.specs.Ledger.{PeerRow, Ledger, row_or_blank, held_with, row_count}
 use Rattle.glare_core.specs.Account.{StandsFor}
@@ -15,8 +16,8 @@ use Rattle.glare_core.specs.declared.facts.Fact.TheVariants.{Started}
 use Rattle.glare_core.specs.Standing.{count as started_in}
 use Rattle.startup.specs.declared.aim.Aim.{Aim}
 use Rattle.startup.specs.declared.aim.Aim.TheVariants.{AtPeer, ByName}
-use Rattle.startup.specs.State.{AttemptState, IsSound}
-use Rattle.startup.proofs.Sound.{new_is_sound}
+use Rattle.startup.specs.Aims.{IsHeldAs}
+use Rattle.startup.specs.State.{AttemptState, StartupState, FitsStage, peer_of_attempt}
 use Rattle.session_core.specs.declared.stage.Role.{Role}
 use Rattle.session_core.specs.declared.stage.Role.TheVariants.{Initiator, Responder}
 use Rattle.session_core.specs.declared.stage.Stage.{Stage}
@@ -27,6 +28,7 @@ use Rattle.endpoint_model.specs.declared.row.Row.{Row}
 use Rattle.endpoint_model.specs.Event.{Setup, own_of}
 use Rattle.endpoint_laws.specs.Past.{Past, Search, facts_of, ids_in_use, is_in_use, IsClosing, IsSearch, WasStated}
 use Rattle.endpoint_laws.specs.OfTheLog.{WasThing}
+use Rattle.endpoint_laws.specs.Groups.{HasOneGroup}
 use Rattle.endpoint_model.specs.State.{State, fresh, uses, is_used}
 use Rattle.endpoint_model.proofs.Members.{IsOnce}
 use Rattle.endpoint_laws.proofs.Matching.{Found, of_peer}
@@ -89,7 +91,7 @@ pub record SessionTied (setup : Setup) (past : Past) (ledger : Ledger) (near : �
   pub id : session.joined.near ≡ near
   pub own : session.own ≡ own_of setup
   pub keyed : IsKeyed setup.secret session
-  pub generation : session.generation ≡ 0
+  pub generation : session.generation ≡ setup.generation
   pub stage : StageFits session.role session.stage
   pub thing : is_held session.stage ≡ true → held_with ledger session.joined.peer ≡ Some (thing_of session.role session.stage session.joined)
   pub closed : is_held session.stage ≡ false → IsClosed past near session
@@ -121,18 +123,25 @@ abbrev pub IsKeptIn : Option AttemptState → Search → ℕ → Type 0
 IsKeptIn None which at = ⊥
 IsKeptIn (Some a) which at = IsKept a which at
 
+-- The attempts and the ledger name the same things.
+pub record AttemptsAreHeld (s : StartupState) : Type 0 where
+  pub own : s.ledger.own ≡ sha256 s.cert
+  pub held : (near : ℕ) (a : AttemptState) → get s.attempts near ≡ Some a → IsHeldAs s.ledger near a.ni a.aim
+  pub stages : (near : ℕ) (a : AttemptState) → get s.attempts near ≡ Some a → FitsStage a.aim a.stage
+  pub there : (peer : List ℕ) (n near : ℕ) (ni : List ℕ) → held_with s.ledger peer ≡ Some (OpeningHeld n near ni) → peer_of_attempt (get s.attempts near) ≡ Some peer
+
 -- The state agrees with what was done.
 pub record Tied (setup : Setup) (past : Past) (s : State) : Type 0 where
   -- what was given at the beginning
   pub config : s.config ≡ setup.config
   pub cert : s.startup.cert ≡ setup.cert
-  pub secret : s.startup.secret ≡ setup.secret
+  pub one : HasOneGroup setup s
   pub cookie_secret : s.startup.cookie_secret ≡ setup.cookie_secret
   pub own : s.startup.ledger.own ≡ own_of setup
   pub max_peers : s.startup.ledger.max_peers ≡ setup.config.max_peers
   -- the ledger is of the facts, and the attempts and the sessions are what it holds
   pub account : StandsFor 0 s.startup.ledger (facts_of past)
-  pub sound : IsSound s.startup
+  pub sound : AttemptsAreHeld s.startup
   pub sessions : (near : ℕ) (row : Row) → get s.sessions near ≡ Some row → SessionTied setup past s.startup.ledger near row.session
   pub there : (peer : List ℕ) (thing : Held) → held_with s.startup.ledger peer ≡ Some thing → IsSession thing → found_in (get s.sessions (near_of thing)) ≡ Some (peer, thing)
   pub closing : (near : ℕ) (thing : Held) (at : ℕ) → IsClosing near thing at past → IsClosedThing (get s.sessions near) thing
@@ -165,12 +174,22 @@ fresh_tied setup =
     record {
       config = refl;
       cert = refl;
-      secret = refl;
+      one = record {
+        group_is = refl;
+        next_is = refl;
+        attempts = λ near a e. absurd (none_is_some a (get s.startup.attempts near) (no_attempt near) e);
+        kept = λ peer kept e. absurd (none_is_some kept (get s.startup.kept peer) (get-empty (slice_cmp nat_cmp) peer) e);
+      };
       cookie_secret = refl;
       own = refl;
       max_peers = refl;
       account = stands_new (own_of setup) setup.config.max_peers 0;
-      sound = new_is_sound setup.cert setup.secret setup.cookie_secret setup.config.max_peers;
+      sound = record {
+        own = refl;
+        held = λ near a e. absurd (none_is_some a (get s.startup.attempts near) (no_attempt near) e);
+        stages = λ near a e. absurd (none_is_some a (get s.startup.attempts near) (no_attempt near) e);
+        there = λ peer n near ni e. absurd (none_is_some (OpeningHeld n near ni) (held_with s.startup.ledger peer) (no_thing peer) e);
+      };
       sessions = λ near row e. absurd (none_is_some row (get s.sessions near) (no_session near) e);
       there = λ peer thing e is. absurd (none_is_some thing (held_with s.startup.ledger peer) (no_thing peer) e);
       closing = λ near thing at none. absurd none;

@@ -1,15 +1,8 @@
 -- Entries of which the table of lawful logs has no line: they state no fact, send nothing, end no closing, and say nothing of searches.
-use Rattle.std.proofs.Common.{◌≡◌, ℕ, List, [], ◌∷◌, map, Option, Some, None, Result, Ok, Err, refl}
-use Rattle.std.specs.FinMap.{get}
-use Rattle.rtmfp_data_chunks.specs.declared.view.DataFault.{DataFault}
-use Rattle.rtmfp_data_chunks.specs.Chunk.{DataChunk}
+use Rattle.std.proofs.Common.{◌≡◌, ℕ, List, [], ◌∷◌, map, None, refl}
 use Rattle.session_flows.specs.Keeping.{Stated, Opened, Queued, Abandoned, Finished, Handed}
-use Rattle.session_flows.specs.Chunks.{chunk_done}
 use Rattle.endpoint_model.specs.declared.entry.Entry.{Entry}
-use Rattle.endpoint_model.specs.declared.row.Row.{Row}
-use Rattle.endpoint_model.specs.State.{State}
 use Rattle.endpoint_model.specs.OnFlows.{flow_entry}
-use Rattle.endpoint_model.specs.FlowChunks.{flow_taken_by, flow_taken}
 use Rattle.endpoint_model.specs.Views.{fact_in, out_in, closed_in, sought_in, unsought_in}
 
 pub record IsUnseen (entry : Entry) : Type 0 where
@@ -33,12 +26,3 @@ flow_unseen near (Handed flow seq message) = record { no_fact = refl; no_out = r
 pub flows_unseen : (near : ℕ) (stated : List Stated) → AreUnseen (map (flow_entry near) stated)
 flows_unseen near [] = tt
 flows_unseen near (x ∷ rest) = (flow_unseen near x, flows_unseen near rest)
-
--- nor is what a chunk of flows states
-taken_by_unseen : (s : State) (near : ℕ) (chunk : DataChunk) (o : Option Row) → AreUnseen (flow_taken_by s near chunk o).entries
-taken_by_unseen s near chunk None = tt
-taken_by_unseen s near chunk (Some row) = flows_unseen near (chunk_done row.flows chunk).stated
-
-pub taken_unseen : (s : State) (near : ℕ) (read : Result DataChunk DataFault) → AreUnseen (flow_taken s near read).entries
-taken_unseen s near (Ok chunk) = taken_by_unseen s near chunk (get s.sessions near)
-taken_unseen s near (Err fault) = tt

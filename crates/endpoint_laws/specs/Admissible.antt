@@ -16,10 +16,9 @@ use Rattle.identity.specs.Order.{Prevails}
 use Rattle.glare_core.specs.declared.facts.Held.{Held}
 use Rattle.glare_core.specs.Standing.{held, seen, peers_in}
 use Rattle.glare_core.specs.Things.{IsAttempt}
-use Rattle.endpoint_model.specs.State.{current_generation}
 use Rattle.endpoint_model.specs.Event.{Setup, own_of}
 use Rattle.endpoint_laws.specs.Past.{Past, facts_of, ids_in_use}
-use Rattle.endpoint_laws.specs.Contexts.{ReadsUnder}
+use Rattle.endpoint_laws.specs.Contexts.{Secrets, ReadsUnder}
 use Rattle.endpoint_model.specs.Keying.{IsFirst, IsSigned, chunks_of, initiator_part}
 
 -- what the keying says: its peer, the number and the nonce of the attempt, and the peer's session
@@ -32,11 +31,11 @@ pub record Offer : Type 0 where
 
 -- The datagram opens in the startup context under session ID 0 with the startup mode, its first
 -- initiator's keying makes this offer, and what the end has done lets a session be born of it.
-pub record Admissible (setup : Setup) (past : Past) (now : ℕ) (from : AddressParts)
-    (datagram : List ℕ) (offer : Offer) : Type 0 where
+pub record Admissible (secrets : Secrets) (setup : Setup) (past : Past) (now : ℕ)
+    (from : AddressParts) (datagram : List ℕ) (offer : Offer) : Type 0 where
   -- the chunk
   pub packet : Whole
-  pub reads : ReadsUnder setup.secret (Startup current_generation) 0 datagram packet
+  pub reads : ReadsUnder secrets (Startup setup.generation) 0 datagram packet
   pub mode : packet.head.mode ≡ StartupMode
   pub chunk : Placed
   pub first : IsFirst chunk (chunks_of packet)
@@ -53,7 +52,7 @@ pub record Admissible (setup : Setup) (past : Past) (now : ℕ) (from : AddressP
   pub far : offer.far ≢ 0
   pub is_cert : IsCertificate cert
   pub peer : offer.peer ≡ sha256 cert
-  pub signed : IsSigned setup.secret chunk.payload sign
+  pub signed : IsSigned reads.opens.secret chunk.payload sign
   pub narrow : length cookie ≤ 128
   pub current : IsAnswer setup.cookie_secret cookie from now Current
   pub other : cert ≢ setup.cert

@@ -4,6 +4,7 @@ use Rattle.std.specs.List.{AllByRecursion}
 use Rattle.std.specs.FinMap.{get}
 use Rattle.crypto_profile.specs.declared.keys.Context.{Context}
 use Rattle.crypto_profile.specs.declared.keys.Context.TheVariants.{Startup}
+use Rattle.crypto_profile.specs.declared.group.GroupSecret.{GroupSecret}
 use Rattle.crypto_profile.specs.Sealing.{sealed_in}
 use Rattle.packet_scramble.specs.Datagram.{datagram as datagram_of}
 use Rattle.rtmfp_forms.specs.Address.{AddressParts}
@@ -27,12 +28,12 @@ use Rattle.endpoint_model.specs.declared.entry.Entry.TheVariants.{Fact as FactEn
 use Rattle.endpoint_model.specs.Views.{out_in}
 use Rattle.endpoint_model.specs.Event.{Setup, own_of, Receive, Answer, Began, Searching, Done, NotOpened, NotSought, Refused, NotAdded, Stopped, OutOfMemory, Event, moment_at}
 use Rattle.endpoint_laws.specs.Past.{Past, facts_of, onto, last_moment, past_of_log, out_count, outs_of}
-use Rattle.endpoint_laws.specs.Contexts.{session_context}
+use Rattle.endpoint_laws.specs.Contexts.{Secrets, Knows, session_context}
 use Rattle.endpoint_model.specs.Keying.{chunks_of}
 use Rattle.endpoint_laws.specs.Admissible.{Admissible, Offer}
 use Rattle.endpoint_laws.specs.Lawful.{AnswersAttempt}
-use Rattle.endpoint_model.specs.State.{State, at_moment, current_generation}
-use Rattle.endpoint_model.specs.Admission.{Admitted, admission}
+use Rattle.endpoint_model.specs.State.{State, at_moment}
+use Rattle.endpoint_model.specs.Admission.{Admitted, admission, attempt_group}
 use Rattle.endpoint_model.specs.Causes.{chunk_cause}
 use Rattle.endpoint_model.specs.Effects.{chunks_did, outset}
 use Rattle.endpoint_model.specs.Log.{StandsFor, Step}
@@ -64,14 +65,14 @@ pub record IsOfOffer (offer : Offer) (nonce : List ℕ) (facts : List Fact) (j :
 
 -- Among these entries is the Born of the session, and directly after it a datagram to this address
 -- with the session's keying: at the initiator it answers the attempt.
-pub record IsBornAndTold (setup : Setup) (to : AddressParts) (j : Joined) (entries : List Entry)
-    : Type 0 where
+pub record IsBornAndTold (secrets : Secrets) (setup : Setup) (to : AddressParts) (j : Joined)
+    (entries : List Entry) : Type 0 where
   pub before : List Entry
   pub sent : List ℕ
   pub later : List Entry
-  pub are : entries ≡ before ++ FactEntry (Born j) ∷ Out to sent (Startup current_generation) ∷
+  pub are : entries ≡ before ++ FactEntry (Born j) ∷ Out to sent (Startup setup.generation) ∷
       later
-  pub answers : AnswersAttempt setup.secret (at_initiator (own_of setup) j) sent
+  pub answers : AnswersAttempt secrets setup.generation (at_initiator (own_of setup) j) sent
 
 -- a datagram that an end was given
 abbrev pub taken_event : ℕ → AddressParts → List ℕ → Draws → Answer → List Entry → Event
@@ -104,10 +105,11 @@ pub record IsBehind (front : List Placed) (chunk : Placed) (gone : List Placed) 
 
 -- What an end did up to a chunk of a datagram that it takes outside of sessions: what its log says,
 -- and what the chunks before added. Where none of them answers a search, these state nothing.
-abbrev pub done_up_to : List Event → State → ℕ → AddressParts → Draws → List Placed → Past
-done_up_to log s moment from draws front =
+abbrev pub done_up_to : Setup → List Event → State → ℕ → AddressParts → Draws → List Placed →
+    Past
+done_up_to setup log s moment from draws front =
     onto (at_moment s moment).moment
-    (chunks_did (StartupPlace current_generation) from draws outset (at_moment s moment)
+    (chunks_did (StartupPlace setup.generation) from draws outset (at_moment s moment)
     front).entries
     (past_of_log log)
 
@@ -118,22 +120,23 @@ outs_in (entry ∷ rest) = out_count (out_in entry) + outs_in rest
 
 -- Where the end with this log takes a datagram whose first initiator's keying is admissible by what
 -- was done up to it, and goes through this keying, the session of its offer is born and told in
--- that call. The peer's fingerprint isn't the own one, and fewer than 2^64 - 1 datagrams went out, so
--- that each has a number.
+-- that call. The peer's fingerprint isn't the own one, and fewer than 2^64 - 1 datagrams went out,
+-- so that each has a number.
 abbrev pub AdmissibleKeyingsBear : Type 0
-AdmissibleKeyingsBear = (setup : Setup) (log : List Event) (s t : State) (moment : ℕ)
-    (from : AddressParts) (datagram : List ℕ) (draws : Draws) (answer : Answer)
+AdmissibleKeyingsBear = (secrets : Secrets) (setup : Setup) (log : List Event) (s t : State)
+    (moment : ℕ) (from : AddressParts) (datagram : List ℕ) (draws : Draws) (answer : Answer)
     (entries : List Entry) (offer : Offer) (front gone : List Placed)
-    → IsSetup setup → AreCalls log → StandsFor setup log s → IsCall (Receive from datagram draws)
+    → Knows secrets setup → IsSetup setup → AreCalls log → StandsFor setup log s
+    → IsCall (Receive from datagram draws)
     → Step s (taken_event moment from datagram draws answer entries) t
-    → (a : Admissible setup (done_up_to log s moment from draws front)
+    → (a : Admissible secrets setup (done_up_to setup log s moment from draws front)
     (moment_at (last_moment 0 log) (taken_event moment from datagram draws answer entries)) from
     datagram offer)
     → WentThrough answer (chunks_of a.packet) gone → IsBehind front a.chunk gone
     → offer.peer ≢ own_of setup → outs_of (past_of_log log) + outs_in entries < 2 ^ 64 - 1
     → (j : Joined) ×
-    IsOfOffer offer draws.nonce (facts_of (done_up_to log s moment from draws front)) j ×
-    IsBornAndTold setup from j entries
+    IsOfOffer offer draws.nonce (facts_of (done_up_to setup log s moment from draws front)) j ×
+    IsBornAndTold secrets setup from j entries
 
 -- ---- responders' keyings
 
@@ -150,11 +153,13 @@ pub record IsPing (secret : List ℕ) (context : Context) (sid : ℕ) (sent : Li
   pub spells : Spells (Ping []) chunk.kind chunk.payload
 
 -- Among these entries is the Opened of the attempt under this session ID, and directly after it a
--- ping in its session to this address.
+-- ping to this address in its session, which has the group's secret of the attempt.
 pub record OpensItsSession (s : State) (near : ℕ) (to : AddressParts) (entries : List Entry)
     : Type 0 where
   pub attempt : AttemptState
   pub there : get s.startup.attempts near ≡ Some attempt
+  pub group : GroupSecret
+  pub group_is : group ≡ attempt_group s.group (Some attempt)
   pub j : Joined
   pub aim : attempt.aim ≡ AtPeer j.peer j.n
   pub ni : j.ni ≡ attempt.ni
@@ -163,23 +168,24 @@ pub record OpensItsSession (s : State) (near : ℕ) (to : AddressParts) (entries
   pub sent : List ℕ
   pub later : List Entry
   pub are : entries ≡ before ++ FactEntry (Opened j)
-      ∷ Out to sent (session_context (as_initiator s.startup.ledger.own j) true) ∷ later
-  pub ping : IsPing s.startup.secret (session_context (as_initiator s.startup.ledger.own j) true)
-      j.far sent
+      ∷ Out to sent
+      (session_context group.generation (as_initiator s.startup.ledger.own j) true) ∷ later
+  pub ping : IsPing group.secret
+      (session_context group.generation (as_initiator s.startup.ledger.own j) true) j.far sent
 
 -- Where an end takes a datagram under the session ID of an attempt, and goes through a responder's
 -- keying against which no cause stands after the chunks before it, the attempt's session is opened
 -- in that call.
 abbrev pub KeyingsWithoutCauseOpen : Type 0
-KeyingsWithoutCauseOpen = (s t u : State) (moment near : ℕ) (from : AddressParts)
+KeyingsWithoutCauseOpen = (s t u : State) (moment near generation : ℕ) (from : AddressParts)
     (datagram : List ℕ) (draws : Draws) (answer : Answer) (entries : List Entry) (packet : Whole)
     (front back : List Placed) (c : Placed) (walk : Walk)
     → Step s (taken_event moment from datagram draws answer entries) t
-    → admission (at_moment s moment) datagram ≡ Admitted u (Attempt near current_generation) packet
+    → admission (at_moment s moment) datagram ≡ Admitted u (Attempt near generation) packet
     → WentThrough answer (chunks_of packet) (front ++ c ∷ back)
     → c.kind ≡ RIKEYING →
-    chunk_cause (chunks_did (Attempt near current_generation) from draws outset u front).state
-    (Attempt near current_generation)
+    chunk_cause (chunks_did (Attempt near generation) from draws outset u front).state
+    (Attempt near generation)
     walk from c ≡ None
-    → OpensItsSession (chunks_did (Attempt near current_generation) from draws outset u front).state
+    → OpensItsSession (chunks_did (Attempt near generation) from draws outset u front).state
     near from entries

@@ -1,5 +1,5 @@
--- The nonces that calls drew: each told by its event alone, so that an attempt which a search became
--- draws none.
+-- The nonces that calls drew: each told by its event alone, so that an attempt which a search
+-- became draws none.
 use Rattle.std.specs.Prelude.{ℕ, List, [], ◌∷◌, ◌++◌, Option, Some, None}
 use Rattle.glare_core.specs.declared.facts.Fact.{Fact}
 use Rattle.glare_core.specs.declared.facts.Fact.TheVariants.{Started, Born, Opened, Confirmed, Ended}
@@ -8,6 +8,7 @@ use Rattle.endpoint_model.specs.declared.entry.Entry.{Entry}
 use Rattle.endpoint_model.specs.Views.{NamedSearch, fact_in, sought_in}
 use Rattle.endpoint_model.specs.Event.{Setup, OpenCall, SeekCall, Call, open_in, seek_in}
 use Rattle.endpoint_laws.specs.Past.{Past, Happening, OfEvent, OfEntry, last_call, past_of_log}
+use Rattle.endpoint_laws.specs.Contexts.{Secrets}
 use Rattle.endpoint_laws.specs.History.{History, AreLawful, nonces_in}
 
 -- the nonce of an attempt, where the call is an open
@@ -53,5 +54,6 @@ drawn_in (h ∷ earlier) = draws_of (past_of_log (h.event ∷ [])) ++ drawn_in e
 -- Where no nonce was drawn twice, the nonces of all attempts and of all sessions that were born are
 -- different in each lawful history, those of attempts that were searches included.
 abbrev pub WhatIsDrawnOnceIsStatedOnce : Type 0
-WhatIsDrawnOnceIsStatedOnce = (ends : ℕ → Setup) (history : History) → AreLawful ends history →
+WhatIsDrawnOnceIsStatedOnce = (secrets : Secrets) (ends : ℕ → Setup) (history : History) →
+    AreLawful secrets ends history →
     AllDifferent (drawn_in history) → AllDifferent (nonces_in history)

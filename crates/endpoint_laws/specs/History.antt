@@ -8,7 +8,7 @@ use Rattle.endpoint_model.specs.declared.entry.Entry.{Entry}
 use Rattle.endpoint_model.specs.Views.{Sending, out_in}
 use Rattle.endpoint_model.specs.Event.{Setup, own_of, Call, ReceiveCall, receive_in, Event}
 use Rattle.endpoint_laws.specs.Past.{Past, facts_of, past_of_log}
-use Rattle.endpoint_laws.specs.Contexts.{ContextsOf, OpensFirst}
+use Rattle.endpoint_laws.specs.Contexts.{Secrets, ContextsOf, OpensFirst}
 use Rattle.endpoint_laws.specs.Lawful.{IsLawful, nonces_of}
 
 -- an event, and the number of its end
@@ -34,8 +34,8 @@ abbrev pub facts_at : ℕ → History → List Fact
 facts_at who history = facts_of (past_at who history)
 
 -- Each end's log is lawful.
-abbrev pub AreLawful : (ℕ → Setup) → History → Type 0
-AreLawful ends history = (who : ℕ) → IsLawful (ends who) (log_of who history)
+abbrev pub AreLawful : Secrets → (ℕ → Setup) → History → Type 0
+AreLawful secrets ends history = (who : ℕ) → IsLawful secrets (ends who) (log_of who history)
 
 -- ---- honest
 
@@ -55,21 +55,23 @@ WasSent sent context (h ∷ earlier) = HasOut sent context h.event.entries ⊎
 
 -- A datagram was sent in the first of the contexts of its session ID, at the end that takes it, in
 -- which it opens.
-abbrev pub IsHonestReceive : Setup → Past → History → Option ReceiveCall → Type 0
-IsHonestReceive setup past earlier None = Unit {0}
-IsHonestReceive setup past earlier (Some r) =
+abbrev pub IsHonestReceive : Secrets → Setup → Past → History → Option ReceiveCall → Type 0
+IsHonestReceive secrets setup past earlier None = Unit {0}
+IsHonestReceive secrets setup past earlier (Some r) =
     (contexts : List Context) (context : Context) (plain : List ℕ) →
-    ContextsOf (own_of setup) past (sid_of r.datagram) contexts →
-    OpensFirst setup.secret contexts (sid_of r.datagram) r.datagram context plain →
+    ContextsOf setup past (sid_of r.datagram) contexts →
+    OpensFirst secrets contexts (sid_of r.datagram) r.datagram context plain →
     WasSent r.datagram context earlier
 
-abbrev pub IsHonestCall : Setup → Past → History → Call → Type 0
-IsHonestCall setup past earlier call = IsHonestReceive setup past earlier (receive_in call)
+abbrev pub IsHonestCall : Secrets → Setup → Past → History → Call → Type 0
+IsHonestCall secrets setup past earlier call =
+    IsHonestReceive secrets setup past earlier (receive_in call)
 
-abbrev pub IsHonest : (ℕ → Setup) → History → Type 0
-IsHonest ends [] = Unit {0}
-IsHonest ends (h ∷ earlier) = IsHonestCall (ends h.who) (past_at h.who earlier) earlier
-    h.event.call × IsHonest ends earlier
+abbrev pub IsHonest : Secrets → (ℕ → Setup) → History → Type 0
+IsHonest secrets ends [] = Unit {0}
+IsHonest secrets ends (h ∷ earlier) =
+    IsHonestCall secrets (ends h.who) (past_at h.who earlier) earlier h.event.call ×
+    IsHonest secrets ends earlier
 
 -- ---- fresh
 

@@ -1,6 +1,7 @@
 -- Lawful logs. Each entry meets its line of this table, judged by its event and by the entries
 -- before it.
 use Rattle.std.specs.Prelude.{ℕ, false, ◌≡◌, ◌≢◌, ◌+◌, ◌^◌, ◌<◌, ◌≤◌, ◌⊎◌, List, [], ◌∷◌, length, drop, Option, Some, None, Ok}
+use Rattle.std.specs.FinMap.{get}
 use Rattle.crypto_profile.specs.declared.keys.Context.{Context}
 use Rattle.crypto_profile.specs.declared.keys.Context.TheVariants.{Startup, Session}
 use Rattle.crypto_profile.specs.Sealing.{sealed_in, number_of}
@@ -25,9 +26,8 @@ use Rattle.endpoint_model.specs.declared.entry.Entry.{Entry}
 use Rattle.endpoint_model.specs.Views.{Sending, NamedSearch, EndedSearch, fact_in, out_in, closed_in, sought_in, unsought_in}
 use Rattle.endpoint_model.specs.declared.config.Draws.{Draws}
 use Rattle.endpoint_model.specs.Event.{Setup, own_of, Call, OpenCall, SeekCall, ReceiveCall, open_in, seek_in, unseek_in, cancel_in, close_in, receive_in, tick_in, Event, moment_at}
-use Rattle.endpoint_model.specs.State.{current_generation}
 use Rattle.endpoint_laws.specs.Past.{Past, Search, IsSearch, with_event, facts_of, is_in_use, IsClosing, taken_since, nothing_done, with_begun, with_entry, with_fact, WasStated, WentOut}
-use Rattle.endpoint_laws.specs.Contexts.{ReadsUnder, StandsUnder, inward, outward, OpensUnder}
+use Rattle.endpoint_laws.specs.Contexts.{Secrets, generation_of, ReadsUnder, StandsUnder, inward, outward, OpensUnder}
 use Rattle.endpoint_laws.specs.Taken.{TookAt, TakesChunkIn}
 use Rattle.endpoint_model.specs.Keying.{IsSigned, IsAmong, KeyingsAre, chunks_of, initiator_part, responder_part}
 use Rattle.endpoint_laws.specs.Admissible.{Admissible, Offer}
@@ -85,19 +85,21 @@ IsTick call = TicksIn (tick_in call)
 
 -- The call takes a datagram with an admissible keying that makes this offer, and the nonce is of
 -- its draws.
-abbrev pub BearsIn : Setup → Past → ℕ → Option ReceiveCall → Offer → List ℕ → Type 0
-BearsIn setup past now None offer nr = ⊥
-BearsIn setup past now (Some r) offer nr =
-    Admissible setup past now r.from r.datagram offer × (nr ≡ r.draws.nonce)
+abbrev pub BearsIn : Secrets → Setup → Past → ℕ → Option ReceiveCall → Offer → List ℕ → Type 0
+BearsIn secrets setup past now None offer nr = ⊥
+BearsIn secrets setup past now (Some r) offer nr =
+    Admissible secrets setup past now r.from r.datagram offer × (nr ≡ r.draws.nonce)
 
-abbrev pub Bears : Setup → Past → ℕ → Call → Offer → List ℕ → Type 0
-Bears setup past now call offer nr = BearsIn setup past now (receive_in call) offer nr
+abbrev pub Bears : Secrets → Setup → Past → ℕ → Call → Offer → List ℕ → Type 0
+Bears secrets setup past now call offer nr =
+    BearsIn secrets setup past now (receive_in call) offer nr
 
--- The datagram opens in the startup context under the attempt's session ID, and a responder's
--- keying in it answers the attempt.
-pub record AnswersAttempt (secret : List ℕ) (j : Joined) (datagram : List ℕ) : Type 0 where
+-- The datagram opens in the startup context of this generation under the attempt's session ID, and
+-- a responder's keying in it answers the attempt.
+pub record AnswersAttempt (secrets : Secrets) (generation : ℕ) (j : Joined)
+    (datagram : List ℕ) : Type 0 where
   pub packet : Whole
-  pub reads : ReadsUnder secret (Startup current_generation) j.near datagram packet
+  pub reads : ReadsUnder secrets (Startup generation) j.near datagram packet
   pub chunk : Placed
   pub among : IsAmong chunk (chunks_of packet)
   pub sign : List ℕ
@@ -105,22 +107,22 @@ pub record AnswersAttempt (secret : List ℕ) (j : Joined) (datagram : List ℕ)
       chunk.payload
   -- the count is what these 8 bytes say
   pub number : j.k < 2 ^ 64
-  pub signed : IsSigned secret chunk.payload sign
+  pub signed : IsSigned reads.opens.secret chunk.payload sign
 
-abbrev pub TakesAnswerIn : Setup → Option ReceiveCall → Joined → Type 0
-TakesAnswerIn setup None j = ⊥
-TakesAnswerIn setup (Some r) j = AnswersAttempt setup.secret j r.datagram
+abbrev pub TakesAnswerIn : Secrets → Setup → Option ReceiveCall → Joined → Type 0
+TakesAnswerIn secrets setup None j = ⊥
+TakesAnswerIn secrets setup (Some r) j = AnswersAttempt secrets setup.generation j r.datagram
 
-abbrev pub TakesAnswer : Setup → Call → Joined → Type 0
-TakesAnswer setup call j = TakesAnswerIn setup (receive_in call) j
+abbrev pub TakesAnswer : Secrets → Setup → Call → Joined → Type 0
+TakesAnswer secrets setup call j = TakesAnswerIn secrets setup (receive_in call) j
 
--- The datagram opens in the startup context under session ID 0, and a responder's hello in it has
--- the tag of a search under this session ID with this nonce, and a certificate of the search's
--- name and of this peer.
-pub record AnswersSearch (secret : List ℕ) (past : Past) (datagram peer : List ℕ) (n near : ℕ)
-    (ni : List ℕ) : Type 0 where
+-- The datagram opens in the startup context of this generation under session ID 0, and a
+-- responder's hello in it has the tag of a search under this session ID with this nonce, and a
+-- certificate of the search's name and of this peer.
+pub record AnswersSearch (secrets : Secrets) (generation : ℕ) (past : Past)
+    (datagram peer : List ℕ) (n near : ℕ) (ni : List ℕ) : Type 0 where
   pub packet : Whole
-  pub reads : ReadsUnder secret (Startup current_generation) 0 datagram packet
+  pub reads : ReadsUnder secrets (Startup generation) 0 datagram packet
   pub chunk : Placed
   pub among : IsAmong chunk (chunks_of packet)
   pub tag : List ℕ
@@ -135,31 +137,32 @@ pub record AnswersSearch (secret : List ℕ) (past : Past) (datagram peer : List
   pub nonce_size : length ni ≡ 16
   pub number : n < 2 ^ 64
 
-abbrev pub TakesHelloIn : Setup → Past → Option ReceiveCall → List ℕ → ℕ → ℕ → List ℕ → Type 0
-TakesHelloIn setup past None peer n near ni = ⊥
-TakesHelloIn setup past (Some r) peer n near ni =
-    AnswersSearch setup.secret past r.datagram peer n near ni
+abbrev pub TakesHelloIn : Secrets → Setup → Past → Option ReceiveCall → List ℕ → ℕ → ℕ → List ℕ →
+    Type 0
+TakesHelloIn secrets setup past None peer n near ni = ⊥
+TakesHelloIn secrets setup past (Some r) peer n near ni =
+    AnswersSearch secrets setup.generation past r.datagram peer n near ni
 
-abbrev pub TakesHello : Setup → Past → Call → List ℕ → ℕ → ℕ → List ℕ → Type 0
-TakesHello setup past call peer n near ni =
-    TakesHelloIn setup past (receive_in call) peer n near ni
+abbrev pub TakesHello : Secrets → Setup → Past → Call → List ℕ → ℕ → ℕ → List ℕ → Type 0
+TakesHello secrets setup past call peer n near ni =
+    TakesHelloIn secrets setup past (receive_in call) peer n near ni
 
 -- The call takes a datagram that opens under this session ID, in the context of this thing.
-abbrev pub TakesUnderIn : Setup → Option ReceiveCall → ℕ → Held → Type 0
-TakesUnderIn setup None near thing = ⊥
-TakesUnderIn setup (Some r) near thing = (plain : List ℕ) ×
-    OpensUnder setup.secret (inward (own_of setup) thing) near r.datagram plain
+abbrev pub TakesUnderIn : Secrets → Setup → Option ReceiveCall → ℕ → Held → Type 0
+TakesUnderIn secrets setup None near thing = ⊥
+TakesUnderIn secrets setup (Some r) near thing = (plain : List ℕ) ×
+    OpensUnder secrets (inward setup thing) near r.datagram plain
 
-abbrev pub TakesUnder : Setup → Call → ℕ → Held → Type 0
-TakesUnder setup call near thing = TakesUnderIn setup (receive_in call) near thing
+abbrev pub TakesUnder : Secrets → Setup → Call → ℕ → Held → Type 0
+TakesUnder secrets setup call near thing = TakesUnderIn secrets setup (receive_in call) near thing
 
 -- ---- the lines of facts
 
--- An attempt starts by an open, under a session ID that is free; or by the answer to a search, under
--- the search's.
-abbrev pub StartedLine : Setup → Call → Past → List ℕ → ℕ → ℕ → List ℕ → Type 0
-StartedLine setup call past peer n near ni = (Opens call peer ni × IsFree near past) ⊎
-    TakesHello setup past call peer n near ni
+-- An attempt starts by an open, under a session ID that is free; or by the answer to a search,
+-- under the search's.
+abbrev pub StartedLine : Secrets → Setup → Call → Past → List ℕ → ℕ → ℕ → List ℕ → Type 0
+StartedLine secrets setup call past peer n near ni = (Opens call peer ni × IsFree near past) ⊎
+    TakesHello secrets setup past call peer n near ni
 
 -- What was done before a Born, and before the Ended directly before it that makes way for it, if
 -- there is one.
@@ -167,19 +170,19 @@ abbrev pub WayMade : ℕ → Past → Past → List ℕ → Type 0
 WayMade now past before peer = (past ≡ before) ⊎ ((near : ℕ) × (why : Why) × IsForBorn why ×
     (past ≡ with_fact now (Ended peer near why) before))
 
-pub record BornLine (setup : Setup) (now : ℕ) (call : Call) (past : Past) (j : Joined)
-    : Type 0 where
+pub record BornLine (secrets : Secrets) (setup : Setup) (now : ℕ) (call : Call) (past : Past)
+    (j : Joined) : Type 0 where
   pub before : Past
   pub way : WayMade now past before j.peer
-  pub by : Bears setup before now call (record { peer = j.peer; n = j.n; ni = j.ni; far = j.far })
-      j.nr
+  pub by : Bears secrets setup before now call
+      (record { peer = j.peer; n = j.n; ni = j.ni; far = j.far }) j.nr
   pub id : IsFree j.near past
 
-pub record ConfirmedLine (setup : Setup) (call : Call) (facts : List Fact) (peer : List ℕ)
-    (near : ℕ) : Type 0 where
+pub record ConfirmedLine (secrets : Secrets) (setup : Setup) (call : Call) (facts : List Fact)
+    (peer : List ℕ) (near : ℕ) : Type 0 where
   pub j : Joined
   pub session : held peer facts ≡ Some (HalfOpen j)
-  pub by : TakesUnder setup call near (HalfOpen j)
+  pub by : TakesUnder secrets setup call near (HalfOpen j)
 
 -- so many milliseconds after its start, an attempt expires
 abbrev pub lifetime : ℕ
@@ -220,11 +223,11 @@ pub record IsUnconfirmed (now : ℕ) (past : Past) (peer : List ℕ) : Type 0 wh
   pub over : birth + 20000 ≤ now
 
 -- The session is held, and the call takes a datagram in it that has a close.
-pub record FarLine (setup : Setup) (call : Call) (past : Past) (peer : List ℕ) (near : ℕ)
-    : Type 0 where
+pub record FarLine (secrets : Secrets) (setup : Setup) (call : Call) (past : Past) (peer : List ℕ)
+    (near : ℕ) : Type 0 where
   pub thing : Held
   pub is_held : held peer (facts_of past) ≡ Some thing
-  pub by : TakesChunkIn setup past thing near (receive_in call) CloseChunk
+  pub by : TakesChunkIn secrets setup past thing near (receive_in call) CloseChunk
 
 -- the fact with which a session that is kept began here
 abbrev pub BeganWith : Held → Fact → Type 0
@@ -234,8 +237,8 @@ BeganWith (KeptAsResponder j) fact = fact ≡ Born j
 BeganWith (KeptAsInitiator j) fact = fact ≡ Opened j
 
 -- The session began at least 120,000 ms ago, and took nothing since then.
-pub record IsIdle (setup : Setup) (now : ℕ) (past : Past) (peer : List ℕ) (near : ℕ)
-    : Type 0 where
+pub record IsIdle (secrets : Secrets) (setup : Setup) (now : ℕ) (past : Past) (peer : List ℕ)
+    (near : ℕ) : Type 0 where
   pub thing : Held
   pub is_held : held peer (facts_of past) ≡ Some thing
   pub first : ℕ
@@ -243,29 +246,33 @@ pub record IsIdle (setup : Setup) (now : ℕ) (past : Past) (peer : List ℕ) (n
   pub began_with : BeganWith thing fact
   pub began : WasStated first fact past
   pub old : first + 120000 ≤ now
-  pub quiet : (moment : ℕ) → TookAt setup thing near moment (taken_since near past) →
+  pub quiet : (moment : ℕ) → TookAt secrets setup thing near moment (taken_since near past) →
       moment + 120000 ≤ now
 
-abbrev pub EndedLine : Setup → ℕ → Call → Past → List Entry → List ℕ → ℕ → Why → Type 0
-EndedLine setup now call past rest peer near Cancelled = CancelledLine call (facts_of past) peer
-EndedLine setup now call past rest peer near Expired = IsTick call × IsOverdue now past peer near
-EndedLine setup now call past rest peer near Glare = BornFollows peer rest
-EndedLine setup now call past rest peer near Override = BornFollows peer rest
-EndedLine setup now call past rest peer near Unconfirmed = IsTick call × IsUnconfirmed now past peer
-EndedLine setup now call past rest peer near Near = ClosesSession call near
-EndedLine setup now call past rest peer near Far = FarLine setup call past peer near
-EndedLine setup now call past rest peer near Idle = IsTick call × IsIdle setup now past peer near
+abbrev pub EndedLine : Secrets → Setup → ℕ → Call → Past → List Entry → List ℕ → ℕ → Why → Type 0
+EndedLine secrets setup now call past rest peer near Cancelled =
+    CancelledLine call (facts_of past) peer
+EndedLine secrets setup now call past rest peer near Expired =
+    IsTick call × IsOverdue now past peer near
+EndedLine secrets setup now call past rest peer near Glare = BornFollows peer rest
+EndedLine secrets setup now call past rest peer near Override = BornFollows peer rest
+EndedLine secrets setup now call past rest peer near Unconfirmed =
+    IsTick call × IsUnconfirmed now past peer
+EndedLine secrets setup now call past rest peer near Near = ClosesSession call near
+EndedLine secrets setup now call past rest peer near Far = FarLine secrets setup call past peer near
+EndedLine secrets setup now call past rest peer near Idle =
+    IsTick call × IsIdle secrets setup now past peer near
 
 -- What a fact asks of its event, beside what the facts before it ask.
-abbrev pub FactLine : Setup → ℕ → Call → Past → List Entry → Fact → Type 0
-FactLine setup now call past rest (Started peer n near ni) =
-    StartedLine setup call past peer n near ni
-FactLine setup now call past rest (Born j) = BornLine setup now call past j
-FactLine setup now call past rest (Opened j) = TakesAnswer setup call j
-FactLine setup now call past rest (Confirmed peer near) =
-    ConfirmedLine setup call (facts_of past) peer near
-FactLine setup now call past rest (Ended peer near why) =
-    EndedLine setup now call past rest peer near why
+abbrev pub FactLine : Secrets → Setup → ℕ → Call → Past → List Entry → Fact → Type 0
+FactLine secrets setup now call past rest (Started peer n near ni) =
+    StartedLine secrets setup call past peer n near ni
+FactLine secrets setup now call past rest (Born j) = BornLine secrets setup now call past j
+FactLine secrets setup now call past rest (Opened j) = TakesAnswer secrets setup call j
+FactLine secrets setup now call past rest (Confirmed peer near) =
+    ConfirmedLine secrets setup call (facts_of past) peer near
+FactLine secrets setup now call past rest (Ended peer near why) =
+    EndedLine secrets setup now call past rest peer near why
 
 -- The number of an attempt is one of 64 bits, as its keying has 8 bytes for it.
 abbrev pub IsCounted : Fact → Type 0
@@ -306,7 +313,7 @@ AsFarAs (Session generation ni nr fp_i fp_r sid_i sid_r to_responder) facts =
 -- and the session ID and the component of an attempt that is held.
 pub record KeyingOfAttempt (setup : Setup) (context : Context) (facts : List Fact) (near : ℕ)
     (cert part : List ℕ) : Type 0 where
-  pub startup : context ≡ Startup current_generation
+  pub startup : context ≡ Startup setup.generation
   pub own : cert ≡ setup.cert
   pub peer : List ℕ
   pub n : ℕ
@@ -322,7 +329,7 @@ IsBornHere thing j = (thing ≡ Some (HalfOpen j)) ⊎ (thing ≡ Some (KeptAsRe
 -- that was born here and is held, with its values.
 pub record KeyingOfBorn (setup : Setup) (context : Context) (facts : List Fact) (sid near : ℕ)
     (part : List ℕ) : Type 0 where
-  pub startup : context ≡ Startup current_generation
+  pub startup : context ≡ Startup setup.generation
   pub j : Joined
   pub is_held : IsBornHere (held j.peer facts) j
   pub sid_is : sid ≡ j.far
@@ -342,16 +349,19 @@ abbrev pub InSession : Setup → Past → ℕ → Context → Type 0
 InSession setup past sid (Startup generation) = Unit {0}
 InSession setup past sid (Session generation ni nr fp_i fp_r sid_i sid_r to_responder) =
     (thing : Held) × (near : ℕ) × StandsUnder past near thing ×
-    (Session generation ni nr fp_i fp_r sid_i sid_r to_responder ≡ outward (own_of setup) thing) ×
+    (Session generation ni nr fp_i fp_r sid_i sid_r to_responder ≡ outward setup thing) ×
     IsFarOf thing sid
 
-pub record OutLine (setup : Setup) (past : Past) (sent : List ℕ) (context : Context)
-    : Type 0 where
+pub record OutLine (secrets : Secrets) (setup : Setup) (past : Past) (sent : List ℕ)
+    (context : Context) : Type 0 where
   pub sid : ℕ
   pub number : List ℕ
   pub plain : List ℕ
   pub numbered : length number ≡ 16
-  pub is : sent ≡ datagram sid (sealed_in setup.secret context sid number plain)
+  -- under the secret of the context's generation
+  pub secret : List ℕ
+  pub known : get secrets (generation_of context) ≡ Some secret
+  pub is : sent ≡ datagram sid (sealed_in secret context sid number plain)
   pub once : AsFarAs context (facts_of past) → WasNumbered context number past → ⊥
   pub keyings : (packet : Whole) → PacketReading plain (Ok packet) →
       KeyingsAre (λ near cookie cert part sign. KeyingOfAttempt setup context (facts_of past) near
@@ -363,12 +373,12 @@ pub record OutLine (setup : Setup) (past : Past) (sent : List ℕ) (context : Co
 
 -- The session under this session ID is closing; the call takes a datagram in it that has the answer
 -- to a close, or time has gone on for 19,000 ms since it was closed.
-pub record ClosedLine (setup : Setup) (now : ℕ) (call : Call) (past : Past) (near : ℕ)
-    : Type 0 where
+pub record ClosedLine (secrets : Secrets) (setup : Setup) (now : ℕ) (call : Call) (past : Past)
+    (near : ℕ) : Type 0 where
   pub thing : Held
   pub at : ℕ
   pub closing : IsClosing near thing at past
-  pub by : TakesChunkIn setup past thing near (receive_in call) CloseAck ⊎
+  pub by : TakesChunkIn secrets setup past thing near (receive_in call) CloseAck ⊎
       (IsTick call × (at + 19000 ≤ now))
 
 -- ---- the lines of searches
@@ -407,35 +417,37 @@ SearchLine now call past None None = Unit {0}
 
 -- the line of an entry, which is a fact, a datagram that goes out, the end of a closing, the
 -- beginning or the end of a search, or none of these
-abbrev pub LineOf : Setup → ℕ → Call → Past → List Entry → Option Fact → Option Sending →
+abbrev pub LineOf : Secrets → Setup → ℕ → Call → Past → List Entry → Option Fact → Option Sending →
     Option ℕ → Option NamedSearch → Option EndedSearch → Type 0
-LineOf setup now call past rest (Some fact) sent over sought ended =
+LineOf secrets setup now call past rest (Some fact) sent over sought ended =
     Stands (own_of setup) (count (facts_of past)) (facts_of past) fact ×
-    FactLine setup now call past rest fact × IsCounted fact
-LineOf setup now call past rest None (Some sent) over sought ended =
-    OutLine setup past sent.datagram sent.context
-LineOf setup now call past rest None None (Some near) sought ended =
-    ClosedLine setup now call past near
-LineOf setup now call past rest None None None sought ended =
+    FactLine secrets setup now call past rest fact × IsCounted fact
+LineOf secrets setup now call past rest None (Some sent) over sought ended =
+    OutLine secrets setup past sent.datagram sent.context
+LineOf secrets setup now call past rest None None (Some near) sought ended =
+    ClosedLine secrets setup now call past near
+LineOf secrets setup now call past rest None None None sought ended =
     SearchLine now call past sought ended
 
-abbrev pub Line : Setup → ℕ → Call → Past → List Entry → Entry → Type 0
-Line setup now call past rest entry =
-    LineOf setup now call past rest (fact_in entry) (out_in entry) (closed_in entry)
+abbrev pub Line : Secrets → Setup → ℕ → Call → Past → List Entry → Entry → Type 0
+Line secrets setup now call past rest entry =
+    LineOf secrets setup now call past rest (fact_in entry) (out_in entry) (closed_in entry)
     (sought_in entry) (unsought_in entry)
 
 -- the entries of an event, in order
-abbrev pub EntriesLawful : Setup → ℕ → Call → Past → List Entry → Type 0
-EntriesLawful setup now call past [] = Unit {0}
-EntriesLawful setup now call past (entry ∷ rest) = Line setup now call past rest entry ×
-    EntriesLawful setup now call (with_entry now entry past) rest
+abbrev pub EntriesLawful : Secrets → Setup → ℕ → Call → Past → List Entry → Type 0
+EntriesLawful secrets setup now call past [] = Unit {0}
+EntriesLawful secrets setup now call past (entry ∷ rest) =
+    Line secrets setup now call past rest entry ×
+    EntriesLawful secrets setup now call (with_entry now entry past) rest
 
 -- the events of a log, the oldest first, after what was done before
-abbrev pub LawfulFrom : Setup → ℕ → Past → List Event → Type 0
-LawfulFrom setup last past [] = Unit {0}
-LawfulFrom setup last past (e ∷ events) =
-    EntriesLawful setup (moment_at last e) e.call (with_begun (moment_at last e) e past) e.entries ×
-    LawfulFrom setup (moment_at last e) (with_event (moment_at last e) e past) events
+abbrev pub LawfulFrom : Secrets → Setup → ℕ → Past → List Event → Type 0
+LawfulFrom secrets setup last past [] = Unit {0}
+LawfulFrom secrets setup last past (e ∷ events) =
+    EntriesLawful secrets setup (moment_at last e) e.call (with_begun (moment_at last e) e past)
+    e.entries ×
+    LawfulFrom secrets setup (moment_at last e) (with_event (moment_at last e) e past) events
 
-abbrev pub IsLawful : Setup → List Event → Type 0
-IsLawful setup log = LawfulFrom setup 0 nothing_done log
+abbrev pub IsLawful : Secrets → Setup → List Event → Type 0
+IsLawful secrets setup log = LawfulFrom secrets setup 0 nothing_done log

@@ -8,6 +8,7 @@ use Rattle.endpoint_model.specs.Event.{Setup, Call, Open, Seek, Receive, Event}
 use Rattle.endpoint_laws.specs.Past.{facts_of, past_of_log}
 use Rattle.endpoint_model.specs.State.{State, uses}
 use Rattle.endpoint_model.specs.Log.{StandsFor}
+use Rattle.endpoint_laws.specs.Contexts.{Secrets, Knows}
 use Rattle.endpoint_laws.specs.Lawful.{IsLawful}
 
 -- The limits and the sizes of what an end is given.
@@ -35,10 +36,11 @@ abbrev pub AreCalls : List Event → Type 0
 AreCalls [] = Unit {0}
 AreCalls (e ∷ events) = IsCall e.call × AreCalls events
 
--- Each log that an end stands for is lawful.
+-- Each log that an end stands for is lawful by each map of secrets that has what the end was given.
 abbrev pub EveryLogIsLawful : Type 0
-EveryLogIsLawful = (setup : Setup) (log : List Event) (s : State) → IsSetup setup → AreCalls log →
-    StandsFor setup log s → IsLawful setup log
+EveryLogIsLawful = (secrets : Secrets) (setup : Setup) (log : List Event) (s : State) →
+    Knows secrets setup → IsSetup setup → AreCalls log → StandsFor setup log s →
+    IsLawful secrets setup log
 
 -- What an end holds and counts is what the facts of its log say, and each of these facts is lawful.
 abbrev pub TheLedgerIsOfTheLog : Type 0

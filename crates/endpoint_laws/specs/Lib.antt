@@ -1,4 +1,5 @@
 pub mod Past
+pub mod Groups
 pub mod Contexts
 pub mod Taken
 pub mod Admissible

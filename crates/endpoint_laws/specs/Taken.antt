@@ -9,10 +9,10 @@ use Rattle.rtmfp_chunks.specs.Chunk.{Chunk, Spells}
 use Rattle.glare_core.specs.declared.facts.Held.{Held}
 use Rattle.glare_core.specs.declared.facts.Held.TheVariants.{Opening, HalfOpen, KeptAsResponder, KeptAsInitiator}
 use Rattle.session_core.specs.Hearing.{count_of}
-use Rattle.endpoint_model.specs.Event.{Setup, own_of, ReceiveCall}
+use Rattle.endpoint_model.specs.Event.{Setup, ReceiveCall}
 use Rattle.endpoint_model.specs.Keying.{IsAmong, chunks_of}
 use Rattle.endpoint_laws.specs.Past.{Past, Taken, taken_since}
-use Rattle.endpoint_laws.specs.Contexts.{inward, OpensUnder, ReadsUnder}
+use Rattle.endpoint_laws.specs.Contexts.{Secrets, inward, OpensUnder, ReadsUnder}
 
 -- ---- which of them it took
 
@@ -22,28 +22,28 @@ count_in datagram = count_of (drop 4 datagram)
 
 -- The count isn't 0, and of these none that opens in the context has it, or one that is 1,024 or
 -- more above it.
-abbrev pub IsNewAfter : List ℕ → Context → ℕ → ℕ → List Taken → Type 0
-IsNewAfter secret context near count [] = count ≢ 0
-IsNewAfter secret context near count (t ∷ before) =
-    ((plain : List ℕ) → OpensUnder secret context near t.datagram plain →
+abbrev pub IsNewAfter : Secrets → Context → ℕ → ℕ → List Taken → Type 0
+IsNewAfter secrets context near count [] = count ≢ 0
+IsNewAfter secrets context near count (t ∷ before) =
+    ((plain : List ℕ) → OpensUnder secrets context near t.datagram plain →
     (count_in t.datagram ≢ count) × (count_in t.datagram < count + 1024)) ×
-    IsNewAfter secret context near count before
+    IsNewAfter secrets context near count before
 
 -- The datagram goes under the session ID and opens in this context, its number is new after these,
 -- and it is a packet of this mode.
-pub record PassesIn (secret : List ℕ) (context : Context) (mode : Mode) (near : ℕ)
+pub record PassesIn (secrets : Secrets) (context : Context) (mode : Mode) (near : ℕ)
     (before : List Taken) (datagram : List ℕ) : Type 0 where
   pub packet : Whole
-  pub reads : ReadsUnder secret context near datagram packet
-  pub number : IsNewAfter secret context near (count_in datagram) before
+  pub reads : ReadsUnder secrets context near datagram packet
+  pub number : IsNewAfter secrets context near (count_in datagram) before
   pub mode_is : packet.head.mode ≡ mode
 
 -- It took one of these at this moment.
-abbrev pub TookIn : List ℕ → Context → Mode → ℕ → ℕ → List Taken → Type 0
-TookIn secret context mode near moment [] = ⊥
-TookIn secret context mode near moment (t ∷ before) =
-    (PassesIn secret context mode near before t.datagram × (t.moment ≡ moment)) ⊎
-    TookIn secret context mode near moment before
+abbrev pub TookIn : Secrets → Context → Mode → ℕ → ℕ → List Taken → Type 0
+TookIn secrets context mode near moment [] = ⊥
+TookIn secrets context mode near moment (t ∷ before) =
+    (PassesIn secrets context mode near before t.datagram × (t.moment ≡ moment)) ⊎
+    TookIn secrets context mode near moment before
 
 -- the mode of the packets that a session takes
 abbrev pub inward_mode : Held → Mode
@@ -53,27 +53,28 @@ inward_mode (KeptAsResponder j) = FromInitiator
 inward_mode (KeptAsInitiator j) = FromResponder
 
 -- A session of this end, which is this thing under this session ID, took the datagram after these.
-abbrev pub Passes : Setup → Held → ℕ → List Taken → List ℕ → Type 0
-Passes setup thing near before datagram =
-    PassesIn setup.secret (inward (own_of setup) thing) (inward_mode thing) near before datagram
+abbrev pub Passes : Secrets → Setup → Held → ℕ → List Taken → List ℕ → Type 0
+Passes secrets setup thing near before datagram =
+    PassesIn secrets (inward setup thing) (inward_mode thing) near before datagram
 
-abbrev pub TookAt : Setup → Held → ℕ → ℕ → List Taken → Type 0
-TookAt setup thing near moment taken =
-    TookIn setup.secret (inward (own_of setup) thing) (inward_mode thing) near moment taken
+abbrev pub TookAt : Secrets → Setup → Held → ℕ → ℕ → List Taken → Type 0
+TookAt secrets setup thing near moment taken =
+    TookIn secrets (inward setup thing) (inward_mode thing) near moment taken
 
 -- ---- the datagram of a call
 
 -- The session takes the datagram of this call, and among its chunks is this one.
-pub record TakesChunkOf (setup : Setup) (past : Past) (thing : Held) (near : ℕ)
+pub record TakesChunkOf (secrets : Secrets) (setup : Setup) (past : Past) (thing : Held) (near : ℕ)
     (r : ReceiveCall) (chunk : Chunk) : Type 0 where
   pub moment : ℕ
   pub before : List Taken
   pub last : taken_since near past ≡ record { moment = moment; datagram = r.datagram } ∷ before
-  pub passes : Passes setup thing near before r.datagram
+  pub passes : Passes secrets setup thing near before r.datagram
   pub placed : Placed
   pub among : IsAmong placed (chunks_of passes.packet)
   pub spells : Spells chunk placed.kind placed.payload
 
-abbrev pub TakesChunkIn : Setup → Past → Held → ℕ → Option ReceiveCall → Chunk → Type 0
-TakesChunkIn setup past thing near None chunk = ⊥
-TakesChunkIn setup past thing near (Some r) chunk = TakesChunkOf setup past thing near r chunk
+abbrev pub TakesChunkIn : Secrets → Setup → Past → Held → ℕ → Option ReceiveCall → Chunk → Type 0
+TakesChunkIn secrets setup past thing near None chunk = ⊥
+TakesChunkIn secrets setup past thing near (Some r) chunk =
+    TakesChunkOf secrets setup past thing near r chunk

@@ -4,12 +4,14 @@
 ghost use Rattle.endpoint_laws.specs.Agreed.{EveryLawfulHistoryIsAgreed, EachEndStatesItsLog, EachPrefixIsAMoment, LogsKeepTheSame};
 ghost use Rattle.endpoint_laws.specs.Complete.{AdmissibleKeyingsBear, KeyingsWithoutCauseOpen};
 ghost use Rattle.endpoint_laws.specs.Draws.{WhatIsDrawnOnceIsStatedOnce};
+ghost use Rattle.endpoint_laws.specs.Groups.{EachEndHasOneGroup};
 ghost use Rattle.endpoint_laws.specs.Handed.{EveryMessageIsHandedOver};
 ghost use Rattle.endpoint_laws.specs.Within.{FlowsAreWithin, FlowsHoldFew, NoAckIsOwed};
 ghost use Rattle.endpoint_laws.specs.Laws.{EveryLogIsLawful, TheLedgerIsOfTheLog, UsesAreWithin, RowsAreWithin};
 ghost use Rattle.endpoint_laws.specs.OfTheLog.{TheStateIsOfTheLog};
 
-/// Each log that an end stands for is lawful: each of its entries meets its line of the table.
+/// Each log that an end stands for is lawful by each map of secrets that has its own: each of its
+/// entries meets its line of the table.
 pub fn every_log_is_lawful()
     ensures { EveryLogIsLawful }
 {}
@@ -24,6 +26,12 @@ pub fn ledger_of_the_log()
 /// their stages, the rows of its peers, and its moment.
 pub fn state_of_the_log()
     ensures { TheStateIsOfTheLog }
+{}
+
+/// An end has one secret of its group, the one that it was given in its first generation: all that
+/// it sends and takes outside of sessions is under it.
+pub fn has_one_group()
+    ensures { EachEndHasOneGroup }
 {}
 
 /// There are never more attempts, searches and sessions than may be.
@@ -43,7 +51,8 @@ pub fn what_is_drawn_once_is_stated_once()
 {}
 
 /// Each history of ends of one group that is lawful, honest and fresh is agreed: at each moment,
-/// what its ends stated of their sessions with each other fits together.
+/// what its ends stated of their sessions with each other fits together. The group has a secret for
+/// each generation, and the two ends of a session that was opened are in one.
 pub fn agreed()
     ensures { EveryLawfulHistoryIsAgreed }
 {}
