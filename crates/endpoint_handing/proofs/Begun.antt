@@ -8,6 +8,7 @@ use Rattle.rtmfp_forms.specs.Address.{AddressParts}
 use Rattle.glare_core.specs.declared.facts.Fact.{Fact}
 use Rattle.glare_core.specs.declared.facts.Fact.TheVariants.{Born, Opened}
 use Rattle.glare_core.specs.declared.facts.Joined.{Joined}
+use Rattle.crypto_profile.specs.declared.group.GroupSecret.{GroupSecret}
 use Rattle.session_core.specs.declared.stage.Role.{Role}
 use Rattle.session_core.specs.declared.stage.Role.TheVariants.{Initiator, Responder}
 use Rattle.session_core.specs.Session.{SessionState, new_session}
@@ -15,11 +16,12 @@ use Rattle.session_core.proofs.Keyed.{keyed_begun}
 use Rattle.endpoint_model.specs.declared.row.Row.{Row}
 use Rattle.endpoint_model.specs.declared.entry.Entry.TheVariants.{Fact as FactEntry}
 use Rattle.endpoint_model.specs.State.{Sessions, State, Did, new_row}
+use Rattle.endpoint_model.specs.Event.{Setup, first_group}
+use Rattle.endpoint_laws.specs.Groups.{HasOneGroup}
 use Rattle.flow_history.specs.Deeds.{Context, Begins, done, History}
 use Rattle.flow_history.specs.Lawful.{HasBegun}
 use Rattle.endpoint_handing.specs.Once.{SendsIn}
 use Rattle.endpoint_handing.specs.Told.{sends_in, sending_context}
-use Rattle.endpoint_handing.proofs.Pieces.{sealed_for}
 use Rattle.session_deeds.specs.Deeds.{none_yet}
 use Rattle.session_deeds.proofs.Chunks.{none_at_first}
 use Rattle.session_flows.specs.Keeping.{no_flows}
@@ -41,7 +43,7 @@ another near q other = grind (arith, nat_tests)
 
 -- ---- its context
 
-sends_then : (own : List ℕ) (role : Role) (j : Joined) → SendsIn own (sealed_for (sends_in role own j)) (first_fact role j)
+sends_then : (own : List ℕ) (role : Role) (j : Joined) → SendsIn own (sends_in role own j) (first_fact role j)
 sends_then own Initiator j = refl
 sends_then own Responder j = refl
 
@@ -66,9 +68,10 @@ contexts_apart r p own mine j k other e = other (sym (near_is p mine k) ∙ ap n
 
 -- ---- it begins
 
-module _ (e : End) (facts : List Fact) (s t : State) (role : Role) (j : Joined) (from : AddressParts) (moment : ℕ) (rest : Sessions) where
+-- under this secret of the group, which is the one that the end has
+module _ (e : End) (facts : List Fact) (s t : State) (role : Role) (j : Joined) (from : AddressParts) (g : GroupSecret) (moment : ℕ) (rest : Sessions) where
   abbrev session : SessionState
-  session = new_session j t.startup.ledger.own role from t.startup.secret moment
+  session = new_session j t.startup.ledger.own role from g.generation g.secret moment
 
   abbrev begun : Did
   begun = record { state = t; entries = FactEntry (first_fact role j) ∷ [] }
@@ -76,7 +79,7 @@ module _ (e : End) (facts : List Fact) (s t : State) (role : Role) (j : Joined) 
   abbrev more : List Fact
   more = first_fact role j ∷ facts
 
-  module _ (own : t.startup.ledger.own ≡ s.startup.ledger.own) (secret : t.startup.secret ≡ s.startup.secret) (had : AllHad s.sessions rest) (is : t.sessions ≡ insert rest j.near (new_row session)) (h : History) (stands : Stands e facts s h) where
+  module _ (own : t.startup.ledger.own ≡ s.startup.ledger.own) (group : HasOneGroup e.setup s → g ≡ first_group e.setup) (had : AllHad s.sessions rest) (is : t.sessions ≡ insert rest j.near (new_row session)) (h : History) (stands : Stands e facts s h) where
     mine : t.startup.ledger.own ≡ e.own
     mine = own ∙ stands.state.own
 
@@ -93,7 +96,8 @@ module _ (e : End) (facts : List Fact) (s t : State) (role : Role) (j : Joined) 
     new_kept = record {
       id = refl;
       own = mine;
-      keyed = keyed_begun (secret ∙ stands.state.secret) 0 j t.startup.ledger.own role from moment;
+      keyed = keyed_begun (ap (λ (k : GroupSecret). k.secret) (group stands.state.one)) g.generation j t.startup.ledger.own role from moment;
+      generation = ap (λ (k : GroupSecret). k.generation) (group stands.state.one);
       named = named_now e.own role j facts ∙ ap (λ (x : Context). Some x) (sym context);
       flows = subst (λ (x : Context). FlowsKept e.who x no_flows after) (sym context) (record {
         kept = none_yet;
@@ -108,6 +112,7 @@ module _ (e : End) (facts : List Fact) (s t : State) (role : Role) (j : Joined) 
       id = k.id;
       own = k.own;
       keyed = k.keyed;
+      generation = k.generation;
       named = named_still e.own role j facts q other ∙ k.named;
       flows = kept_by e.who (away row.session) row.flows (Begins c) h
           (begins_leaves_be c (away row.session) (contexts_apart role row.session.role e.own row.session.own j row.session.joined (λ (same : row.session.joined.near ≡ j.near). other (sym k.id ∙ same)))) k.flows;
@@ -121,15 +126,15 @@ module _ (e : End) (facts : List Fact) (s t : State) (role : Role) (j : Joined) 
     ]
 
     started : (d : Context) → HasBegun d after → HasStarted e more d
-    started d (inl is_it) = inr (inl (subst (λ (x : Context). SendsIn e.own (sealed_for x) (first_fact role j)) is_it (sends_then e.own role j)))
+    started d (inl is_it) = inr (inl (subst (λ (x : Context). SendsIn e.own x (first_fact role j)) is_it (sends_then e.own role j)))
     started d (inr was) = earlier (stands.begun d was)
       where
         earlier : HasStarted e facts d → HasStarted e more d
         earlier (inl other) = inl other
         earlier (inr before) = inr (inr before)
 
-  pub does_begin : e.begins → t.startup.ledger.own ≡ s.startup.ledger.own → t.startup.secret ≡ s.startup.secret → AllHad s.sessions rest → t.sessions ≡ insert rest j.near (new_row session) → Does e facts s begun
-  does_begin may own secret had is h stands new =
+  pub does_begin : e.begins → t.startup.ledger.own ≡ s.startup.ledger.own → ((setup : Setup) → HasOneGroup setup s → HasOneGroup setup t) → (HasOneGroup e.setup s → g ≡ first_group e.setup) → AllHad s.sessions rest → t.sessions ≡ insert rest j.near (new_row session) → Does e facts s begun
+  does_begin may own one group had is h stands new =
       let context_of_it : Context = sends_in role e.own j in
       let later : History = done e.who (Begins context_of_it) ∷ h in
       record {
@@ -138,8 +143,8 @@ module _ (e : End) (facts : List Fact) (s t : State) (role : Role) (j : Joined) 
         stands = record {
           lawful = ((λ was. new.0 context_of_it (sends_then e.own role j) (stands.begun context_of_it was)), stands.lawful);
           honest = (tt, stands.honest);
-          begun = started own secret had is h stands;
-          state = record { own = own ∙ stands.state.own; secret = secret ∙ stands.state.secret; rows = rows_kept own secret had is h stands };
+          begun = started own group had is h stands;
+          state = record { own = own ∙ stands.state.own; one = one e.setup stands.state.one; rows = rows_kept own group had is h stands };
         };
         log = refl;
         named = (tt, tt);

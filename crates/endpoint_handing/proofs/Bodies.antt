@@ -26,18 +26,19 @@ use Rattle.session_core.specs.Sealed.{number_bytes, sealed_part}
 use Rattle.endpoint_model.specs.Admission.{packet_in}
 use Rattle.endpoint_model.specs.Sending.{session_packet, session_datagram}
 use Rattle.flow_history.specs.Deeds.{Piece}
+use Rattle.endpoint_laws.specs.Contexts.{generation_of}
 use Rattle.endpoint_handing.specs.Told.{sends_in}
 use Rattle.session_deeds.specs.Pieces.{pieces_read, pieces_behind, pieces_of}
-use Rattle.endpoint_handing.proofs.Pieces.{pieces_whole, sealed_for, pieces_in}
+use Rattle.endpoint_handing.proofs.Pieces.{pieces_whole, keys_in, pieces_in}
 use Rattle.endpoint_handing.proofs.Kept.{away, session_of}
 
 -- ---- contexts
 
 -- no key is made of a generation
-keys_away : (secret : List ℕ) (session : SessionState) → keys_of secret (sealed_for (away session)) ≡ keys_of secret (context_of session true)
+keys_away : (secret : List ℕ) (session : SessionState) → keys_in secret (away session) ≡ keys_of secret (context_of session true)
 keys_away secret session = by session.role
   where
-    by : (r : Role) → keys_of secret (sealed_for (sends_in r session.own session.joined)) ≡ keys_of secret (context_of (record session { role = r }) true)
+    by : (r : Role) → keys_in secret (sends_in r session.own session.joined) ≡ keys_of secret (context_of (record session { role = r }) true)
     by Initiator = refl
     by Responder = refl
 
@@ -45,6 +46,13 @@ pub session_away : (session : SessionState) → session_of (context_of session t
 session_away session = by session.role
   where
     by : (r : Role) → session_of (context_of (record session { role = r }) true) ≡ Some (sends_in r session.own session.joined)
+    by Initiator = refl
+    by Responder = refl
+
+pub session_generation : (session : SessionState) (outward : Bool) → generation_of (context_of session outward) ≡ session.generation
+session_generation session outward = by session.role
+  where
+    by : (r : Role) → generation_of (context_of (record session { role = r }) outward) ≡ session.generation
     by Initiator = refl
     by Responder = refl
 

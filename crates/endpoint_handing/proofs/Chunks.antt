@@ -14,11 +14,12 @@ use Rattle.rtmfp_data_chunks.specs.Spelling.{before_next}
 use Rattle.rtmfp_data_chunks.specs.Reader.{data_reading}
 use Rattle.glare_core.specs.declared.facts.Why.TheVariants.{Glare, Override}
 use Rattle.glare_core.specs.declared.facts.Fact.{Fact}
-use Rattle.glare_core.specs.declared.facts.Fact.TheVariants.{Born}
+use Rattle.glare_core.specs.declared.facts.Fact.TheVariants.{Born, Opened}
 use Rattle.glare_core.specs.declared.facts.Held.{Held}
 use Rattle.glare_core.specs.declared.facts.Held.TheVariants.{Opening, HalfOpen, KeptAsResponder}
 use Rattle.glare_core.specs.declared.facts.Held.TheVariants.{KeptAsInitiator}
 use Rattle.glare_core.specs.declared.facts.Joined.{Joined}
+use Rattle.crypto_profile.specs.declared.group.GroupSecret.{GroupSecret}
 use Rattle.glare_core.specs.Calls.{way_made}
 use Rattle.session_core.specs.declared.stage.Role.TheVariants.{Initiator, Responder}
 use Rattle.endpoint_model.specs.declared.config.Draws.{Draws}
@@ -28,19 +29,20 @@ use Rattle.endpoint_model.specs.declared.walk.Walk.{Walk}
 use Rattle.endpoint_model.specs.declared.row.Row.{Row}
 use Rattle.endpoint_model.specs.declared.entry.Entry.TheVariants.{Fact as FactEntry}
 use Rattle.endpoint_model.specs.State.{Sessions, State, Did, fact_entries}
-use Rattle.endpoint_model.specs.State.{with_sessions}
-use Rattle.endpoint_model.specs.Admission.{sid_at}
+use Rattle.endpoint_model.specs.State.{with_sessions, with_startup}
+use Rattle.endpoint_model.specs.Admission.{sid_at, group_at, attempt_group}
 use Rattle.endpoint_model.specs.FlowChunks.{is_of_flows, taking_cause, flow_cause, flow_taken_by}
 use Rattle.endpoint_model.specs.FlowChunks.{flow_taken}
 use Rattle.endpoint_model.specs.Causes.{takes, read_cause}
-use Rattle.endpoint_model.specs.Effects.{without_ended, with_born}
-use Rattle.endpoint_model.specs.Effects.{chunk_did, read_done, walked, chunks_did}
+use Rattle.endpoint_model.specs.Effects.{without_ended, with_born, with_opened}
+use Rattle.endpoint_model.specs.Effects.{initiator_keyed, chunk_did, read_done, walked, chunks_did}
 use Rattle.flow_history.specs.Deeds.{Context, back, Piece, History}
 use Rattle.flow_history.specs.Lawful.{CameIn}
 use Rattle.endpoint_handing.specs.Told.{sending_context, facts_onto}
 use Rattle.rtmfp_data_chunks.proofs.Fitting.{what_is_read_fits, small_next}
 use Rattle.rtmfp_data_chunks.specs.Fitting.{FitsIn, AreSmall}
 use Rattle.session_deeds.specs.Pieces.{pieces_read, pieces_behind}
+use Rattle.endpoint_laws.proofs.Kin.{one_still, group_is_one, attempt_is_one}
 use Rattle.endpoint_handing.proofs.Kept.{End, away, Stands, AreNew, new_split, IsStill, Hands, Does}
 use Rattle.endpoint_handing.proofs.Kept.{hands_after, does_after, does_nothing}
 use Rattle.endpoint_handing.proofs.Silent.{AreSilent, AllHad, had_it, had_left, does_silent}
@@ -70,15 +72,17 @@ way_had m peer (Some (KeptAsResponder j)) = had_left m j.near
 way_had m peer (Some (KeptAsInitiator j)) = had_left m j.near
 
 module _ (e : End) (may : e.begins) (facts : List Fact) where
-  does_birth : (s : State) (peer : List ℕ) (o : Option Held) (j : Joined) (from : AddressParts) → Does e facts s (birth s (way_made peer o) j from)
-  does_birth s peer o j from =
+  does_birth : (s : State) (generation : ℕ) (peer : List ℕ) (o : Option Held) (j : Joined) (from : AddressParts) → Does e facts s (birth s (way_made peer o) j from (group_at s (Startup generation)))
+  does_birth s generation peer o j from =
       let ended : Option Fact = way_made peer o in
       let rest : Sessions = without_ended s.sessions ended in
       let middle : State = with_sessions s rest in
-      let born : State = with_born s ended (Born j) from in
+      let g : GroupSecret = group_at s (Startup generation) in
+      let born : State = with_born s ended (Born j) from g in
       does_after e facts s middle (fact_entries ended) (record { state = born; entries = FactEntry (Born j) ∷ [] })
-      (does_silent e facts s middle (fact_entries ended) (way_silent peer o) (record { own = refl; secret = refl; rows = way_had s.sessions peer o }))
-      (does_begin e (facts_onto (fact_entries ended) facts) middle born Responder j from s.moment rest may refl refl (had_it rest) refl)
+      (does_silent e facts s middle (fact_entries ended) (way_silent peer o) (record { own = refl; one = λ setup one. one_still setup s _ one refl refl refl; rows = way_had s.sessions peer o }))
+      (does_begin e (facts_onto (fact_entries ended) facts) middle born Responder j from g s.moment rest may refl (λ setup one. one_still setup middle born one refl refl refl)
+      (λ one. group_is_one e.setup middle one (Startup generation)) (had_it rest) refl)
 
 -- so it is of all that begins
 pub begins_does : (e : End) → e.begins → Begins (DoesAlways e) (DoesAlways e)
@@ -87,8 +91,12 @@ begins_does e may = record {
   steps = (quiet_does e).sends.steps;
   starts = does_started e;
   seeks = does_sought e;
-  bears = λ s peer o j from facts. does_birth e may facts s peer o j from;
-  opens = λ s startup j from kin facts. does_begin e facts s _ Initiator j from s.moment s.sessions may kin.own kin.secret (had_it s.sessions) refl;
+  bears = λ s generation peer o j from facts. does_birth e may facts s generation peer o j from;
+  opens = λ s startup j from kin facts.
+      (let g : GroupSecret = attempt_group s.group (get s.startup.attempts j.near) in
+      let opened : State = with_opened (with_startup s startup) (Opened j) from g in
+      does_begin e facts s opened Initiator j from g s.moment s.sessions may kin.own (λ setup one. one_still setup (with_startup s startup) opened (kin.one setup one) refl refl refl)
+      (λ one. attempt_is_one e.setup s one j.near) (had_it s.sessions) refl);
 }
 
 -- ---- which place takes which chunk
@@ -154,7 +162,7 @@ module _ (e : End) (owed : FlowsHand e) (facts : List Fact) (s : State) (h : His
     pub hands_chunk : AreNew e facts (chunk_did place from draws walk s c).entries → Hands e facts (chunk_did place from draws walk s c) h
     hands_chunk = chunk_by_kind (λ d. AreNew e facts d.entries → Hands e facts d h) place from draws walk s c (record {
       discarded = λ cause. (quiet_does e).discards s c.at cause facts h stands;
-      initiator = λ kind taken none formed. initiator_made (quiet_does e) (begins_does e (may_begin e place 0x38 (λ q. refl) at taken)) s from draws c.payload facts h stands;
+      initiator = λ kind taken none formed. initiator_at place taken (may_begin e place 0x38 (λ q. refl) at taken);
       responder = λ kind taken none formed. responder_made (quiet_does e) (begins_does e (may_begin e place 0x78 (λ q. refl) at taken)) s (sid_at place) from c.payload facts h stands;
       told = λ told taken has. told_made (quiet_does e) s (sid_at place) from c facts h stands;
       flows = λ is taken none new. taken_at place c.kind (data_reading walk.cursor c.kind c.payload) (λ chunk read. (what_is_read_fits walk.cursor c.kind c.payload chunk small read).0) taken is none came;
@@ -163,6 +171,11 @@ module _ (e : End) (owed : FlowsHand e) (facts : List Fact) (s : State) (h : His
           (λ tag cookie cert is none. hello_made (quiet_does e) (begins_does e (may_begin e place 0x70 (λ q. refl) at (subst (λ (k : ℕ). takes place k ≡ true) (hello_kind c.kind c.payload tag cookie cert is) taken))) s place from tag cookie cert facts h stands)
           (λ read other is none. quiet_read_made (quiet_does e) s place from read other (reply_bare s place from read none) facts h stands) (chunk_reading c.kind c.payload) refl none;
     })
+      where
+        initiator_at : (p : Place) → takes p 0x38 ≡ true → e.begins → AreNew e facts (initiator_keyed s p from draws c.payload).entries → Hands e facts (initiator_keyed s p from draws c.payload) h
+        initiator_at (Startup generation) taken may = initiator_made (quiet_does e) (begins_does e may) s generation from draws c.payload facts h stands
+        initiator_at (Attempt near generation) taken may = absurd (cc)
+        initiator_at (Session near) taken may = absurd (cc)
 
 -- ---- one chunk after another
 

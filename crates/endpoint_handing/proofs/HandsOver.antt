@@ -1,12 +1,12 @@
 -- Every history of ends hands over what was queued, where all that ends do with flows goes with
 -- flows that do.
-use Rattle.std.proofs.Common.{◌≡◌, ℕ, List, [], ◌∷◌, ◌++◌, true, false, inl, inr, refl, sym, subst}
+use Rattle.std.proofs.Common.{ℕ, List, [], ◌∷◌, ◌++◌, true, false, inl, inr, refl, sym, subst}
 use Rattle.rtmfp_data_chunks.specs.HandsOver.{HandsOver, HandsOnce}
 use Rattle.endpoint_model.specs.Event.{Setup, Event}
 use Rattle.endpoint_model.specs.State.{State, fresh}
 use Rattle.endpoint_model.specs.Log.{StandsFor}
 use Rattle.endpoint_laws.specs.History.{Happened, History, log_of, TakesPart}
-use Rattle.endpoint_laws.specs.Agreed.{IsOneGroup}
+use Rattle.endpoint_laws.specs.Contexts.{Secrets}
 use Rattle.flow_history.specs.Log.{Entry as Tell, queued_of, abandoned_of, handed_of}
 use Rattle.flow_history.proofs.Entries.{history_hands_over, history_hands_once}
 use Rattle.flow_history.proofs.Keeps.{tested}
@@ -42,54 +42,45 @@ states_early : (ends : ℕ → Setup) (later early : History) → ((a : ℕ) →
 states_early ends [] early stand = stand
 states_early ends (x ∷ later) early stand = states_early ends later early (λ a. state_before ends x (later ++ early) a (stand a))
 
--- ---- the secret of the group
+-- ---- what is given
 
-secret_of : (ℕ → Setup) → History → List ℕ
-secret_of ends [] = []
-secret_of ends (x ∷ earlier) = (ends x.who).secret
-
-one_secret : (ends : ℕ → Setup) (history : History) → IsOneGroup ends history → (a : ℕ) → TakesPart a history → (ends a).secret ≡ secret_of ends history
-unfolding secret_of
-one_secret ends [] group a part = absurd part
-one_secret ends (x ∷ earlier) group a part = group a x.who part (inl refl)
-
-given_of : (ends : ℕ → Setup) (history : History) → IsOfEnds ends history → Given ends (secret_of ends history) history
-given_of ends history of_ends = record {
+given_of : (secrets : Secrets) (ends : ℕ → Setup) (history : History) → IsOfEnds secrets ends history → Given secrets ends history
+given_of secrets ends history of_ends = record {
   setup = of_ends.setup;
   calls = of_ends.calls;
-  group = one_secret ends history of_ends.group;
+  group = of_ends.group;
   honest = of_ends.honest;
   fresh = of_ends.fresh;
 }
 
-given_early : (ends : ℕ → Setup) (secret : List ℕ) (later early : History) → Given ends secret (later ++ early) → Given ends secret early
-given_early ends secret [] early given = given
-given_early ends secret (x ∷ later) early given = given_early ends secret later early (given_less ends secret x (later ++ early) given)
+given_early : (secrets : Secrets) (ends : ℕ → Setup) (later early : History) → Given secrets ends (later ++ early) → Given secrets ends early
+given_early secrets ends [] early given = given
+given_early secrets ends (x ∷ later) early given = given_early secrets ends later early (given_less secrets ends x (later ++ early) given)
 
 -- ---- the laws
 
 module _ (owed : (e : End) → FlowsHand e) where
-  module _ (ends : ℕ → Setup) (later early : History) (of_ends : IsOfEnds ends (later ++ early)) where
+  module _ (secrets : Secrets) (ends : ℕ → Setup) (later early : History) (of_ends : IsOfEnds secrets ends (later ++ early)) where
     stand : (a : ℕ) → SomeState ends early a
     stand = states_early ends later early (λ a. state_at ends (later ++ early) a (of_ends.stands a))
 
-    early_carried : Carried ends (secret_of ends (later ++ early)) early (λ a. (stand a).0)
-    early_carried = carried ends (secret_of ends (later ++ early)) owed early (given_early ends (secret_of ends (later ++ early)) later early (given_of ends (later ++ early) of_ends)) (λ a. (stand a).0) (λ a. (stand a).1)
+    early_carried : Carried secrets ends early (λ a. (stand a).0)
+    early_carried = carried secrets ends owed early (given_early secrets ends later early (given_of secrets ends (later ++ early) of_ends)) (λ a. (stand a).0) (λ a. (stand a).1)
 
   pub every_history_hands_over : EveryHistoryHandsOver
-  every_history_hands_over ends later early of_ends n order =
-      let c = early_carried ends later early of_ends in
+  every_history_hands_over secrets ends later early of_ends n order =
+      let c = early_carried secrets ends later early of_ends in
       subst (λ (l : List Tell). HandsOver (queued_of n l) (abandoned_of n l) (handed_of n l)) c.log (history_hands_over [] c.flows c.lawful c.honest n (c.order false n order))
 
   pub every_flow_has_an_order : EveryFlowHasAnOrder
-  every_flow_has_an_order ends later early of_ends n =
-      let c = early_carried ends later early of_ends in
+  every_flow_has_an_order secrets ends later early of_ends n =
+      let c = early_carried secrets ends later early of_ends in
       elim (has_an_order c.flows c.lawful c.honest n) [ inl order ↦ inl (c.back false n order) | inr order ↦ inr (c.back true n order) ]
 
   pub every_message_is_told : EveryMessageIsTold
-  every_message_is_told ends later early of_ends = (early_carried ends later early of_ends).named
+  every_message_is_told secrets ends later early of_ends = (early_carried secrets ends later early of_ends).named
 
   pub every_history_hands_once : EveryHistoryHandsOnce
-  every_history_hands_once ends later early of_ends n order =
-      let c = early_carried ends later early of_ends in
+  every_history_hands_once secrets ends later early of_ends n order =
+      let c = early_carried secrets ends later early of_ends in
       subst (λ (l : List Tell). HandsOnce (queued_of n l) (handed_of n l)) c.log (history_hands_once [] c.flows c.lawful c.honest n (c.order true n order))

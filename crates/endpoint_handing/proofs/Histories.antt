@@ -31,6 +31,11 @@ use Rattle.endpoint_laws.specs.History.{IsHonestCall, IsHonest as IsHonestHistor
 use Rattle.endpoint_laws.specs.History.{TakesPart, IsFresh}
 use Rattle.endpoint_laws.proofs.Logged.{tied_to_log}
 use Rattle.endpoint_laws.proofs.Opened.{opens_in_told}
+use Rattle.endpoint_laws.specs.Groups.{HasOneGroup}
+use Rattle.endpoint_laws.specs.Contexts.{Secrets, Knows, generation_of}
+use Rattle.endpoint_laws.specs.Agreed.{HaveOneMap}
+use Rattle.endpoint_handing.proofs.Bodies.{session_generation}
+use Rattle.endpoint_laws.proofs.Groups.{fresh_group}
 use Rattle.flow_history.specs.Deeds.{Context, back, Name, History as Flowing}
 use Rattle.flow_history.specs.Lawful.{HasBegun, IsLawful, WasSent, IsHonest}
 use Rattle.flow_history.specs.Log.{HasOrder, log_of as told_of}
@@ -41,14 +46,15 @@ use Rattle.endpoint_handing.specs.Told.{sending_context, facts_onto, told_onto, 
 use Rattle.endpoint_handing.proofs.Opening.{opened_in_order}
 use Rattle.endpoint_handing.specs.Orders.{OpensIt, HasOrder as IsOrdered}
 use Rattle.endpoint_handing.proofs.Once.{begins_once, names_sender}
-use Rattle.endpoint_handing.proofs.Pieces.{sealed_for, pieces_in}
-use Rattle.endpoint_handing.proofs.Kept.{End, away, FlowsKept, RowKept, StateKept, HasStarted}
+use Rattle.endpoint_handing.proofs.Pieces.{pieces_in}
+use Rattle.endpoint_laws.proofs.Kin.{one_still}
+use Rattle.endpoint_handing.proofs.Kept.{End, away, session_of, FlowsKept, RowKept, StateKept, HasStarted}
 use Rattle.endpoint_handing.proofs.Kept.{Stands, IsNew, AreNew}
-use Rattle.endpoint_handing.proofs.Kept.{Grows, OutWent, OutsWent, Hands}
+use Rattle.endpoint_handing.proofs.Kept.{Grows, WentIn, OutWent, OutsWent, Hands}
 use Rattle.endpoint_handing.proofs.Deeding.{kept_beside}
 use Rattle.endpoint_laws.proofs.Made.{held_is_there}
 use Rattle.endpoint_handing.proofs.Owed.{FlowsHand, OpensAsAsked}
-use Rattle.endpoint_handing.proofs.Receiving.{with_begins, sealed_back, Arrives}
+use Rattle.endpoint_handing.proofs.Receiving.{with_begins, session_back, Arrives}
 use Rattle.endpoint_handing.proofs.Stepping.{GivenWith, answers_hand}
 use Rattle.endpoint_handing.proofs.Logs.{log_mine, log_beside, Before, leads_before, calls_before}
 use Rattle.endpoint_handing.proofs.Logs.{facts_mine, facts_beside, takes_part}
@@ -57,11 +63,11 @@ use Rattle.endpoint_handing.proofs.Logs.{different_under}
 
 -- ---- what is given of a history
 
-pub record Given (ends : ℕ → Setup) (secret : List ℕ) (history : History) : Type 0 where
+pub record Given (secrets : Secrets) (ends : ℕ → Setup) (history : History) : Type 0 where
   pub setup : (who : ℕ) → TakesPart who history → IsSetup (ends who)
   pub calls : (who : ℕ) → AreCalls (log_of who history)
-  pub group : (who : ℕ) → TakesPart who history → (ends who).secret ≡ secret
-  pub honest : IsHonestHistory ends history
+  pub group : HaveOneMap secrets ends history
+  pub honest : IsHonestHistory secrets ends history
   pub fresh : IsFresh ends history
 
 calls_less : (x : Happened) (earlier : History) (a : ℕ) → AreCalls (log_of a (x ∷ earlier)) → AreCalls (log_of a earlier)
@@ -71,8 +77,8 @@ calls_less x earlier a calls = elim (tested x.who a) [
   | inr other ↦ subst AreCalls (log_beside x earlier a other.1) calls
 ]
 
-pub given_less : (ends : ℕ → Setup) (secret : List ℕ) (x : Happened) (earlier : History) → Given ends secret (x ∷ earlier) → Given ends secret earlier
-given_less ends secret x earlier g = record {
+pub given_less : (secrets : Secrets) (ends : ℕ → Setup) (x : Happened) (earlier : History) → Given secrets ends (x ∷ earlier) → Given secrets ends earlier
+given_less secrets ends x earlier g = record {
   setup = λ who part. g.setup who (inr part);
   calls = λ who. calls_less x earlier who (g.calls who);
   group = λ who part. g.group who (inr part);
@@ -85,11 +91,11 @@ given_less ends secret x earlier g = record {
 
 -- ---- what goes with it
 
-abbrev pub plain_end : (ℕ → Setup) → List ℕ → ℕ → End
-plain_end ends secret who = record {
+abbrev pub plain_end : (ℕ → Setup) → ℕ → End
+plain_end ends who = record {
   who = who;
   own = own_of (ends who);
-  secret = secret;
+  setup = ends who;
   elsewhere = λ c. ⊥;
   begins = Unit {0};
   orders = λ b n. Unit {0};
@@ -98,52 +104,54 @@ plain_end ends secret who = record {
 -- at some end a session has begun to send in this context
 pub record Somewhere (ends : ℕ → Setup) (history : History) (c : Context) : Type 0 where
   pub who : ℕ
-  pub stated : HasStated (SendsIn (own_of (ends who)) (sealed_for c)) (facts_at who history)
+  pub stated : HasStated (SendsIn (own_of (ends who)) c) (facts_at who history)
 
-pub record Carried (ends : ℕ → Setup) (secret : List ℕ) (history : History) (states : ℕ → State) : Type 0 where
+pub record Carried (secrets : Secrets) (ends : ℕ → Setup) (history : History) (states : ℕ → State) : Type 0 where
   pub flows : Flowing
   pub lawful : IsLawful flows
   pub honest : IsHonest flows
   pub begun : (c : Context) → HasBegun c flows → Somewhere ends history c
-  pub kept : (a : ℕ) → (ends a).secret ≡ secret → StateKept (plain_end ends secret a) (facts_at a history) (states a) flows
+  pub kept : (a : ℕ) → StateKept (plain_end ends a) (facts_at a history) (states a) flows
   pub log : told_of flows ≡ told ends history
-  pub outs : (c : Context) (datagram : List ℕ) → WasOut datagram (sealed_for c) history → WasSent c (pieces_in secret c datagram) flows
+  -- under the secret of its generation
+  pub outs : (sealing : Sealing) (c : Context) (secret datagram : List ℕ) → session_of sealing ≡ Some c → get secrets (generation_of sealing) ≡ Some secret → WasOut datagram sealing history → WasSent c (pieces_in secret c datagram) flows
   pub order : (b : Bool) (n : Name) → IsOrdered b n ends history → HasOrder b n flows
   pub back : (b : Bool) (n : Name) → HasOrder b n flows → IsOrdered b n ends history
   pub named : AllTold ends history
 
 -- ---- of another end, or as another one
 
-row_as : (e f : End) (facts : List Fact) (near : ℕ) (row : Row) (h : Flowing) → e.who ≡ f.who → e.own ≡ f.own → e.secret ≡ f.secret → RowKept e facts near row h → RowKept f facts near row h
-row_as e f facts near row h who own secret k = record {
+row_as : (e f : End) (facts : List Fact) (near : ℕ) (row : Row) (h : Flowing) → e.who ≡ f.who → e.own ≡ f.own → e.setup ≡ f.setup → RowKept e facts near row h → RowKept f facts near row h
+row_as e f facts near row h who own setup k = record {
   id = k.id;
   own = k.own ∙ own;
-  keyed = subst (λ (group : List ℕ). IsKeyed group row.session) secret k.keyed;
+  keyed = subst (λ (given : Setup). IsKeyed given.secret row.session) setup k.keyed;
+  generation = k.generation ∙ ap (λ (given : Setup). given.generation) setup;
   named = ap (λ (o : List ℕ). sending_context o near facts) (sym own) ∙ k.named;
   flows = subst (λ (w : ℕ). FlowsKept w (away row.session) row.flows h) who k.flows;
 }
 
-state_as : (e f : End) (facts : List Fact) (s : State) (h : Flowing) → e.who ≡ f.who → e.own ≡ f.own → e.secret ≡ f.secret → StateKept e facts s h → StateKept f facts s h
-state_as e f facts s h who own secret k = record {
+state_as : (e f : End) (facts : List Fact) (s : State) (h : Flowing) → e.who ≡ f.who → e.own ≡ f.own → e.setup ≡ f.setup → StateKept e facts s h → StateKept f facts s h
+state_as e f facts s h who own setup k = record {
   own = k.own ∙ own;
-  secret = k.secret ∙ secret;
-  rows = λ near row there. row_as e f facts near row h who own secret (k.rows near row there);
+  one = subst (λ (given : Setup). HasOneGroup given s) setup k.one;
+  rows = λ near row there. row_as e f facts near row h who own setup (k.rows near row there);
 }
 
 -- what another end's deeds leave
 state_beside : (e : End) (who : ℕ) (facts : List Fact) (s : State) (h after : Flowing) → (e.who ≡ who → ⊥) → Grows who h after → StateKept e facts s h → StateKept e facts s after
 state_beside e who facts s h after ne grows k = record {
   own = k.own;
-  secret = k.secret;
+  one = k.one;
   rows = λ near row there.
       (let r = k.rows near row there in
-      record { id = r.id; own = r.own; keyed = r.keyed; named = r.named; flows = kept_beside who e.who (away row.session) row.flows h after ne grows r.flows });
+      record { id = r.id; own = r.own; keyed = r.keyed; generation = r.generation; named = r.named; flows = kept_beside who e.who (away row.session) row.flows h after ne grows r.flows });
 }
 
-fresh_kept : (ends : ℕ → Setup) (secret : List ℕ) (a : ℕ) (h : Flowing) → (ends a).secret ≡ secret → StateKept (plain_end ends secret a) [] (fresh (ends a)) h
-fresh_kept ends secret a h same = record {
+fresh_kept : (ends : ℕ → Setup) (a : ℕ) (h : Flowing) → StateKept (plain_end ends a) [] (fresh (ends a)) h
+fresh_kept ends a h = record {
   own = refl;
-  secret = same;
+  one = fresh_group (ends a);
   rows = λ near row there. absurd (none_is_some row (get {R = nat_cmp} empty near) (get-empty nat_cmp near) there);
 }
 
@@ -154,12 +162,12 @@ some_stated begins P [] f was = absurd was
 some_stated begins P (fact ∷ earlier) f (inl is) = f fact is
 some_stated begins P (fact ∷ earlier) f (inr was) = some_stated begins P earlier f was
 
-module _ (e : End) (from : ℕ) (apart : (fact : Fact) (c : Context) → SendsIn e.own (sealed_for c) fact → e.elsewhere c → ⊥) where
+module _ (e : End) (from : ℕ) (apart : (fact : Fact) (c : Context) → SendsIn e.own c fact → e.elsewhere c → ⊥) where
   one_new : (o : Option Fact) (facts : List Fact) → AreLawful e.own from (fact_and o facts) → AllDifferent (nonces_of (fact_and o facts)) → IsNew e facts o
   one_new None facts lawful different = tt
   one_new (Some fact) facts lawful different = λ c sends started. elim started [
     | inl other ↦ apart fact c sends other
-    | inr own ↦ (begins_once e.own from fact facts (sealed_for c) lawful different).0 sends own
+    | inr own ↦ (begins_once e.own from fact facts c lawful different).0 sends own
   ]
 
   pub are_new : (entries : List Entry) (facts : List Fact) → AreLawful e.own from (facts_onto entries facts) → AllDifferent (nonces_of (facts_onto entries facts)) → AreNew e facts entries
@@ -170,20 +178,29 @@ module _ (e : End) (from : ℕ) (apart : (fact : Fact) (c : Context) → SendsIn
 
 -- ---- what was sent
 
-out_went : (secret datagram : List ℕ) (c : Context) (o : Option Sending) (h : Flowing) → IsOut datagram (sealed_for c) o → OutWent secret o h → WasSent c (pieces_in secret c datagram) h
-out_went secret datagram c None h none went = absurd none
-out_went secret datagram c (Some out) h is went =
-    subst (λ (d : List ℕ). WasSent c (pieces_in secret c d) h) is.0
-    (subst (λ (x : Sealing). OutWent secret (Some (record { to = out.to; datagram = out.datagram; context = x })) h) is.1 went)
+module _ (secrets : Secrets) (setup : Setup) (knows : Knows secrets setup) (sealing : Sealing) (c : Context) (secret datagram : List ℕ) (is_of : session_of sealing ≡ Some c) (known : get secrets (generation_of sealing) ≡ Some secret) where
+  went_so : (h : Flowing) → WentIn setup sealing datagram (Some c) h → WasSent c (pieces_in secret c datagram) h
+  went_so h went =
+      let both : Some setup.secret ≡ Some secret = sym (ap (get secrets) went.0 ∙ knows) ∙ known in
+      let one : setup.secret ≡ secret = cc in
+      subst (λ (given : List ℕ). WasSent c (pieces_in given c datagram) h) one went.1
 
-outs_went : (secret datagram : List ℕ) (c : Context) (entries : List Entry) (h : Flowing) → HasOut datagram (sealed_for c) entries → OutsWent secret entries h → WasSent c (pieces_in secret c datagram) h
-outs_went secret datagram c [] h none went = absurd none
-outs_went secret datagram c (entry ∷ rest) h (inl is) went = out_went secret datagram c (out_in entry) h is went.0
-outs_went secret datagram c (entry ∷ rest) h (inr later) went = outs_went secret datagram c rest h later went.1
+  out_went : (o : Option Sending) (h : Flowing) → IsOut datagram sealing o → OutWent setup o h → WasSent c (pieces_in secret c datagram) h
+  out_went None h none went = absurd none
+  out_went (Some out) h is went =
+      went_so h
+      (subst (λ (o : Option Context). WentIn setup sealing datagram o h) is_of
+      (subst (λ (d : List ℕ). WentIn setup sealing d (session_of sealing) h) is.0
+      (subst (λ (x : Sealing). WentIn setup x out.datagram (session_of x) h) is.1 went)))
+
+  outs_went : (entries : List Entry) (h : Flowing) → HasOut datagram sealing entries → OutsWent setup entries h → WasSent c (pieces_in secret c datagram) h
+  outs_went [] h none went = absurd none
+  outs_went (entry ∷ rest) h (inl is) went = out_went (out_in entry) h is went.0
+  outs_went (entry ∷ rest) h (inr later) went = outs_went rest h later went.1
 
 -- ---- one event
 
-module _ (ends : ℕ → Setup) (secret : List ℕ) (owed : (e : End) → FlowsHand e) (x : Happened) (earlier : History) (given : Given ends secret (x ∷ earlier)) (states : ℕ → State) (carried : Carried ends secret earlier states) (t : State)
+module _ (secrets : Secrets) (ends : ℕ → Setup) (owed : (e : End) → FlowsHand e) (x : Happened) (earlier : History) (given : Given secrets ends (x ∷ earlier)) (states : ℕ → State) (carried : Carried secrets ends earlier states) (t : State)
     (standing : StandsFor (ends x.who) (log_of x.who earlier) (states x.who)) (step : Step (states x.who) x.event t) (later : StandsFor (ends x.who) (log_of x.who (x ∷ earlier)) t) where
   abbrev who : ℕ
   who = x.who
@@ -205,13 +222,13 @@ module _ (ends : ℕ → Setup) (secret : List ℕ) (owed : (e : End) → FlowsH
   it = record {
     who = who;
     own = own;
-    secret = secret;
-    elsewhere = λ c. (a : ℕ) × (a ≡ who → ⊥) × HasStated (SendsIn (own_of (ends a)) (sealed_for c)) (facts_at a earlier);
+    setup = ends who;
+    elsewhere = λ c. (a : ℕ) × (a ≡ who → ⊥) × HasStated (SendsIn (own_of (ends a)) c) (facts_at a earlier);
     begins = Unit {0};
     orders = λ b n. (metadata : List ℕ) → OpensIt n own facts x.event metadata → begins_with_a metadata ≡ b;
   }
 
-  in_group : (ends who).secret ≡ secret
+  in_group : Knows secrets (ends who)
   in_group = given.group who (inl refl)
 
   sized : IsSetup (ends who)
@@ -224,29 +241,29 @@ module _ (ends : ℕ → Setup) (secret : List ℕ) (owed : (e : End) → FlowsH
   started c was =
       let some = carried.begun c was in
       elim (tested some.who who) [
-        | inl same ↦ inr (subst (λ (w : ℕ). HasStated (SendsIn (own_of (ends w)) (sealed_for c)) (facts_at w earlier)) same.0 some.stated)
+        | inl same ↦ inr (subst (λ (w : ℕ). HasStated (SendsIn (own_of (ends w)) c) (facts_at w earlier)) same.0 some.stated)
         | inr other ↦ inl (some.who, other.0, some.stated)
       ]
 
   kept_now : StateKept it facts noted carried.flows
   kept_now =
-      let k = carried.kept who in_group in
-      state_as (plain_end ends secret who) it facts noted carried.flows refl refl refl (record { own = k.own; secret = k.secret; rows = k.rows })
+      let k = carried.kept who in
+      state_as (plain_end ends who) it facts noted carried.flows refl refl refl (record { own = k.own; one = one_still (ends who) (states who) noted k.one refl refl refl; rows = k.rows })
 
   stands : Stands it facts noted carried.flows
   stands = record { lawful = carried.lawful; honest = carried.honest; begun = started; state = kept_now }
 
   -- ---- what begins is new
 
-  apart : (fact : Fact) (c : Context) → SendsIn own (sealed_for c) fact → it.elsewhere c → ⊥
+  apart : (fact : Fact) (c : Context) → SendsIn own c fact → it.elsewhere c → ⊥
   apart fact c sends other = there (takes_part other.0 earlier)
     where
       print : own ≡ own_of (ends other.0)
-      print = some_stated (SendsIn (own_of (ends other.0)) (sealed_for c)) (own ≡ own_of (ends other.0)) (facts_at other.0 earlier) (λ f begins. names_sender own (own_of (ends other.0)) (sealed_for c) fact f sends begins) other.2
+      print = some_stated (SendsIn (own_of (ends other.0)) c) (own ≡ own_of (ends other.0)) (facts_at other.0 earlier) (λ f begins. names_sender own (own_of (ends other.0)) c fact f sends begins) other.2
 
       there : TakesPart other.0 earlier ⊎ (log_of other.0 earlier ≡ []) → ⊥
       there (inl part) = other.1 (given.fresh.prints other.0 who (inr part) (inl refl) (sym print))
-      there (inr none) = subst (λ (l : List Event). HasStated (SendsIn (own_of (ends other.0)) (sealed_for c)) (facts_of (past_of 0 [] l))) none other.2
+      there (inr none) = subst (λ (l : List Event). HasStated (SendsIn (own_of (ends other.0)) c) (facts_of (past_of 0 [] l))) none other.2
 
   lawful_facts : AreLawful own 0 (facts_onto entries facts)
   lawful_facts =
@@ -261,12 +278,13 @@ module _ (ends : ℕ → Setup) (secret : List ℕ) (owed : (e : End) → FlowsH
   arrives : (from : AddressParts) (datagram : List ℕ) (draws : Draws) → x.event.call ≡ Receive from datagram draws → Arrives it noted datagram carried.flows
   arrives from datagram draws is near row there opens =
       let c : Context = back (away row.session) in
-      let at : OpensAt (ends who) (past_at who earlier) datagram (context_of row.session false) =
-      opens_in_told (ends who) (log_of who earlier) (states who) datagram sized calls.0 standing (context_of row.session false) opens in
-      let ours : IsHonestCall (ends who) (past_at who earlier) earlier (Receive from datagram draws) = subst (λ (call : Call). IsHonestCall (ends who) (past_at who earlier) earlier call) is given.honest.0 in
+      let at : OpensAt secrets (ends who) (past_at who earlier) datagram (context_of row.session false) =
+      opens_in_told secrets (ends who) (log_of who earlier) (states who) datagram in_group sized calls.0 standing (context_of row.session false) opens in
+      let ours : IsHonestCall secrets (ends who) (past_at who earlier) earlier (Receive from datagram draws) = subst (λ (call : Call). IsHonestCall secrets (ends who) (past_at who earlier) earlier call) is given.honest.0 in
       let was : WasOut datagram (context_of row.session false) earlier = ours at.contexts (context_of row.session false) at.plain at.named at.opens in
-      let tied = tied_to_log (ends who) (log_of who earlier) (states who) sized calls.0 standing in
-      carried.outs c datagram (subst (λ (d : Sealing). WasOut datagram d earlier) (sym (sealed_back row.session (tied.sessions near row there).generation)) was)
+      let known : get secrets (generation_of (context_of row.session false)) ≡ Some (ends who).secret =
+      ap (get secrets) (session_generation row.session false ∙ (kept_now.rows near row there).generation) ∙ in_group in
+      carried.outs (context_of row.session false) c (ends who).secret datagram (session_back row.session) known was
 
   opens_as_asked : (near : ℕ) (call : FlowCall) → x.event.call ≡ OnFlows near call → entries ≡ (flow_called noted near call).entries → OpensAsAsked it noted near call
   opens_as_asked near (OpenFlow priority metadata answers) is are = λ row held b asked. asked metadata (record {
@@ -297,14 +315,14 @@ module _ (ends : ℕ → Setup) (secret : List ℕ) (owed : (e : End) → FlowsH
   begun_now c was = by (hands.stands.begun c was)
     where
       mine : List Fact → Type 0
-      mine l = HasStated (SendsIn own (sealed_for c)) l
+      mine l = HasStated (SendsIn own c) l
 
       by : HasStarted it (facts_onto entries facts) c → Somewhere ends (x ∷ earlier) c
       by (inl other) = elim (tested who other.0) [
         | inl same ↦ absurd (other.1 (sym same.0))
-        | inr apart ↦ record { who = other.0; stated = subst (λ (l : List Fact). HasStated (SendsIn (own_of (ends other.0)) (sealed_for c)) l) (sym (facts_beside x earlier other.0 apart.1)) other.2 }
+        | inr apart ↦ record { who = other.0; stated = subst (λ (l : List Fact). HasStated (SendsIn (own_of (ends other.0)) c) l) (sym (facts_beside x earlier other.0 apart.1)) other.2 }
       ]
-      by (inr ours) = record { who = who; stated = subst (λ (l : List Fact). HasStated (SendsIn own (sealed_for c)) l) (sym (facts_mine x earlier)) ours }
+      by (inr ours) = record { who = who; stated = subst (λ (l : List Fact). HasStated (SendsIn own c) l) (sym (facts_mine x earlier)) ours }
 
   opened_back : (b : Bool) (n : Name) → HasOrder b n hands.after → (metadata : List ℕ) → OpensIt n own facts x.event metadata → begins_with_a metadata ≡ b
   opened_back b n order metadata opens =
@@ -312,30 +330,31 @@ module _ (ends : ℕ → Setup) (secret : List ℕ) (owed : (e : End) → FlowsH
       (subst (λ (es : List Entry). StateKept it (facts_onto es facts) t hands.after) opens.opened hands.stands.state) x.event.answer n b entries
       (subst (λ (call : Call). Answers noted call x.event.answer entries t) opens.call step) opens.opened opens.context order
 
-  outs_now : (c : Context) (datagram : List ℕ) → WasOut datagram (sealed_for c) (x ∷ earlier) → WasSent c (pieces_in secret c datagram) hands.after
-  outs_now c datagram (inl now) = outs_went secret datagram c entries hands.after now hands.outs
-  outs_now c datagram (inr before) = hands.grows.sent c (pieces_in secret c datagram) (carried.outs c datagram before)
+  outs_now : (sealing : Sealing) (c : Context) (secret datagram : List ℕ) → session_of sealing ≡ Some c → get secrets (generation_of sealing) ≡ Some secret → WasOut datagram sealing (x ∷ earlier) →
+      WasSent c (pieces_in secret c datagram) hands.after
+  outs_now sealing c secret datagram is_of known (inl now) = outs_went secrets (ends who) in_group sealing c secret datagram is_of known entries hands.after now hands.outs
+  outs_now sealing c secret datagram is_of known (inr before) = hands.grows.sent c (pieces_in secret c datagram) (carried.outs sealing c secret datagram is_of known before)
 
   module _ (states_now : ℕ → State) (mine : states_now who ≡ t) (beside : (a : ℕ) → (who == a) ≡ false → states_now a ≡ states a) where
-    kept_by_it : StateKept (plain_end ends secret who) (facts_at who (x ∷ earlier)) (states_now who) hands.after
+    kept_by_it : StateKept (plain_end ends who) (facts_at who (x ∷ earlier)) (states_now who) hands.after
     kept_by_it =
-        subst (λ (u : State). StateKept (plain_end ends secret who) (facts_at who (x ∷ earlier)) u hands.after) (sym mine)
-        (subst (λ (l : List Fact). StateKept (plain_end ends secret who) l t hands.after) (sym (facts_mine x earlier))
-        (state_as it (plain_end ends secret who) (facts_onto entries facts) t hands.after refl refl refl hands.stands.state))
+        subst (λ (u : State). StateKept (plain_end ends who) (facts_at who (x ∷ earlier)) u hands.after) (sym mine)
+        (subst (λ (l : List Fact). StateKept (plain_end ends who) l t hands.after) (sym (facts_mine x earlier))
+        (state_as it (plain_end ends who) (facts_onto entries facts) t hands.after refl refl refl hands.stands.state))
 
-    kept_beside_it : (a : ℕ) → (a ≡ who → ⊥) → (who == a) ≡ false → (ends a).secret ≡ secret → StateKept (plain_end ends secret a) (facts_at a (x ∷ earlier)) (states_now a) hands.after
-    kept_beside_it a ne other same =
-        subst (λ (u : State). StateKept (plain_end ends secret a) (facts_at a (x ∷ earlier)) u hands.after) (sym (beside a other))
-        (subst (λ (l : List Fact). StateKept (plain_end ends secret a) l (states a) hands.after) (sym (facts_beside x earlier a other))
-        (state_beside (plain_end ends secret a) who (facts_at a earlier) (states a) carried.flows hands.after ne hands.grows (carried.kept a same)))
+    kept_beside_it : (a : ℕ) → (a ≡ who → ⊥) → (who == a) ≡ false → StateKept (plain_end ends a) (facts_at a (x ∷ earlier)) (states_now a) hands.after
+    kept_beside_it a ne other =
+        subst (λ (u : State). StateKept (plain_end ends a) (facts_at a (x ∷ earlier)) u hands.after) (sym (beside a other))
+        (subst (λ (l : List Fact). StateKept (plain_end ends a) l (states a) hands.after) (sym (facts_beside x earlier a other))
+        (state_beside (plain_end ends a) who (facts_at a earlier) (states a) carried.flows hands.after ne hands.grows (carried.kept a)))
 
-    kept_all : (a : ℕ) → (ends a).secret ≡ secret → StateKept (plain_end ends secret a) (facts_at a (x ∷ earlier)) (states_now a) hands.after
-    kept_all a same = elim (tested who a) [
-      | inl is ↦ subst (λ (b : ℕ). StateKept (plain_end ends secret b) (facts_at b (x ∷ earlier)) (states_now b) hands.after) is.0 kept_by_it
-      | inr other ↦ kept_beside_it a (λ is. other.0 (sym is)) other.1 same
+    kept_all : (a : ℕ) → StateKept (plain_end ends a) (facts_at a (x ∷ earlier)) (states_now a) hands.after
+    kept_all a = elim (tested who a) [
+      | inl is ↦ subst (λ (b : ℕ). StateKept (plain_end ends b) (facts_at b (x ∷ earlier)) (states_now b) hands.after) is.0 kept_by_it
+      | inr other ↦ kept_beside_it a (λ is. other.0 (sym is)) other.1
     ]
 
-    pub carried_on : Carried ends secret (x ∷ earlier) states_now
+    pub carried_on : Carried secrets ends (x ∷ earlier) states_now
     carried_on = record {
       flows = hands.after;
       lawful = hands.stands.lawful;
@@ -362,20 +381,20 @@ not_chosen : (b : Bool) (s t : State) → b ≡ false → cond b s t ≡ t
 not_chosen true s t e = absurd cc
 not_chosen false s t e = refl
 
-pub carried : (ends : ℕ → Setup) (secret : List ℕ) → ((e : End) → FlowsHand e) → (history : History) → Given ends secret history → (states : ℕ → State) → AllStand ends history states → Carried ends secret history states
-carried ends secret owed [] given states stand = record {
+pub carried : (secrets : Secrets) (ends : ℕ → Setup) → ((e : End) → FlowsHand e) → (history : History) → Given secrets ends history → (states : ℕ → State) → AllStand ends history states → Carried secrets ends history states
+carried secrets ends owed [] given states stand = record {
   flows = [];
   lawful = tt;
   honest = tt;
   begun = λ c none. absurd none;
-  kept = λ a same. subst (λ (s : State). StateKept (plain_end ends secret a) [] s []) (stand a) (fresh_kept ends secret a [] same);
+  kept = λ a. subst (λ (s : State). StateKept (plain_end ends a) [] s []) (stand a) (fresh_kept ends a []);
   log = refl;
-  outs = λ c datagram none. absurd none;
+  outs = λ sealing c secret datagram is_of known none. absurd none;
   order = λ b n asked. tt;
   back = λ b n order. tt;
   named = tt;
 }
-carried ends secret owed (x ∷ earlier) given states stand =
+carried secrets ends owed (x ∷ earlier) given states stand =
     let ours : StandsFor (ends x.who) (log_of x.who earlier ++ x.event ∷ []) (states x.who) = subst (λ (l : List Event). StandsFor (ends x.who) l (states x.who)) (log_mine x earlier) (stand x.who) in
     let before : Before (fresh (ends x.who)) (log_of x.who earlier) x.event (states x.who) = leads_before (log_of x.who earlier) x.event (fresh (ends x.who)) (states x.who) ours in
     let then_states : ℕ → State = λ a. cond (x.who == a) before.middle (states a) in
@@ -385,6 +404,6 @@ carried ends secret owed (x ∷ earlier) given states stand =
       | inr other ↦ subst (λ (s : State). StandsFor (ends a) (log_of a earlier) s) (sym (not_chosen (x.who == a) before.middle (states a) other.1))
           (subst (λ (l : List Event). StandsFor (ends a) l (states a)) (log_beside x earlier a other.1) (stand a))
     ] in
-    carried_on ends secret owed x earlier given then_states (carried ends secret owed earlier (given_less ends secret x earlier given) then_states stand_then) (states x.who) (stand_then x.who)
+    carried_on secrets ends owed x earlier given then_states (carried secrets ends owed earlier (given_less secrets ends x earlier given) then_states stand_then) (states x.who) (stand_then x.who)
     (subst (λ (s : State). Step s x.event (states x.who)) (sym mine) before.step) (stand x.who) states refl
     (λ a other. sym (not_chosen (x.who == a) before.middle (states a) other))

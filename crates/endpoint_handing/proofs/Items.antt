@@ -8,7 +8,7 @@ use Rattle.std.specs.FinMap.{get}
 use Rattle.rtmfp_forms.specs.Address.{AddressParts}
 use Rattle.rtmfp_chunks.specs.declared.reading.ChunkFault.{ChunkFault}
 use Rattle.rtmfp_chunks.specs.Chunk.{Chunk, IHello, FIHello, RHello, Redirect, CookieChange, Ping}
-use Rattle.sha2.specs.Sha256.{sha256}
+use Rattle.crypto_profile.specs.declared.group.GroupSecret.{GroupSecret}
 use Rattle.identity.specs.declared.discriminator.Epd.{Epd}
 use Rattle.identity.specs.Discriminators.{discriminator_of}
 use Rattle.identity.specs.Targets.{selects, target_of}
@@ -32,6 +32,7 @@ use Rattle.endpoint_model.specs.State.{with_sealed}
 use Rattle.endpoint_model.specs.Sending.{startup_datagram}
 use Rattle.endpoint_model.specs.Introducing.{hello_cause}
 use Rattle.endpoint_model.specs.Causes.{read_cause}
+use Rattle.endpoint_model.specs.Admission.{group_at}
 use Rattle.endpoint_model.specs.Effects.{InStartup}
 use Rattle.endpoint_model.specs.Effects.{introduction, hello_reply}
 use Rattle.endpoint_model.specs.Effects.{read_reply}
@@ -47,43 +48,43 @@ use Rattle.endpoint_laws.proofs.Made.{Carries}
 use Rattle.endpoint_handing.proofs.Bodies.{body_pieces}
 use Rattle.endpoint_handing.proofs.Plain.{close_none, close_ack_none, ping_none, reply_none}
 use Rattle.endpoint_handing.proofs.Plain.{hello_none}
-use Rattle.endpoint_laws.proofs.Kin.{IsKin}
+use Rattle.endpoint_laws.proofs.Kin.{IsKin, one_still}
 use Rattle.endpoint_handing.proofs.Sent.{startup_silent, does_out}
 
 -- ---- silent entries
 
 -- neither a Born nor an Opened
 started_silent : (peer : List ℕ) (n near : ℕ) (ni : List ℕ) → IsSilent (FactEntry (Started peer n near ni))
-started_silent peer n near ni = record { told = λ own facts. refl; context = λ own id facts. refl; out = λ secret h. tt; no_message = refl }
+started_silent peer n near ni = record { told = λ own facts. refl; context = λ own id facts. refl; out = λ setup h. tt; no_message = refl }
 
 pub ended_silent : (peer : List ℕ) (near : ℕ) (why : Why) → IsSilent (FactEntry (Ended peer near why))
-ended_silent peer near why = record { told = λ own facts. refl; context = λ own id facts. refl; out = λ secret h. tt; no_message = refl }
+ended_silent peer near why = record { told = λ own facts. refl; context = λ own id facts. refl; out = λ setup h. tt; no_message = refl }
 
 confirmed_silent : (peer : List ℕ) (near : ℕ) → IsSilent (FactEntry (Confirmed peer near))
-confirmed_silent peer near = record { told = λ own facts. refl; context = λ own id facts. refl; out = λ secret h. tt; no_message = refl }
+confirmed_silent peer near = record { told = λ own facts. refl; context = λ own id facts. refl; out = λ setup h. tt; no_message = refl }
 
 closed_silent : (near : ℕ) → IsSilent (Closed near)
-closed_silent near = record { told = λ own facts. refl; context = λ own id facts. refl; out = λ secret h. tt; no_message = refl }
+closed_silent near = record { told = λ own facts. refl; context = λ own id facts. refl; out = λ setup h. tt; no_message = refl }
 
 sought_silent : (near : ℕ) (name : List ℕ) → IsSilent (Sought near name)
-sought_silent near name = record { told = λ own facts. refl; context = λ own id facts. refl; out = λ secret h. tt; no_message = refl }
+sought_silent near name = record { told = λ own facts. refl; context = λ own id facts. refl; out = λ setup h. tt; no_message = refl }
 
 unsought_silent : (near : ℕ) (why : Why) → IsSilent (Unsought near why)
-unsought_silent near why = record { told = λ own facts. refl; context = λ own id facts. refl; out = λ secret h. tt; no_message = refl }
+unsought_silent near why = record { told = λ own facts. refl; context = λ own id facts. refl; out = λ setup h. tt; no_message = refl }
 
 moved_silent : (near : ℕ) (to : AddressParts) → IsSilent (Moved near to)
-moved_silent near to = record { told = λ own facts. refl; context = λ own id facts. refl; out = λ secret h. tt; no_message = refl }
+moved_silent near to = record { told = λ own facts. refl; context = λ own id facts. refl; out = λ setup h. tt; no_message = refl }
 
 discard_silent : (at : ℕ) (cause : Cause) → IsSilent (Discard at cause)
-discard_silent at cause = record { told = λ own facts. refl; context = λ own id facts. refl; out = λ secret h. tt; no_message = refl }
+discard_silent at cause = record { told = λ own facts. refl; context = λ own id facts. refl; out = λ setup h. tt; no_message = refl }
 
 -- ---- states that are alike
 
-alike_startup : (s : State) (t : StartupState) → IsKin s.startup t → IsAlike s (with_startup s t)
-alike_startup s t kin = record { own = kin.own; secret = kin.secret; rows = had_it s.sessions }
+alike_startup : (s : State) (t : StartupState) → IsKin s t → IsAlike s (with_startup s t)
+alike_startup s t kin = record { own = kin.own; one = kin.one; rows = had_it s.sessions }
 
 alike_row : (s : State) (near : ℕ) (old new : Row) → get s.sessions near ≡ Some old → IsSame old new → IsAlike s (with_row s near new)
-alike_row s near old new there same = record { own = refl; secret = refl; rows = had_row s.sessions near old new there same }
+alike_row s near old new there same = record { own = refl; one = λ setup one. one_still setup s _ one refl refl refl; rows = had_row s.sessions near old new there same }
 
 same_on : (old new : Row) → GoesOn old new → IsSame old new
 same_on old new goes =
@@ -111,27 +112,27 @@ module _ (e : End) where
   quiet_does = record {
     sends = record {
       steps = record { does_nothing = λ s facts. does_nothing e facts s; and_then = λ s d f first later facts. does_then e facts s d (λ t. f) (first facts) (later (facts_onto d.entries facts)) };
-      out = λ s to sid plain. does_one s (with_sealed s (s.sealed + 1)) _ (startup_silent to (startup_datagram s sid plain)) (record { own = refl; secret = refl; rows = had_it s.sessions });
+      out = λ s generation keys to sid plain. does_one s (with_sealed s (s.sealed + 1)) _ (startup_silent to (startup_datagram s keys sid plain) generation) (record { own = refl; one = λ setup one. one_still setup s _ one refl refl refl; rows = had_it s.sessions });
       out_in = λ s near row to body is bare facts. does_out e facts s near to body row is bare;
     };
     attempts = λ s startup kin. does_change s (with_startup s startup) (alike_startup s startup kin);
     close = close_none;
     close_ack = close_ack_none;
     empty_ping = ping_none [] (omega arith);
-    discards = λ s at cause. does_one s s _ (discard_silent at cause) (record { own = refl; secret = refl; rows = had_it s.sessions });
+    discards = λ s at cause. does_one s s _ (discard_silent at cause) (record { own = refl; one = λ setup one. one_still setup s _ one refl refl refl; rows = had_it s.sessions });
     ends = λ s startup peer near why kin. does_one s _ _ (ended_silent peer near why) (alike_startup s startup kin);
     unseeks = λ s startup near why kin. does_one s _ _ (unsought_silent near why) (alike_startup s startup kin);
     confirms = λ s startup peer near kin. does_one s _ _ (confirmed_silent peer near) (alike_startup s startup kin);
-    closes = λ s near. does_one s _ _ (closed_silent near) (record { own = refl; secret = refl; rows = had_left s.sessions near });
-    forgets = λ s near. does_change s _ (record { own = refl; secret = refl; rows = had_left s.sessions near });
-    moves = λ s near to. does_one s s _ (moved_silent near to) (record { own = refl; secret = refl; rows = had_it s.sessions });
+    closes = λ s near. does_one s _ _ (closed_silent near) (record { own = refl; one = λ setup one. one_still setup s _ one refl refl refl; rows = had_left s.sessions near });
+    forgets = λ s near. does_change s _ (record { own = refl; one = λ setup one. one_still setup s _ one refl refl refl; rows = had_left s.sessions near });
+    moves = λ s near to. does_one s s _ (moved_silent near to) (record { own = refl; one = λ setup one. one_still setup s _ one refl refl refl; rows = had_it s.sessions });
     goes_on = λ s near old new is goes. does_change s _ (alike_row s near old new is (same_on old new goes));
   }
 
-  pub does_started : (s : State) (startup : StartupState) (peer : List ℕ) (n near : ℕ) (ni : List ℕ) → IsKin s.startup startup → DoesAlways e s (stated s startup (Started peer n near ni))
+  pub does_started : (s : State) (startup : StartupState) (peer : List ℕ) (n near : ℕ) (ni : List ℕ) → IsKin s startup → DoesAlways e s (stated s startup (Started peer n near ni))
   does_started s startup peer n near ni kin = does_one s _ _ (started_silent peer n near ni) (alike_startup s startup kin)
 
-  pub does_sought : (s : State) (startup : StartupState) (near : ℕ) (name : List ℕ) → IsKin s.startup startup → DoesAlways e s (began s startup near name)
+  pub does_sought : (s : State) (startup : StartupState) (near : ℕ) (name : List ℕ) → IsKin s startup → DoesAlways e s (began s startup near name)
   does_sought s startup near name kin = does_one s _ _ (sought_silent near name) (alike_startup s startup kin)
 
 -- ---- hellos, redirects, changes of cookies, and pings
@@ -147,19 +148,19 @@ fails false a is = refl
 narrow : (most : ℕ) (bytes : List ℕ) → where_true (nat_lt most (length bytes)) (Wide (length bytes)) ≡ None → length bytes ≤ most
 narrow most bytes is = ltb-false most (length bytes) (fails (nat_lt most (length bytes)) (Wide (length bytes)) is)
 
-introduced_bare : (s : State) (epd tag : List ℕ) (from : AddressParts) → length tag ≤ 128 → (o : Option Epd) → discriminator_of epd ≡ o → Carries IsBare (introduction s o epd tag from)
-introduced_bare s epd tag from short None is = tt
-introduced_bare s epd tag from short (Some selected) is = hello_none epd tag from (discriminator_length epd selected is) short
+introduced_bare : (s : State) (epd tag : List ℕ) (from : AddressParts) (g : GroupSecret) → length tag ≤ 128 → (o : Option Epd) → discriminator_of epd ≡ o → Carries IsBare (introduction s o epd tag from g)
+introduced_bare s epd tag from g short None is = tt
+introduced_bare s epd tag from g short (Some selected) is = hello_none epd tag from (discriminator_length epd selected is) short
 
-hello_bare : (s : State) (epd tag : List ℕ) (from : AddressParts) → hello_cause s epd tag ≡ None → Carries IsBare (hello_reply s epd tag from)
-hello_bare s epd tag from none = by (selects (target_of epd) s.startup.cert) (narrow 128 tag (first_none (wide tag) _ none))
+hello_bare : (s : State) (epd tag : List ℕ) (from : AddressParts) (g : GroupSecret) → hello_cause s epd tag ≡ None → Carries IsBare (hello_reply s epd tag from g)
+hello_bare s epd tag from g none = by (selects (target_of epd) s.startup.cert) (narrow 128 tag (first_none (wide tag) _ none))
   where
-    by : (own : Bool) → length tag ≤ 128 → Carries IsBare (if own then InStartup (Some (initiator_hello_answer s.startup tag from s.moment)) else introduction s (discriminator_of epd) epd tag from)
+    by : (own : Bool) → length tag ≤ 128 → Carries IsBare (if own then InStartup (Some (initiator_hello_answer s.startup tag from s.moment g)) else introduction s (discriminator_of epd) epd tag from g)
     by true short = tt
-    by false short = introduced_bare s epd tag from short (discriminator_of epd) refl
+    by false short = introduced_bare s epd tag from g short (discriminator_of epd) refl
 
 pub reply_bare : (s : State) (place : Place) (from : AddressParts) (read : Result Chunk ChunkFault) → read_cause s place from read ≡ None → Carries IsBare (read_reply s place from read)
-reply_bare s place from (Ok (IHello epd tag)) none = hello_bare s epd tag from none
+reply_bare s place from (Ok (IHello epd tag)) none = hello_bare s epd tag from (group_at s place) none
 reply_bare s place from (Ok (FIHello epd reply tag)) none = tt
 reply_bare s place from (Ok (RHello tag cookie cert)) none = tt
 reply_bare s place from (Ok (Redirect tag list)) none = tt

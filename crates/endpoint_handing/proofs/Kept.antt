@@ -12,7 +12,10 @@ use Rattle.endpoint_model.specs.declared.row.Row.{Row}
 use Rattle.endpoint_model.specs.declared.entry.Entry.{Entry}
 use Rattle.endpoint_model.specs.Views.{Sending, fact_in, out_in}
 use Rattle.endpoint_model.specs.State.{State, Did, nothing, after_entries, then_do}
+use Rattle.endpoint_model.specs.Event.{Setup}
 use Rattle.endpoint_laws.specs.Past.{fact_and}
+use Rattle.endpoint_laws.specs.Groups.{HasOneGroup}
+use Rattle.endpoint_laws.specs.Contexts.{generation_of}
 use Rattle.flow_history.specs.Flow.{Carried, sending_at, taking_at}
 use Rattle.flow_history.specs.Said.{WasGiven, WasTold}
 use Rattle.flow_history.specs.Deeds.{Context, back, Name, name, Piece, History, steps_of}
@@ -23,18 +26,18 @@ use Rattle.flow_send.specs.Acks.{Told}
 use Rattle.endpoint_handing.specs.Once.{SendsIn, HasBegun as HasStated}
 use Rattle.endpoint_handing.specs.Told.{AllHaveContext, sends_in, sending_context, told_at}
 use Rattle.endpoint_handing.specs.Told.{facts_onto, told_onto}
-use Rattle.endpoint_handing.proofs.Pieces.{sealed_for, pieces_in}
+use Rattle.endpoint_handing.proofs.Pieces.{pieces_in}
 use Rattle.session_deeds.specs.Shows.{Shows}
 
 -- ---- what is kept
 
--- An end whose things are gone through: its number, its fingerprint and its secret; the contexts in
--- which sessions of other ends have begun to send; whether sessions may begin now; and what is
--- asked of the flows that it opens.
+-- An end whose things are gone through: its number, its fingerprint and what it was given; the
+-- contexts in which sessions of other ends have begun to send; whether sessions may begin now; and
+-- what is asked of the flows that it opens.
 pub record End : Type 1 where
   pub who : ℕ
   pub own : List ℕ
-  pub secret : List ℕ
+  pub setup : Setup
   pub elsewhere : Context → Type 0
   pub begins : Type 0
   pub orders : Bool → Name → Type 0
@@ -55,19 +58,20 @@ pub record RowKept (e : End) (facts : List Fact) (near : ℕ) (row : Row) (h : H
     : Type 0 where
   pub id : row.session.joined.near ≡ near
   pub own : row.session.own ≡ e.own
-  pub keyed : IsKeyed e.secret row.session
+  pub keyed : IsKeyed e.setup.secret row.session
+  pub generation : row.session.generation ≡ e.setup.generation
   pub named : sending_context e.own near facts ≡ Some (away row.session)
   pub flows : FlowsKept e.who (away row.session) row.flows h
 
 pub record StateKept (e : End) (facts : List Fact) (s : State) (h : History) : Type 0 where
   pub own : s.startup.ledger.own ≡ e.own
-  pub secret : s.startup.secret ≡ e.secret
+  pub one : HasOneGroup e.setup s
   pub rows : (near : ℕ) (row : Row) → get s.sessions near ≡ Some row →
       RowKept e facts near row h
 
 -- A session has begun to send in this context, of another end or of this one.
 abbrev pub HasStarted : End → List Fact → Context → Type 0
-HasStarted e facts c = e.elsewhere c ⊎ HasStated (SendsIn e.own (sealed_for c)) facts
+HasStarted e facts c = e.elsewhere c ⊎ HasStated (SendsIn e.own c) facts
 
 pub record Stands (e : End) (facts : List Fact) (s : State) (h : History) : Type 0 where
   pub lawful : IsLawful h
@@ -116,8 +120,7 @@ grows_then who a b c p q = record {
 -- A fact begins a session in a new context.
 abbrev pub IsNew : End → List Fact → Option Fact → Type 0
 IsNew e facts None = Unit {0}
-IsNew e facts (Some fact) = (c : Context) → SendsIn e.own (sealed_for c) fact →
-    HasStarted e facts c → ⊥
+IsNew e facts (Some fact) = (c : Context) → SendsIn e.own c fact → HasStarted e facts c → ⊥
 
 abbrev pub AreNew : End → List Fact → List Entry → Type 0
 AreNew e facts [] = Unit {0}
@@ -166,41 +169,43 @@ session_of (Session generation ni nr initiator responder near_i near_r to_respon
   to_responder = to_responder;
 })
 
-abbrev pub WentIn : List ℕ → List ℕ → Option Context → History → Type 0
-WentIn secret datagram None h = Unit {0}
-WentIn secret datagram (Some c) h = WasSent c (pieces_in secret c datagram) h
+-- It goes out in a generation of the end, with its pieces under the end's secret.
+abbrev pub WentIn : Setup → Sealing → List ℕ → Option Context → History → Type 0
+WentIn setup sealing datagram None h = Unit {0}
+WentIn setup sealing datagram (Some c) h = (generation_of sealing ≡ setup.generation)
+    × WasSent c (pieces_in setup.secret c datagram) h
 
-abbrev pub OutWent : List ℕ → Option Sending → History → Type 0
-OutWent secret None h = Unit {0}
-OutWent secret (Some out) h = WentIn secret out.datagram (session_of out.context) h
+abbrev pub OutWent : Setup → Option Sending → History → Type 0
+OutWent setup None h = Unit {0}
+OutWent setup (Some out) h = WentIn setup out.context out.datagram (session_of out.context) h
 
 -- Each datagram that goes out in a session is in the history, with its pieces.
-abbrev pub OutsWent : List ℕ → List Entry → History → Type 0
-OutsWent secret [] h = Unit {0}
-OutsWent secret (entry ∷ rest) h = OutWent secret (out_in entry) h × OutsWent secret rest h
+abbrev pub OutsWent : Setup → List Entry → History → Type 0
+OutsWent setup [] h = Unit {0}
+OutsWent setup (entry ∷ rest) h = OutWent setup (out_in entry) h × OutsWent setup rest h
 
-went_in_later : (who : ℕ) (secret datagram : List ℕ) (o : Option Context) (h after : History) →
-    Grows who h after → WentIn secret datagram o h → WentIn secret datagram o after
-went_in_later who secret datagram None h after grows went = tt
-went_in_later who secret datagram (Some c) h after grows went =
-    grows.sent c (pieces_in secret c datagram) went
+went_in_later : (who : ℕ) (setup : Setup) (sealing : Sealing) (datagram : List ℕ) (o : Option Context) (h after : History) →
+    Grows who h after → WentIn setup sealing datagram o h → WentIn setup sealing datagram o after
+went_in_later who setup sealing datagram None h after grows went = tt
+went_in_later who setup sealing datagram (Some c) h after grows went =
+    (went.0, grows.sent c (pieces_in setup.secret c datagram) went.1)
 
-pub went_later : (who : ℕ) (secret : List ℕ) (o : Option Sending) (h after : History) →
-    Grows who h after → OutWent secret o h → OutWent secret o after
-went_later who secret None h after grows went = tt
-went_later who secret (Some out) h after grows went =
-    went_in_later who secret out.datagram (session_of out.context) h after grows went
+pub went_later : (who : ℕ) (setup : Setup) (o : Option Sending) (h after : History) →
+    Grows who h after → OutWent setup o h → OutWent setup o after
+went_later who setup None h after grows went = tt
+went_later who setup (Some out) h after grows went =
+    went_in_later who setup out.context out.datagram (session_of out.context) h after grows went
 
-pub all_later : (who : ℕ) (secret : List ℕ) (entries : List Entry) (h after : History) →
-    Grows who h after → OutsWent secret entries h → OutsWent secret entries after
-all_later who secret [] h after grows went = tt
-all_later who secret (entry ∷ rest) h after grows went =
-    (went_later who secret (out_in entry) h after grows went.0, all_later who secret rest h after grows went.1)
+pub all_later : (who : ℕ) (setup : Setup) (entries : List Entry) (h after : History) →
+    Grows who h after → OutsWent setup entries h → OutsWent setup entries after
+all_later who setup [] h after grows went = tt
+all_later who setup (entry ∷ rest) h after grows went =
+    (went_later who setup (out_in entry) h after grows went.0, all_later who setup rest h after grows went.1)
 
-outs_append : (secret : List ℕ) (xs ys : List Entry) (h : History) → OutsWent secret xs h →
-    OutsWent secret ys h → OutsWent secret (xs ++ ys) h
-outs_append secret [] ys h p q = q
-outs_append secret (x ∷ xs) ys h p q = (p.0, outs_append secret xs ys h p.1 q)
+outs_append : (setup : Setup) (xs ys : List Entry) (h : History) → OutsWent setup xs h →
+    OutsWent setup ys h → OutsWent setup (xs ++ ys) h
+outs_append setup [] ys h p q = q
+outs_append setup (x ∷ xs) ys h p q = (p.0, outs_append setup xs ys h p.1 q)
 
 -- ---- session IDs that stay
 
@@ -224,7 +229,7 @@ pub record Hands (e : End) (facts : List Fact) (d : Did) (h : History) : Type 0 
   pub stands : Stands e (facts_onto d.entries facts) d.state after
   pub log : log_of after ≡ told_onto e.own facts d.entries (log_of h)
   pub named : AllHaveContext e.own facts d.entries
-  pub outs : OutsWent e.secret d.entries after
+  pub outs : OutsWent e.setup d.entries after
   pub still : (near : ℕ) → e.begins ⊎ IsStill e.own near facts (facts_onto d.entries facts)
   pub order : (b : Bool) (n : Name) → e.orders b n → HasOrder b n h → HasOrder b n after
 
@@ -245,8 +250,8 @@ module _ (e : End) (facts : List Fact) where
     log = later.log ∙ ap (told_onto e.own (facts_onto entries facts) d.entries) first.log
         ∙ sym (told_append e.own entries d.entries facts (log_of h));
     named = named_append e.own entries d.entries facts first.named later.named;
-    outs = outs_append e.secret entries d.entries later.after
-        (all_later e.who e.secret entries first.after later.after later.grows first.outs) later.outs;
+    outs = outs_append e.setup entries d.entries later.after
+        (all_later e.who e.setup entries first.after later.after later.grows first.outs) later.outs;
     still = λ near. subst (λ f. e.begins ⊎ IsStill e.own near facts f)
         (sym (facts_append entries d.entries facts))
         (still_then e.begins e.own near facts (facts_onto entries facts)

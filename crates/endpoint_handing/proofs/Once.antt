@@ -1,7 +1,6 @@
 -- A session begins in a new context, and what is held has begun.
 use Rattle.std.proofs.Common.{◌≡◌, ℕ, List, [], ◌∷◌, Option, Some, None, inl, inr, ◌⊎◌, refl, sym}
-use Rattle.std.proofs.Common.{subst, true, false}
-use Rattle.crypto_profile.specs.declared.keys.Context.{Context}
+use Rattle.std.proofs.Common.{subst, ap, ◌∙◌, Bool, true, false, not}
 use Rattle.glare_core.specs.declared.facts.Fact.{Fact}
 use Rattle.glare_core.specs.declared.facts.Fact.TheVariants.{Started, Born, Opened, Confirmed}
 use Rattle.glare_core.specs.declared.facts.Fact.TheVariants.{Ended}
@@ -14,65 +13,91 @@ use Rattle.glare_core.specs.Things.{IsSession}
 use Rattle.glare_core.specs.Account.{AreLawful}
 use Rattle.glare_core.specs.Steps.{Among}
 use Rattle.glare_core.specs.Told.{AllDifferent}
-use Rattle.glare_core.specs.Tells.{as_initiator, as_responder}
-use Rattle.endpoint_laws.specs.Contexts.{session_context, inward, outward}
+use Rattle.session_core.specs.declared.stage.Role.TheVariants.{Initiator, Responder}
+use Rattle.flow_history.specs.Deeds.{Context, back}
 use Rattle.endpoint_laws.specs.Lawful.{nonces_of}
-use Rattle.endpoint_handing.specs.Once.{SendsIn, TakesIn, HasBegun}
+use Rattle.endpoint_handing.specs.Told.{sends_in}
+use Rattle.endpoint_handing.specs.Once.{SendsIn, TakesIn, HasBegun, HeldSends}
 use Rattle.endpoint_laws.proofs.OutFacts.{opened_nonces, nonce_stays, opened_stays, not_opened}
 use Rattle.endpoint_laws.proofs.OutFacts.{Left, Here, Before, left_by_last}
 
 -- ---- a context that was begun in has the end's nonce
 
-born_same : (own : List ℕ) (j k : Joined) (b : _) →
-    session_context (as_responder own j) b ≡ session_context (as_responder own k) b → j.nr ≡ k.nr
-born_same own j k b e = cc
+born_same : (own : List ℕ) (j k : Joined) →
+    sends_in Responder own j ≡ sends_in Responder own k → j.nr ≡ k.nr
+born_same own j k e = ap (λ (c : Context). c.session.nr) e
 
-opened_same : (own : List ℕ) (j k : Joined) (b : _) →
-    session_context (as_initiator own j) b ≡ session_context (as_initiator own k) b → j.ni ≡ k.ni
-opened_same own j k b e = cc
+opened_same : (own : List ℕ) (j k : Joined) →
+    sends_in Initiator own j ≡ sends_in Initiator own k → j.ni ≡ k.ni
+opened_same own j k e = ap (λ (c : Context). c.session.ni) e
+
+-- the two ends of a session send in different directions, and so they take
+not_both : (own other : List ℕ) (j k : Joined) (c : Context) → sends_in Responder own j ≡ c →
+    sends_in Initiator other k ≡ c → ⊥
+not_both own other j k c e f =
+    let clash : false ≡ true = ap (λ (d : Context). d.to_responder) (e ∙ sym f) in cc
+
+forth : (a b : Context) → back a ≡ back b → a ≡ b
+forth a b e =
+    turned a ∙ ap back e ∙ sym (turned b)
+  where
+    twice : (way : Bool) → way ≡ not (not way)
+    twice true = refl
+    twice false = refl
+
+    turned : (c : Context) → c ≡ back (back c)
+    turned c = ap (λ (way : Bool). let d : Context = record { session = c.session; to_responder = way } in d) (twice c.to_responder)
 
 sent_born : (own : List ℕ) (j : Joined) (facts : List Fact) →
-    HasBegun (SendsIn own (session_context (as_responder own j) false)) facts →
+    HasBegun (SendsIn own (sends_in Responder own j)) facts →
     Among j.nr (nonces_of facts)
 sent_born own j [] h = h
 sent_born own j (Started peer n near ni ∷ earlier) (inl e) = absurd e
-sent_born own j (Born k ∷ earlier) (inl e) = inl (sym (born_same own k j false e))
-sent_born own j (Opened k ∷ earlier) (inl e) = absurd cc
+sent_born own j (Born k ∷ earlier) (inl e) = inl (sym (born_same own k j e))
+sent_born own j (Opened k ∷ earlier) (inl e) =
+    absurd (not_both own own j k (sends_in Responder own j) refl e)
 sent_born own j (Confirmed peer near ∷ earlier) (inl e) = absurd e
 sent_born own j (Ended peer near why ∷ earlier) (inl e) = absurd e
 sent_born own j (fact ∷ earlier) (inr h) = nonce_stays j.nr fact earlier (sent_born own j earlier h)
 
 sent_opened : (own : List ℕ) (j : Joined) (facts : List Fact) →
-    HasBegun (SendsIn own (session_context (as_initiator own j) true)) facts →
+    HasBegun (SendsIn own (sends_in Initiator own j)) facts →
     Among j.ni (opened_nonces facts)
 sent_opened own j [] h = h
 sent_opened own j (Started peer n near ni ∷ earlier) (inl e) = absurd e
-sent_opened own j (Born k ∷ earlier) (inl e) = absurd cc
-sent_opened own j (Opened k ∷ earlier) (inl e) = inl (sym (opened_same own k j true e))
+sent_opened own j (Born k ∷ earlier) (inl e) =
+    absurd (not_both own own k j (sends_in Initiator own j) e refl)
+sent_opened own j (Opened k ∷ earlier) (inl e) = inl (sym (opened_same own k j e))
 sent_opened own j (Confirmed peer near ∷ earlier) (inl e) = absurd e
 sent_opened own j (Ended peer near why ∷ earlier) (inl e) = absurd e
 sent_opened own j (fact ∷ earlier) (inr h) =
     opened_stays j.ni fact earlier (sent_opened own j earlier h)
 
 taken_born : (own : List ℕ) (j : Joined) (facts : List Fact) →
-    HasBegun (TakesIn own (session_context (as_responder own j) true)) facts →
+    HasBegun (TakesIn own (back (sends_in Responder own j))) facts →
     Among j.nr (nonces_of facts)
 taken_born own j [] h = h
 taken_born own j (Started peer n near ni ∷ earlier) (inl e) = absurd e
-taken_born own j (Born k ∷ earlier) (inl e) = inl (sym (born_same own k j true e))
-taken_born own j (Opened k ∷ earlier) (inl e) = absurd cc
+taken_born own j (Born k ∷ earlier) (inl e) =
+    inl (sym (born_same own k j (forth (sends_in Responder own k) (sends_in Responder own j) e)))
+taken_born own j (Opened k ∷ earlier) (inl e) =
+    absurd (not_both own own j k (sends_in Responder own j) refl
+    (forth (sends_in Initiator own k) (sends_in Responder own j) e))
 taken_born own j (Confirmed peer near ∷ earlier) (inl e) = absurd e
 taken_born own j (Ended peer near why ∷ earlier) (inl e) = absurd e
 taken_born own j (fact ∷ earlier) (inr h) =
     nonce_stays j.nr fact earlier (taken_born own j earlier h)
 
 taken_opened : (own : List ℕ) (j : Joined) (facts : List Fact) →
-    HasBegun (TakesIn own (session_context (as_initiator own j) false)) facts →
+    HasBegun (TakesIn own (back (sends_in Initiator own j))) facts →
     Among j.ni (opened_nonces facts)
 taken_opened own j [] h = h
 taken_opened own j (Started peer n near ni ∷ earlier) (inl e) = absurd e
-taken_opened own j (Born k ∷ earlier) (inl e) = absurd cc
-taken_opened own j (Opened k ∷ earlier) (inl e) = inl (sym (opened_same own k j false e))
+taken_opened own j (Born k ∷ earlier) (inl e) =
+    absurd (not_both own own k j (sends_in Initiator own j)
+    (forth (sends_in Responder own k) (sends_in Initiator own j) e) refl)
+taken_opened own j (Opened k ∷ earlier) (inl e) =
+    inl (sym (opened_same own k j (forth (sends_in Initiator own k) (sends_in Initiator own j) e)))
 taken_opened own j (Confirmed peer near ∷ earlier) (inl e) = absurd e
 taken_opened own j (Ended peer near why ∷ earlier) (inl e) = absurd e
 taken_opened own j (fact ∷ earlier) (inr h) =
@@ -119,10 +144,12 @@ begins_once own from fact earlier c lawful d =
 
 pub names_sender : (own other : List ℕ) (c : Context) (fact fact' : Fact) → SendsIn own c fact →
     SendsIn other c fact' → own ≡ other
-names_sender own other c (Born j) (Born k) e f = cc
-names_sender own other c (Born j) (Opened k) e f = absurd cc
-names_sender own other c (Opened j) (Born k) e f = absurd cc
-names_sender own other c (Opened j) (Opened k) e f = cc
+names_sender own other c (Born j) (Born k) e f =
+    ap (λ (d : Context). d.session.responder) (e ∙ sym f)
+names_sender own other c (Born j) (Opened k) e f = absurd (not_both own other j k c e f)
+names_sender own other c (Opened j) (Born k) e f = absurd (not_both other own k j c f e)
+names_sender own other c (Opened j) (Opened k) e f =
+    ap (λ (d : Context). d.session.initiator) (e ∙ sym f)
 names_sender own other c (Started peer n near ni) fact' e f = absurd e
 names_sender own other c (Confirmed peer near) fact' e f = absurd e
 names_sender own other c (Ended peer near why) fact' e f = absurd e
@@ -135,10 +162,16 @@ names_sender own other c (Opened j) (Ended peer near why) e f = absurd f
 
 pub names_taker : (own other : List ℕ) (c : Context) (fact fact' : Fact) → TakesIn own c fact →
     TakesIn other c fact' → own ≡ other
-names_taker own other c (Born j) (Born k) e f = cc
-names_taker own other c (Born j) (Opened k) e f = absurd cc
-names_taker own other c (Opened j) (Born k) e f = absurd cc
-names_taker own other c (Opened j) (Opened k) e f = cc
+names_taker own other c (Born j) (Born k) e f =
+    ap (λ (d : Context). d.session.responder) (e ∙ sym f)
+names_taker own other c (Born j) (Opened k) e f =
+    absurd (not_both own other j k (sends_in Responder own j) refl
+    (forth (sends_in Initiator other k) (sends_in Responder own j) (f ∙ sym e)))
+names_taker own other c (Opened j) (Born k) e f =
+    absurd (not_both other own k j (sends_in Responder other k) refl
+    (forth (sends_in Initiator own j) (sends_in Responder other k) (e ∙ sym f)))
+names_taker own other c (Opened j) (Opened k) e f =
+    ap (λ (d : Context). d.session.initiator) (e ∙ sym f)
 names_taker own other c (Started peer n near ni) fact' e f = absurd e
 names_taker own other c (Confirmed peer near) fact' e f = absurd e
 names_taker own other c (Ended peer near why) fact' e f = absurd e
@@ -206,18 +239,39 @@ held_begun own p begins (fact ∷ earlier) thing b e s =
     begun_last own p begins fact earlier thing b s (left_by_last p fact earlier thing e)
     (λ x was k. held_begun own p begins earlier x b was k)
 
-pub held_sends : (own peer : List ℕ) (facts : List Fact) (thing : Held) →
-    held peer facts ≡ Some thing → IsSession thing →
-    HasBegun (SendsIn own (outward own thing)) facts
-held_sends own peer facts thing e s =
-    held_begun own peer (λ x. SendsIn own (outward own x)) facts thing
-    (record { born = λ j. refl; opened = λ j. refl; confirmed = λ j fs h. h }) e s
+held_is_session : (own : List ℕ) (c : Context) (thing : Held) → HeldSends own c thing →
+    IsSession thing
+held_is_session own c (Opening n near ni) sends = absurd sends
+held_is_session own c (HalfOpen j) sends = tt
+held_is_session own c (KeptAsResponder j) sends = tt
+held_is_session own c (KeptAsInitiator j) sends = tt
 
-pub held_takes : (own peer : List ℕ) (facts : List Fact) (thing : Held) →
-    held peer facts ≡ Some thing → IsSession thing → HasBegun (TakesIn own (inward own thing)) facts
-held_takes own peer facts thing e s =
-    held_begun own peer (λ x. TakesIn own (inward own x)) facts thing
-    (record { born = λ j. refl; opened = λ j. refl; confirmed = λ j fs h. h }) e s
+begun_as : (less more : Fact → Type 0) (facts : List Fact) →
+    ((fact : Fact) → less fact → more fact) → HasBegun less facts → HasBegun more facts
+begun_as less more [] f h = absurd h
+begun_as less more (fact ∷ earlier) f (inl h) = inl (f fact h)
+begun_as less more (fact ∷ earlier) f (inr h) = inr (begun_as less more earlier f h)
+
+pub held_sends : (own peer : List ℕ) (facts : List Fact) (thing : Held) (c : Context) →
+    held peer facts ≡ Some thing → HeldSends own c thing → HasBegun (SendsIn own c) facts
+held_sends own peer facts thing c e sends =
+    begun_as (λ fact. HeldSends own c thing → SendsIn own c fact) (SendsIn own c) facts
+    (λ fact begins. begins sends)
+    (held_begun own peer (λ x fact. HeldSends own c x → SendsIn own c fact) facts thing
+    (record { born = λ j is. is; opened = λ j is. is; confirmed = λ j fs h. h }) e
+    (held_is_session own c thing sends))
+
+pub held_takes : (own peer : List ℕ) (facts : List Fact) (thing : Held) (c : Context) →
+    held peer facts ≡ Some thing → HeldSends own c thing → HasBegun (TakesIn own (back c)) facts
+held_takes own peer facts thing c e sends =
+    begun_as (λ fact. HeldSends own c thing → TakesIn own (back c) fact) (TakesIn own (back c))
+    facts (λ fact begins. begins sends)
+    (held_begun own peer (λ x fact. HeldSends own c x → TakesIn own (back c) fact) facts thing
+    (record {
+      born = λ j is. ap back is;
+      opened = λ j is. ap back is;
+      confirmed = λ j fs h. h;
+    }) e (held_is_session own c thing sends))
 
 -- ---- of all ends
 

@@ -1,12 +1,13 @@
 -- What an end does of a datagram.
-use Rattle.std.proofs.Common.{◌≡◌, ℕ, ◌^◌, ◌<◌, List, [], ◌∷◌, ◌++◌, length, drop, take}
+use Rattle.std.proofs.Common.{◌≡◌, ◌==◌, ℕ, ◌^◌, ◌<◌, List, [], ◌∷◌, ◌++◌, length, drop, take}
 use Rattle.std.proofs.Common.{Bool, true, false}
 use Rattle.std.proofs.Common.{not, nat_lt, if◌then◌else◌, Option, Some, None, Result, Ok, Err, inl}
 use Rattle.std.proofs.Common.{inr}
 use Rattle.std.proofs.Common.{refl, sym, ap, subst, ◌∙◌, append-nil}
 use Rattle.std.proofs.lemmas.List.{take-append-drop}
-use Rattle.std.specs.FinMap.{get}
+use Rattle.std.specs.FinMap.{get, contains_key}
 use Rattle.rtmfp_forms.specs.Address.{AddressParts}
+use Rattle.crypto_profile.specs.declared.group.GroupSecret.{GroupSecret}
 use Rattle.crypto_profile.specs.Keys.{Keys, keys_of}
 use Rattle.crypto_profile.specs.Opening.{plain_of}
 use Rattle.packet_scramble.specs.Datagram.{sid_of}
@@ -30,7 +31,8 @@ use Rattle.session_core.specs.Hearing.{opens_in as opens_in_session, is_new, cou
 use Rattle.session_core.specs.Hearing.{counted}
 use Rattle.crypto_profile.specs.Window.{window_answer}
 use Rattle.rtmfp_base.specs.declared.cause.Cause.{Cause}
-use Rattle.rtmfp_base.specs.declared.cause.Cause.TheVariants.{WrongPlace, Short as ShortDatagram}
+use Rattle.rtmfp_base.specs.declared.cause.Cause.TheVariants.{WrongPlace, UnknownSession, Short as ShortDatagram}
+use Rattle.rtmfp_base.specs.Reasons.{first_that_stands}
 use Rattle.endpoint_model.specs.declared.config.Draws.{Draws}
 use Rattle.endpoint_model.specs.declared.answers.Stopped.{Stopped as Stop}
 use Rattle.endpoint_model.specs.declared.place.Place.{Place}
@@ -40,8 +42,8 @@ use Rattle.endpoint_model.specs.declared.entry.Entry.{Entry}
 use Rattle.endpoint_model.specs.Views.{fact_in}
 use Rattle.endpoint_model.specs.Keying.{chunks_of}
 use Rattle.endpoint_model.specs.State.{State, Did, nothing, then_do}
-use Rattle.endpoint_model.specs.Admission.{packet_in, place_of, opened_in_startup, heard_by}
-use Rattle.endpoint_model.specs.Admission.{heard_in, placed, opened_found}
+use Rattle.endpoint_model.specs.Admission.{packet_in, attempt_group, next_places, places_of, opened_at, heard_by}
+use Rattle.endpoint_model.specs.Admission.{heard_in, placed_or, opened_first}
 use Rattle.endpoint_model.specs.Admission.{counted_by, counted_at, timed_by, timed_at, confirming}
 use Rattle.endpoint_model.specs.Admission.{mode_at, has_mode, Admission, Rejected, Admitted}
 use Rattle.endpoint_model.specs.Admission.{admitted_packet, admitted, admission}
@@ -51,13 +53,14 @@ use Rattle.endpoint_model.specs.FlowChunks.{unowed}
 use Rattle.endpoint_model.specs.Effects.{outset, chunks_did, most_acks, walked_and_acked, received, part_received}
 use Rattle.endpoint_model.specs.Log.{stopped}
 use Rattle.endpoint_laws.specs.Past.{fact_and}
-use Rattle.endpoint_laws.specs.OpensIn.{context_in_session, context_found, opens_in}
+use Rattle.endpoint_laws.specs.OpensIn.{context_in_session, context_first, opens_in}
 use Rattle.flow_history.specs.Deeds.{Context, back, Piece, In, done, History}
 use Rattle.flow_history.specs.Lawful.{HasBegun, WasSent}
 use Rattle.endpoint_handing.specs.Told.{sends_in, facts_onto}
 use Rattle.session_deeds.specs.Pieces.{pieces_read, pieces_behind, pieces_of}
-use Rattle.endpoint_handing.proofs.Pieces.{pieces_whole, sealed_for, pieces_in}
-use Rattle.endpoint_handing.proofs.Kept.{End, away, HasStarted, Stands, IsNew, AreNew, new_split}
+use Rattle.endpoint_handing.proofs.Pieces.{pieces_whole, keys_in, pieces_in}
+use Rattle.endpoint_laws.proofs.Kin.{one_still}
+use Rattle.endpoint_handing.proofs.Kept.{End, away, session_of, HasStarted, Stands, IsNew, AreNew, new_split}
 use Rattle.endpoint_handing.proofs.Kept.{grows_then, Hands, Does, hands_after}
 use Rattle.endpoint_handing.proofs.Kept.{does_nothing}
 use Rattle.endpoint_handing.proofs.Deeding.{grows_by, kept_by}
@@ -72,12 +75,12 @@ use Rattle.endpoint_handing.proofs.Chunks.{BeginsAt, AllCame, AllCameAt, stays, 
 -- ---- before the chunks
 
 alike_itself : (s : State) → IsAlike s s
-alike_itself s = record { own = refl; secret = refl; rows = had_it s.sessions }
+alike_itself s = record { own = refl; one = λ setup one. one; rows = had_it s.sessions }
 
 alike_then : (a b c : State) → IsAlike a b → IsAlike b c → IsAlike a c
 alike_then a b c p q = record {
   own = q.own ∙ p.own;
-  secret = q.secret ∙ p.secret;
+  one = λ setup one. q.one setup (p.one setup one);
   rows = λ near row there.
       (let two = q.rows near row there in
       let one = p.rows near two.old two.there in
@@ -86,7 +89,7 @@ alike_then a b c p q = record {
 
 counted_alike : (s : State) (near : ℕ) (part : List ℕ) (o : Option Row) → get s.sessions near ≡ o → IsAlike s (counted_by s near part o)
 counted_alike s near part None is = alike_itself s
-counted_alike s near part (Some row) is = record { own = refl; secret = refl; rows = had_row s.sessions near row (record row { session = counted row.session part }) is (record { joined = refl; own = refl; role = refl; generation = refl; inward = refl; outward = refl; flows = refl }) }
+counted_alike s near part (Some row) is = record { own = refl; one = λ setup one. one_still setup s _ one refl refl refl; rows = had_row s.sessions near row (record row { session = counted row.session part }) is (record { joined = refl; own = refl; role = refl; generation = refl; inward = refl; outward = refl; flows = refl }) }
 
 alike_counted : (s : State) (place : Place) (part : List ℕ) → IsAlike s (counted_at s place part)
 alike_counted s (Startup generation) part = alike_itself s
@@ -95,7 +98,7 @@ alike_counted s (Session near) part = counted_alike s near part (get s.sessions 
 
 timed_alike : (s : State) (near : ℕ) (head : PacketHead) (o : Option Row) → get s.sessions near ≡ o → IsAlike s (timed_by s near head o)
 timed_alike s near head None is = alike_itself s
-timed_alike s near head (Some row) is = record { own = refl; secret = refl; rows = had_row s.sessions near row (record row { session = with_stamps head s.moment row.session }) is (record { joined = refl; own = refl; role = refl; generation = refl; inward = refl; outward = refl; flows = refl }) }
+timed_alike s near head (Some row) is = record { own = refl; one = λ setup one. one_still setup s _ one refl refl refl; rows = had_row s.sessions near row (record row { session = with_stamps head s.moment row.session }) is (record { joined = refl; own = refl; role = refl; generation = refl; inward = refl; outward = refl; flows = refl }) }
 
 alike_timed : (s : State) (place : Place) (head : PacketHead) → IsAlike s (timed_at s place head)
 alike_timed s (Startup generation) head = alike_itself s
@@ -118,6 +121,24 @@ abbrev pub AdmissionIs : State → List ℕ → Admission → Type 0
 AdmissionIs s datagram (Rejected t cause) = IsAlike s t
 AdmissionIs s datagram (Admitted t place packet) = IsAlike s t × OpensAt s datagram place packet
 
+abbrev IsOutside : Place → Type 0
+IsOutside (Startup generation) = Unit {0}
+IsOutside (Attempt near generation) = Unit {0}
+IsOutside (Session near) = ⊥
+
+abbrev AreOutside : List Place → Type 0
+AreOutside [] = Unit {0}
+AreOutside (place ∷ rest) = IsOutside place × AreOutside rest
+
+any_opens : (s : State) (datagram : List ℕ) (place : Place) (packet : Whole) → IsOutside place → OpensAt s datagram place packet
+any_opens s datagram (Startup generation) packet out = tt
+any_opens s datagram (Attempt near generation) packet out = tt
+any_opens s datagram (Session near) packet out = absurd out
+
+next_outside : (next : Option GroupSecret) → AreOutside (next_places next)
+next_outside None = tt
+next_outside (Some g) = (tt, tt)
+
 module _ (s : State) (datagram : List ℕ) where
   abbrev part : List ℕ
   part = drop 4 datagram
@@ -134,9 +155,15 @@ module _ (s : State) (datagram : List ℕ) where
       by true = (alike_then s counted_state (timed_at counted_state place packet.head) (alike_counted s place part) (alike_timed counted_state place packet.head), opens packet refl)
       by false = alike_counted s place part
 
-  startup_is : (place : Place) → ((packet : Whole) → OpensAt s datagram place packet) → (r : Result (List ℕ) Cause) → AdmissionIs s datagram (admitted s datagram (placed place r))
-  startup_is place any (Ok plain) = packet_is place (packet_in plain) (λ packet is. any packet)
-  startup_is place any (Err cause) = alike_itself s
+  -- outside of sessions, at the first of these places at which it opens
+  outside_is : (cause : Cause) (places : List Place) → AreOutside places → AdmissionIs s datagram (admitted s datagram (opened_first s cause places part))
+  outside_is cause [] are = alike_itself s
+  outside_is cause (place ∷ rest) are = by (opened_at s place part) (λ last. outside_is last rest are.1)
+    where
+      by : (r : Result (List ℕ) Cause) → ((last : Cause) → AdmissionIs s datagram (admitted s datagram (opened_first s last rest part))) →
+          AdmissionIs s datagram (admitted s datagram (placed_or place r (λ last. opened_first s last rest part)))
+      by (Ok plain) further = packet_is place (packet_in plain) (λ packet is. any_opens s datagram place packet are.0)
+      by (Err last) further = further last
 
   heard_opens : (session : SessionState) → unheard session part ≡ None → opens_in_session session part ≡ true
   heard_opens session none = by (nat_lt (length part) 32) (opens_in_session session part) (is_new (window_answer session.window (count_of part))) none
@@ -146,37 +173,55 @@ module _ (s : State) (datagram : List ℕ) where
       by false true new is = refl
       by false false new is = absurd cc
 
-  module _ (long : nat_lt (length datagram) 36 ≡ false) (near : ℕ) (place : place_of s (sid_of datagram) ≡ Some (Session near)) (row : Row) (there : get s.sessions near ≡ Some row) where
+  module _ (long : nat_lt (length datagram) 36 ≡ false) (near : ℕ) (place : places_of s (sid_of datagram) ≡ Session near ∷ []) (row : Row) (there : get s.sessions near ≡ Some row) where
     context_found_here : opens_in_session row.session part ≡ true → opens_in s datagram ≡ Some (context_of row.session false)
     context_found_here opens =
-        ap (λ (b : Bool). if b then None else context_found s (place_of s (sid_of datagram)) part) long
-        ∙ ap (λ (p : Option Place). context_found s p part) place
-        ∙ ap (λ (o : Option Row). context_in_session o part) there
-        ∙ ap (λ (b : Bool). if b then Some (context_of row.session false) else None) opens
+        ap (λ (b : Bool). if b then None else context_first s (places_of s (sid_of datagram)) part) long
+        ∙ ap (λ (ps : List Place). context_first s ps part) place
+        ∙ ap (λ (o : Option Row). first_that_stands (context_in_session o part ∷ [])) there
+        ∙ ap (λ (b : Bool). first_that_stands ((if b then Some (context_of row.session false) else None) ∷ [])) opens
 
-    heard_is : (u : Option Unheard) → unheard row.session part ≡ u → AdmissionIs s datagram (admitted s datagram (placed (Session near) (heard_by row.session part u)))
+    heard_is : (u : Option Unheard) → unheard row.session part ≡ u → AdmissionIs s datagram (admitted s datagram (placed_or (Session near) (heard_by row.session part u) (λ last. Err last)))
     heard_is None is = packet_is (Session near) (packet_in (plain_of row.session.inward part)) (λ packet read. record { row = row; there = there; reads = read; opens = context_found_here (heard_opens row.session is) })
     heard_is (Some ShortPart) is = alike_itself s
     heard_is (Some WrongTag) is = alike_itself s
     heard_is (Some OldNumber) is = alike_itself s
 
-  session_is : nat_lt (length datagram) 36 ≡ false → (near : ℕ) → place_of s (sid_of datagram) ≡ Some (Session near) → (o : Option Row) → get s.sessions near ≡ o →
-      AdmissionIs s datagram (admitted s datagram (placed (Session near) (heard_in o part)))
+  session_is : nat_lt (length datagram) 36 ≡ false → (near : ℕ) → places_of s (sid_of datagram) ≡ Session near ∷ [] → (o : Option Row) → get s.sessions near ≡ o →
+      AdmissionIs s datagram (admitted s datagram (placed_or (Session near) (heard_in o part) (λ last. Err last)))
   session_is long near place None is = alike_itself s
   session_is long near place (Some row) is = heard_is long near place row is (unheard row.session part) refl
 
-  place_is : nat_lt (length datagram) 36 ≡ false → (o : Option Place) → place_of s (sid_of datagram) ≡ o → AdmissionIs s datagram (admitted s datagram (opened_found s o part))
-  place_is long None is = alike_itself s
-  place_is long (Some (Startup generation)) is = startup_is (Startup generation) (λ packet. tt) (opened_in_startup s generation 0 part)
-  place_is long (Some (Attempt near generation)) is = startup_is (Attempt near generation) (λ packet. tt) (opened_in_startup s generation near part)
-  place_is long (Some (Session near)) is = session_is long near is (get s.sessions near) refl
+  abbrev sid : ℕ
+  sid = sid_of datagram
+
+  abbrev attempt_place : Place
+  attempt_place = Attempt sid (attempt_group s.group (get s.startup.attempts sid)).generation
+
+  -- the places of its session ID, by what has that
+  abbrev places_by : Bool → Bool → Bool → List Place
+  places_by zero attempt session =
+      if zero then Startup s.group.generation ∷ next_places s.next else if attempt then attempt_place ∷ [] else if session then Session sid ∷ [] else []
+
+  places_are : (zero attempt session : Bool) → (sid == 0) ≡ zero → contains_key s.startup.attempts sid ≡ attempt → contains_key s.sessions sid ≡ session → places_of s sid ≡ places_by zero attempt session
+  places_are zero attempt session is_zero is_attempt is_session =
+      ap (λ (b : Bool). places_by b (contains_key s.startup.attempts sid) (contains_key s.sessions sid)) is_zero
+      ∙ ap (λ (b : Bool). places_by zero b (contains_key s.sessions sid)) is_attempt
+      ∙ ap (λ (b : Bool). places_by zero attempt b) is_session
+
+  first_is : nat_lt (length datagram) 36 ≡ false → (zero attempt session : Bool) → places_of s sid ≡ places_by zero attempt session →
+      AdmissionIs s datagram (admitted s datagram (opened_first s UnknownSession (places_by zero attempt session) part))
+  first_is long true attempt session are = outside_is UnknownSession (places_by true attempt session) (tt, next_outside s.next)
+  first_is long false true session are = outside_is UnknownSession (places_by false true session) (tt, tt)
+  first_is long false false true are = session_is long sid are (get s.sessions sid) refl
+  first_is long false false false are = alike_itself s
 
   pub admission_is : AdmissionIs s datagram (admission s datagram)
   admission_is = by (nat_lt (length datagram) 36) refl
     where
-      by : (b : Bool) → nat_lt (length datagram) 36 ≡ b → AdmissionIs s datagram (admitted s datagram (if b then Err ShortDatagram else opened_found s (place_of s (sid_of datagram)) part))
+      by : (b : Bool) → nat_lt (length datagram) 36 ≡ b → AdmissionIs s datagram (admitted s datagram (if b then Err ShortDatagram else opened_first s UnknownSession (places_of s (sid_of datagram)) part))
       by true is = alike_itself s
-      by false is = place_is is (place_of s (sid_of datagram)) refl
+      by false is = first_is is (sid == 0) (contains_key s.startup.attempts sid) (contains_key s.sessions sid) refl
 
 -- ---- whether sessions may begin
 
@@ -191,8 +236,8 @@ module _ (e : End) (A B : Type 0) where
     begun = k.begun;
     state = record {
       own = k.state.own;
-      secret = k.state.secret;
-      rows = λ near row there. (let r = k.state.rows near row there in record { id = r.id; own = r.own; keyed = r.keyed; named = r.named; flows = r.flows });
+      one = k.state.one;
+      rows = λ near row there. (let r = k.state.rows near row there in record { id = r.id; own = r.own; keyed = r.keyed; generation = r.generation; named = r.named; flows = r.flows });
     };
   }
 
@@ -258,18 +303,19 @@ module _ (e : End) (owed : FlowsHand e) (place : Place) (from : AddressParts) (d
 
 -- ---- the datagram came
 
-pub sealed_back : (session : SessionState) → session.generation ≡ 0 → sealed_for (back (away session)) ≡ context_of session false
-sealed_back session first = by session.role ∙ ap (λ (g : ℕ). context_of (record session { generation = g }) false) (sym first)
+-- the context of a session towards its end is the one back of that in which it sends
+pub session_back : (session : SessionState) → session_of (context_of session false) ≡ Some (back (away session))
+session_back session = by session.role
   where
-    by : (r : Role) → sealed_for (back (sends_in r session.own session.joined)) ≡ context_of (record session { role = r; generation = 0 }) false
+    by : (r : Role) → session_of (context_of (record session { role = r }) false) ≡ Some (back (sends_in r session.own session.joined))
     by Initiator = refl
     by Responder = refl
 
 -- no key is made of a generation
-keys_back : (secret : List ℕ) (session : SessionState) → keys_of secret (sealed_for (back (away session))) ≡ keys_of secret (context_of session false)
+keys_back : (secret : List ℕ) (session : SessionState) → keys_in secret (back (away session)) ≡ keys_of secret (context_of session false)
 keys_back secret session = by session.role
   where
-    by : (r : Role) → keys_of secret (sealed_for (back (sends_in r session.own session.joined))) ≡ keys_of secret (context_of (record session { role = r }) false)
+    by : (r : Role) → keys_in secret (back (sends_in r session.own session.joined)) ≡ keys_of secret (context_of (record session { role = r }) false)
     by Initiator = refl
     by Responder = refl
 
@@ -282,7 +328,7 @@ came_pieces secret session datagram packet keyed reads =
 -- What opens in a session's context was sent in it.
 abbrev pub Arrives : End → State → List ℕ → History → Type 0
 Arrives e s datagram h = (near : ℕ) (row : Row) → get s.sessions near ≡ Some row → opens_in s datagram ≡ Some (context_of row.session false) →
-    WasSent (back (away row.session)) (pieces_in e.secret (back (away row.session)) datagram) h
+    WasSent (back (away row.session)) (pieces_in e.setup.secret (back (away row.session)) datagram) h
 
 module _ (e : End) (facts : List Fact) (c : Context) (pieces : List Piece) (h : History) where
   abbrev taken : History
@@ -295,10 +341,10 @@ module _ (e : End) (facts : List Fact) (c : Context) (pieces : List Piece) (h : 
     begun = λ d was. earlier d was;
     state = record {
       own = k.state.own;
-      secret = k.state.secret;
+      one = k.state.one;
       rows = λ near row there.
           (let r = k.state.rows near row there in
-          record { id = r.id; own = r.own; keyed = r.keyed; named = r.named; flows = kept_by e.who (away row.session) row.flows (In c pieces) h (record { sends = λ f k. refl; takes = λ f k. refl }) r.flows });
+          record { id = r.id; own = r.own; keyed = r.keyed; generation = r.generation; named = r.named; flows = kept_by e.who (away row.session) row.flows (In c pieces) h (record { sends = λ f k. refl; takes = λ f k. refl }) r.flows });
     };
   }
     where
@@ -352,10 +398,10 @@ module _ (e : End) (owed : (A : Type 0) → FlowsHand (with_begins e A)) (from :
     hands_inside near opens alike arrives before stands new =
         let row : Row = opens.row in
         let c : Context = back (away row.session) in
-        let pieces : List Piece = pieces_in e.secret c datagram in
+        let pieces : List Piece = pieces_in e.setup.secret c datagram in
         let kept = before.state.rows near row opens.there in
         let sent : WasSent c pieces h = arrives near row opens.there opens.opens in
-        let are : pieces ≡ pieces_of (chunks_of packet) = came_pieces e.secret row.session datagram packet kept.keyed opens.reads in
+        let are : pieces ≡ pieces_of (chunks_of packet) = came_pieces e.setup.secret row.session datagram packet kept.keyed opens.reads in
         let now : History = taken shut_end facts c pieces h in
         let all : AllCame shut_end near facts None cs now = record {
           context = away row.session;

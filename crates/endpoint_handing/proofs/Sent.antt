@@ -15,17 +15,18 @@ use Rattle.endpoint_model.specs.Sending.{session_datagram, sent_by}
 use Rattle.flow_history.specs.Deeds.{Context, Piece, Out, done, History}
 use Rattle.flow_history.specs.Lawful.{MayDo, WasSent}
 use Rattle.endpoint_handing.proofs.Pieces.{pieces_in}
+use Rattle.endpoint_laws.proofs.Kin.{one_still}
 use Rattle.endpoint_handing.proofs.Kept.{End, away, RowKept, Stands, WentIn, Hands, Does}
 use Rattle.endpoint_handing.proofs.Kept.{does_nothing}
 use Rattle.endpoint_handing.proofs.Deeding.{grows_by, kept_by, out_leaves_be, out_orders}
 use Rattle.endpoint_handing.proofs.Silent.{IsSilent, IsSame, same_itself, row_same, had_row}
 use Rattle.endpoint_handing.proofs.Silent.{IsAlike}
-use Rattle.endpoint_handing.proofs.Bodies.{body_pieces, datagram_pieces, session_away}
+use Rattle.endpoint_handing.proofs.Bodies.{body_pieces, datagram_pieces, session_away, session_generation}
 
 -- ---- in the startup context
 
-pub startup_silent : (to : AddressParts) (datagram : List ℕ) → IsSilent (OutEntry to datagram (Startup 0))
-startup_silent to datagram = record { told = λ own facts. refl; context = λ own near facts. refl; out = λ secret h. tt; no_message = refl }
+pub startup_silent : (to : AddressParts) (datagram : List ℕ) (generation : ℕ) → IsSilent (OutEntry to datagram (Startup generation))
+startup_silent to datagram generation = record { told = λ own facts. refl; context = λ own near facts. refl; out = λ setup h. tt; no_message = refl }
 
 -- ---- in a session
 
@@ -42,6 +43,7 @@ module _ (e : End) (facts : List Fact) (c : Context) (pieces : List Piece) (h : 
     id = k.id;
     own = k.own;
     keyed = k.keyed;
+    generation = k.generation;
     named = k.named;
     flows = kept_by e.who (away row.session) row.flows (Out c pieces) h (out_leaves_be c pieces (away row.session)) k.flows;
   }
@@ -53,7 +55,7 @@ module _ (e : End) (facts : List Fact) (c : Context) (pieces : List Piece) (h : 
     begun = λ d was. elim was [ inl none ↦ absurd none | inr before ↦ stands.begun d before ];
     state = record {
       own = alike.own ∙ stands.state.own;
-      secret = alike.secret ∙ stands.state.secret;
+      one = alike.one e.setup stands.state.one;
       rows = λ near row there.
           (let was = alike.rows near row there in
           row_out near row (row_same e facts near h was.old row was.same (stands.state.rows near was.old was.there)));
@@ -75,10 +77,10 @@ module _ (e : End) (facts : List Fact) (s : State) (near : ℕ) (to : AddressPar
       abbrev later : History
       later = after e facts context (body_pieces body) h
 
-      its : pieces_in e.secret context sent ≡ body_pieces body
-      its = datagram_pieces e.secret row.session (stands.state.rows near row there).keyed s.moment body
+      its : pieces_in e.setup.secret context sent ≡ body_pieces body
+      its = datagram_pieces e.setup.secret row.session (stands.state.rows near row there).keyed s.moment body
 
-      went : WasSent context (pieces_in e.secret context sent) later
+      went : WasSent context (pieces_in e.setup.secret context sent) later
       went = inl (refl, sym its)
 
       -- whose pieces were given and told before
@@ -87,10 +89,14 @@ module _ (e : End) (facts : List Fact) (s : State) (near : ℕ) (to : AddressPar
         after = later;
         grows = grows_by e.who (Out context (body_pieces body)) h;
         stands = stands_out e facts context (body_pieces body) h s (with_session s near row (after_seal row.session))
-            (record { own = refl; secret = refl; rows = had_row s.sessions near row (record row { session = after_seal row.session }) there (sealed_same (is_spent row.session) row) }) may stands;
+            (record { own = refl; one = λ setup one. one_still setup s _ one refl refl refl; rows = had_row s.sessions near row (record row { session = after_seal row.session }) there (sealed_same (is_spent row.session) row) }) may stands;
         log = refl;
         named = (tt, tt);
-        outs = (subst (λ (o : Option Context). WentIn e.secret sent o later) (sym (session_away row.session)) went, tt);
+        outs = (
+          subst (λ (o : Option Context). WentIn e.setup (context_of row.session true) sent o later) (sym (session_away row.session))
+              (session_generation row.session true ∙ (stands.state.rows near row there).generation, went),
+          tt,
+        );
         still = λ q. inr refl;
         order = λ b n asked was. (out_orders b n context (body_pieces body), was);
       }

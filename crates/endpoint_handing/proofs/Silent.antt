@@ -14,7 +14,9 @@ use Rattle.endpoint_model.specs.declared.row.Row.{Row}
 use Rattle.endpoint_model.specs.declared.entry.Entry.{Entry}
 use Rattle.endpoint_model.specs.Views.{fact_in, out_in}
 use Rattle.endpoint_model.specs.State.{Sessions, State, Did}
+use Rattle.endpoint_model.specs.Event.{Setup}
 use Rattle.endpoint_laws.specs.Past.{fact_and}
+use Rattle.endpoint_laws.specs.Groups.{HasOneGroup}
 use Rattle.flow_history.specs.Deeds.{Context, History}
 use Rattle.flow_history.specs.Log.{Entry as Tell, log_of}
 use Rattle.endpoint_handing.specs.Once.{HasBegun as HasStated}
@@ -29,7 +31,7 @@ pub record IsSilent (entry : Entry) : Type 0 where
   pub told : (own : List ℕ) (facts : List Fact) → told_at own facts entry ≡ []
   pub context : (own : List ℕ) (near : ℕ) (facts : List Fact) →
       sending_context own near (fact_and (fact_in entry) facts) ≡ sending_context own near facts
-  pub out : (secret : List ℕ) (h : History) → OutWent secret (out_in entry) h
+  pub out : (setup : Setup) (h : History) → OutWent setup (out_in entry) h
   pub no_message : message_in entry ≡ None
 
 abbrev pub AreSilent : List Entry → Type 0
@@ -51,10 +53,10 @@ context_silent own near [] facts are = refl
 context_silent own near (x ∷ xs) facts are =
     context_silent own near xs (fact_and (fact_in x) facts) are.1 ∙ are.0.context own near facts
 
-outs_silent : (secret : List ℕ) (entries : List Entry) (h : History) → AreSilent entries →
-    OutsWent secret entries h
-outs_silent secret [] h are = tt
-outs_silent secret (x ∷ xs) h are = (are.0.out secret h, outs_silent secret xs h are.1)
+outs_silent : (setup : Setup) (entries : List Entry) (h : History) → AreSilent entries →
+    OutsWent setup entries h
+outs_silent setup [] h are = tt
+outs_silent setup (x ∷ xs) h are = (are.0.out setup h, outs_silent setup xs h are.1)
 
 named_silent : (own : List ℕ) (entries : List Entry) (facts : List Fact) → AreSilent entries →
     AllHaveContext own facts entries
@@ -122,8 +124,9 @@ module _ (e : End) (facts : List Fact) (near : ℕ) (h : History) where
       record {
         id = ap (λ (j : Joined). j.near) same.joined ∙ k.id;
         own = same.own ∙ k.own;
-        keyed = keyed_same e.secret old.session new.session same.joined same.own same.role
+        keyed = keyed_same e.setup.secret old.session new.session same.joined same.own same.role
             same.generation same.inward same.outward k.keyed;
+        generation = same.generation ∙ k.generation;
         named = k.named ∙ ap (λ (c : Context). Some c) (sym context);
         flows = subst (λ (f : FlowsState). FlowsKept e.who (away new.session) f h) (sym same.flows)
             (subst (λ (c : Context). FlowsKept e.who c old.flows h) (sym context) k.flows);
@@ -135,6 +138,7 @@ module _ (e : End) (facts : List Fact) (near : ℕ) (h : History) where
     id = k.id;
     own = k.own;
     keyed = k.keyed;
+    generation = k.generation;
     named = context_silent e.own near entries facts are ∙ k.named;
     flows = k.flows;
   }
@@ -165,7 +169,7 @@ had_left m near q row e = had_it m q row (found_left m near q row e).1
 -- The end is the same, and each session was there.
 pub record IsAlike (s t : State) : Type 0 where
   pub own : t.startup.ledger.own ≡ s.startup.ledger.own
-  pub secret : t.startup.secret ≡ s.startup.secret
+  pub one : (setup : Setup) → HasOneGroup setup s → HasOneGroup setup t
   pub rows : AllHad s.sessions t.sessions
 
 -- ---- silent things
@@ -178,7 +182,7 @@ module _ (e : End) (facts : List Fact) (s t : State) (entries : List Entry) (are
     begun = λ c was. started_later e entries facts c (stands.begun c was);
     state = record {
       own = alike.own ∙ stands.state.own;
-      secret = alike.secret ∙ stands.state.secret;
+      one = alike.one e.setup stands.state.one;
       rows = λ near row there.
           (let was = alike.rows near row there in
           row_later e facts near h entries row are
@@ -193,7 +197,7 @@ module _ (e : End) (facts : List Fact) (s t : State) (entries : List Entry) (are
     stands = stands_silent h stands;
     log = sym (told_silent e.own entries facts (log_of h) are);
     named = named_silent e.own entries facts are;
-    outs = outs_silent e.secret entries h are;
+    outs = outs_silent e.setup entries h are;
     still = λ near. inr (context_silent e.own near entries facts are);
     order = λ b n asked was. was;
   }

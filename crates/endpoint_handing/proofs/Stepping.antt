@@ -16,6 +16,7 @@ use Rattle.endpoint_model.specs.FlowTimes.{all_late}
 use Rattle.endpoint_model.specs.Effects.{opening, seeking, unseeking, cancelling, ticks, received}
 use Rattle.endpoint_model.specs.Log.{Answers, stopped}
 use Rattle.flow_history.specs.Deeds.{History}
+use Rattle.endpoint_laws.proofs.Kin.{one_still}
 use Rattle.endpoint_handing.proofs.Kept.{End, Stands, AreNew, Hands, does_nothing}
 use Rattle.endpoint_handing.proofs.Silent.{had_it, IsAlike, does_from}
 use Rattle.endpoint_laws.proofs.Made.{cancelling_made, closing_made, opening_made, seeking_made, unseeking_made, tick_all_made}
@@ -63,9 +64,9 @@ module _ (e : End) (owed : (A : Type 0) → FlowsHand (with_begins e A)) (facts 
     answers_hand (Cancel n) (Refused refusal) given is = none is.2
     answers_hand (Close near) Done given is = by_did (closing s near) is.1 new (closing_made (quiet_does it) s near facts h stands)
     answers_hand (Close near) (Refused refusal) given is = none is.2
-    answers_hand (AddRow print addresses) Done given is = changed (with_redirect s print addresses) (record { own = refl; secret = refl; rows = had_it s.sessions }) is.1
+    answers_hand (AddRow print addresses) Done given is = changed (with_redirect s print addresses) (record { own = refl; one = λ setup one. one_still setup s _ one refl refl refl; rows = had_it s.sessions }) is.1
     answers_hand (AddRow print addresses) (NotAdded refusal) given is = none is.1
-    answers_hand Introduce Done given is = changed (introducing s) (record { own = refl; secret = refl; rows = had_it s.sessions }) is
+    answers_hand Introduce Done given is = changed (introducing s) (record { own = refl; one = λ setup one. one_still setup s _ one refl refl refl; rows = had_it s.sessions }) is
     answers_hand (OnFlows near call) Done given is =
         by_did (flow_called s near call) is.1 new ((owed (Unit {0})).called facts s near call is.0 (given is.0 is.1.entries) h stands)
     answers_hand (OnFlows near call) (Refused refusal) given is = none is.1

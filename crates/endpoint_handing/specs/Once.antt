@@ -1,27 +1,28 @@
--- In which contexts the sessions of an end have begun, by its facts.
-use Rattle.std.specs.Prelude.{ℕ, ◌≡◌, ◌⊎◌, List, [], ◌∷◌, true, false, Some}
-use Rattle.crypto_profile.specs.declared.keys.Context.{Context}
+-- In which contexts the sessions of an end have begun, by its facts. A context is that of a session
+-- in one direction, whatever the generation of the group's secret in which it began.
+use Rattle.std.specs.Prelude.{ℕ, ◌≡◌, ◌⊎◌, List, [], ◌∷◌, Some}
 use Rattle.glare_core.specs.declared.facts.Fact.{Fact}
 use Rattle.glare_core.specs.declared.facts.Fact.TheVariants.{Born, Opened}
 use Rattle.glare_core.specs.declared.facts.Held.{Held}
+use Rattle.glare_core.specs.declared.facts.Held.TheVariants.{Opening, HalfOpen, KeptAsResponder, KeptAsInitiator}
 use Rattle.glare_core.specs.Standing.{held}
-use Rattle.glare_core.specs.Things.{IsSession}
-use Rattle.glare_core.specs.Tells.{as_initiator, as_responder}
 use Rattle.glare_core.specs.Account.{AreLawful}
 use Rattle.glare_core.specs.Told.{AllDifferent}
-use Rattle.endpoint_laws.specs.Contexts.{session_context, inward, outward}
+use Rattle.session_core.specs.declared.stage.Role.TheVariants.{Initiator, Responder}
 use Rattle.endpoint_laws.specs.Lawful.{nonces_of}
+use Rattle.flow_history.specs.Deeds.{Context, back}
+use Rattle.endpoint_handing.specs.Told.{sends_in}
 
 -- The fact begins a session that sends in this context.
 abbrev pub SendsIn : List ℕ → Context → Fact → Type 0
-SendsIn own c (Born j) = session_context (as_responder own j) false ≡ c
-SendsIn own c (Opened j) = session_context (as_initiator own j) true ≡ c
+SendsIn own c (Born j) = sends_in Responder own j ≡ c
+SendsIn own c (Opened j) = sends_in Initiator own j ≡ c
 SendsIn own c fact = ⊥
 
 -- The fact begins a session that takes in this context.
 abbrev pub TakesIn : List ℕ → Context → Fact → Type 0
-TakesIn own c (Born j) = session_context (as_responder own j) true ≡ c
-TakesIn own c (Opened j) = session_context (as_initiator own j) false ≡ c
+TakesIn own c (Born j) = back (sends_in Responder own j) ≡ c
+TakesIn own c (Opened j) = back (sends_in Initiator own j) ≡ c
 TakesIn own c fact = ⊥
 
 abbrev pub HasBegun : (Fact → Type 0) → List Fact → Type 0
@@ -38,16 +39,22 @@ EachBeginsOnce = (own : List ℕ) (from : ℕ) (fact : Fact) (earlier : List Fac
     (SendsIn own c fact → HasBegun (SendsIn own c) earlier → ⊥)
     × (TakesIn own c fact → HasBegun (TakesIn own c) earlier → ⊥)
 
--- A session that is held has begun, in the context in which it sends and in that in which it takes.
+-- What is held is a session that sends in this context.
+abbrev pub HeldSends : List ℕ → Context → Held → Type 0
+HeldSends own c (Opening n near ni) = ⊥
+HeldSends own c (HalfOpen j) = sends_in Responder own j ≡ c
+HeldSends own c (KeptAsResponder j) = sends_in Responder own j ≡ c
+HeldSends own c (KeptAsInitiator j) = sends_in Initiator own j ≡ c
+
+-- A session that is held has begun, in the context in which it sends and in the one back, in which
+-- it takes.
 abbrev pub WhatIsHeldHasBegun : Type 0
-WhatIsHeldHasBegun = (own peer : List ℕ) (facts : List Fact) (thing : Held) →
-    held peer facts ≡ Some thing → IsSession thing →
-    HasBegun (SendsIn own (outward own thing)) facts
+WhatIsHeldHasBegun = (own peer : List ℕ) (facts : List Fact) (thing : Held) (c : Context) →
+    held peer facts ≡ Some thing → HeldSends own c thing → HasBegun (SendsIn own c) facts
 
 abbrev pub WhatIsHeldTakes : Type 0
-WhatIsHeldTakes = (own peer : List ℕ) (facts : List Fact) (thing : Held) →
-    held peer facts ≡ Some thing → IsSession thing →
-    HasBegun (TakesIn own (inward own thing)) facts
+WhatIsHeldTakes = (own peer : List ℕ) (facts : List Fact) (thing : Held) (c : Context) →
+    held peer facts ≡ Some thing → HeldSends own c thing → HasBegun (TakesIn own (back c)) facts
 
 -- ---- all ends
 
