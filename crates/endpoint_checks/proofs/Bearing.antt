@@ -21,6 +21,7 @@ use Rattle.glare_core.specs.declared.facts.Held.TheVariants.{Opening, HalfOpen}
 use Rattle.glare_core.specs.declared.facts.Joined.{Joined}
 use Rattle.glare_core.specs.Standing.{held, peers_in}
 use Rattle.endpoint_model.specs.Event.{Setup, own_of, Event}
+use Rattle.endpoint_laws.specs.Contexts.{Secrets, Knows}
 use Rattle.endpoint_laws.specs.Past.{Past, Happening, OfEvent, OfEntry, begun, facts_of, ids_in_use, is_close}
 use Rattle.endpoint_model.specs.Keying.{IsFirst, IsSigned, chunks_of, initiator_part}
 use Rattle.endpoint_laws.specs.Admissible.{Admissible, Offer}
@@ -28,7 +29,7 @@ use Rattle.endpoint_laws.specs.Lawful.{WayMade, IsLawful}
 use Rattle.endpoint_checks.specs.Brings.{Keying, BringsKeying}
 use Rattle.endpoint_checks.specs.Births.{born_in, TheTableRefusesBirths, TheTableRefusesKeyings, TheTableRefusesLaterBirths}
 use Rattle.endpoint_checks.proofs.Logs.{same, other}
-use Rattle.endpoint_checks.proofs.Brings.{one_packet, one_first, one_keying, OneKeying, signed_here}
+use Rattle.endpoint_checks.proofs.Brings.{one_secret, one_packet, one_first, one_keying, OneKeying, signed_here}
 
 -- ---- the facts before
 
@@ -57,7 +58,7 @@ no_room most peer peers e zero (inl there) = let clash : false ≡ true = ap (li
 no_room most peer peers e zero (inr room) = omega (arith, room, zero)
 
 pub births_refused : TheTableRefusesBirths
-births_refused setup moment from sent draws j = record {
+births_refused secrets setup moment from sent draws j = record {
   in_open = λ towards candidates h. h.0.0.1.by;
   in_cancel = λ n h. h.0.0.1.by;
   in_close = λ near h. h.0.0.1.by;
@@ -66,10 +67,10 @@ births_refused setup moment from sent draws j = record {
   other_id = λ differ h. differ h.0.0.1.by.0.reads.opens.id;
   other_mode = λ packet reads differ h.
       let a = h.0.0.1.by.0 in
-      differ (ap (λ (p : Whole). p.head.mode) (one_packet setup.secret (Startup 0) 0 sent packet a.packet reads a.reads) ∙ a.mode);
+      differ (ap (λ (p : Whole). p.head.mode) (one_packet secrets (Startup setup.generation) 0 sent packet a.packet reads a.reads) ∙ a.mode);
   no_chunk = λ packet reads none h.
       let a = h.0.0.1.by.0 in
-      no_first a.chunk (chunks_of a.packet) (ap chunks_of (one_packet setup.secret (Startup 0) 0 sent a.packet packet a.reads reads) ∙ none) a.first;
+      no_first a.chunk (chunks_of a.packet) (ap chunks_of (one_packet secrets (Startup setup.generation) 0 sent a.packet packet a.reads reads) ∙ none) a.first;
   zero = λ e h. h.0.0.1.id.some e;
   other_nonce = λ differ h. differ h.0.0.1.by.1;
   other_count = λ differ h. differ h.0.0.0.counted;
@@ -89,10 +90,10 @@ births_refused setup moment from sent draws j = record {
 
 -- ---- what the keying of the datagram says
 
-module _ (setup : Setup) (past : Past) (now : ℕ) (from : AddressParts) (sent : List ℕ) (offer : Offer) (k : Keying) (b : BringsKeying setup.secret sent k) (a : Admissible setup past now from sent offer) where
+module _ (secrets : Secrets) (setup : Setup) (past : Past) (now : ℕ) (from : AddressParts) (sent : List ℕ) (offer : Offer) (k : Keying) (known : Knows secrets setup) (b : BringsKeying secrets setup.generation sent k) (a : Admissible secrets setup past now from sent offer) where
   same_chunk : a.chunk ≡ b.chunk
   same_chunk =
-      one_first a.chunk b.chunk (chunks_of b.packet) (subst (λ (p : Whole). IsFirst a.chunk (chunks_of p)) (one_packet setup.secret (Startup 0) 0 sent a.packet b.packet a.reads b.reads) a.first) b.first
+      one_first a.chunk b.chunk (chunks_of b.packet) (subst (λ (p : Whole). IsFirst a.chunk (chunks_of p)) (one_packet secrets (Startup setup.generation) 0 sent a.packet b.packet a.reads b.reads) a.first) b.first
       (a.spells.0 ∙ sym b.spells.0)
 
   one : OneKeying offer.far k.near a.cookie k.cookie a.cert k.cert (initiator_part offer.ni offer.n (own_of setup)) k.part a.sign k.sign
@@ -102,19 +103,21 @@ module _ (setup : Setup) (past : Past) (now : ℕ) (from : AddressParts) (sent :
 
   signed_so : k.sign ≡ hmac (sign_key_of setup.secret) k.before
   signed_so =
-      signed_here setup.secret b.chunk.payload k.before k.sign a.sign (subst (λ (c : Placed). IsSigned setup.secret c.payload a.sign) same_chunk a.signed) one.sign_is b.payload
+      signed_here setup.secret b.chunk.payload k.before k.sign a.sign
+      (subst (λ (x : List ℕ). IsSigned x b.chunk.payload a.sign) (one_secret secrets setup.generation a.reads.opens.secret setup.secret a.reads.opens.known known)
+      (subst (λ (c : Placed). IsSigned a.reads.opens.secret c.payload a.sign) same_chunk a.signed)) one.sign_is b.payload
 
 abbrev offer_of : Joined → Offer
 offer_of j = record { peer = j.peer; n = j.n; ni = j.ni; far = j.far }
 
 pub keyings_refused : TheTableRefusesKeyings
-keyings_refused setup moment from sent draws j k b = record {
+keyings_refused secrets setup moment from sent draws j k known b = record {
   other_far = λ differ h. let says = said h in differ (sym says.near_is);
   other_part = λ differ h. let says = said h in differ (sym says.part_is);
   other_peer = λ differ h. let says = said h in differ (h.0.0.1.by.0.peer ∙ ap sha256 says.cert_is);
   no_certificate = λ none h. let says = said h in none (subst IsCertificate says.cert_is h.0.0.1.by.0.is_cert);
   own_certificate = λ e h. let says = said h in h.0.0.1.by.0.other (says.cert_is ∙ e);
-  unsigned = λ differ h. differ (signed_so setup h.0.0.1.before (max 0 moment) from sent (offer_of j) k b h.0.0.1.by.0);
+  unsigned = λ differ h. differ (signed_so secrets setup h.0.0.1.before (max 0 moment) from sent (offer_of j) k known b h.0.0.1.by.0);
   wide_cookie = λ wide h. let says = said h in let narrow = h.0.0.1.by.0.narrow in omega (arith, narrow, wide, ap length says.cookie_is);
   no_cookie = λ none h. let says = said h in let c = h.0.0.1.by.0.current in none c.0 c.1 (sym says.cookie_is ∙ c.2.bytes_are);
   moved = λ place issued is differ h.
@@ -129,8 +132,8 @@ keyings_refused setup moment from sent draws j k b = record {
       too_old (max 0 moment) moment issued c.1 both.1 c.4 over (omega arith);
 }
   where
-    said : (h : IsLawful setup (born_in moment (Receive from sent draws) j)) → OneKeying j.far k.near h.0.0.1.by.0.cookie k.cookie h.0.0.1.by.0.cert k.cert (initiator_part j.ni j.n (own_of setup)) k.part h.0.0.1.by.0.sign k.sign
-    said h = one setup h.0.0.1.before (max 0 moment) from sent (offer_of j) k b h.0.0.1.by.0
+    said : (h : IsLawful secrets setup (born_in moment (Receive from sent draws) j)) → OneKeying j.far k.near h.0.0.1.by.0.cookie k.cookie h.0.0.1.by.0.cert k.cert (initiator_part j.ni j.n (own_of setup)) k.part h.0.0.1.by.0.sign k.sign
+    said h = one secrets setup h.0.0.1.before (max 0 moment) from sent (offer_of j) k known b h.0.0.1.by.0
 
     same_places : (x y z : AddressParts) → SamePlace x y → SamePlace y z → SamePlace x z
     same_places x y z p q = record { family = p.family ∙ q.family; host = p.host ∙ q.host; port = p.port ∙ q.port }
@@ -175,7 +178,7 @@ none_after true x = refl
 none_after false x = refl
 
 pub later_births_refused : TheTableRefusesLaterBirths
-later_births_refused setup moment c d from sent draws p nonce j = record {
+later_births_refused secrets setup moment c d from sent draws p nonce j = record {
   attempt_held = λ h. holds_none (bytes_eq j.peer j.peer) (Opening 1 5 nonce) (same j.peer j.peer refl) h.1.0.0.0.free;
   session_held = λ b e h. holds_none (bytes_eq b.peer j.peer) (HalfOpen b) (same b.peer j.peer e) h.1.0.0.0.free;
   in_use = λ e h. let clash = ap (λ (x : ℕ). list_any (λ id. id == x) (5 ∷ [])) (sym e) ∙ h.1.0.0.1.id.unused in cc;

@@ -1,9 +1,11 @@
 -- A datagram brings one keying, or one hello.
-use Rattle.std.proofs.Common.{ℕ, List, [], ◌∷◌, ◌++◌, length, ◌≡◌, inl, inr, refl, sym, ap, subst, ◌∙◌, Ok, Err, Result, arith, take, drop, length-append}
+use Rattle.std.proofs.Common.{ℕ, List, [], ◌∷◌, ◌++◌, length, ◌≡◌, inl, inr, refl, sym, ap, subst, ◌∙◌, Ok, Err, Result, Some, arith, take, drop, length-append}
 use Rattle.std.proofs.lemmas.List.{take_at}
 use Rattle.crypto_profile.specs.declared.keys.Context.{Context}
 use Rattle.crypto_profile.specs.Hmac.{hmac}
-use Rattle.crypto_profile.specs.Keys.{sign_key_of}
+use Rattle.crypto_profile.specs.Keys.{keys_of, sign_key_of}
+use Rattle.crypto_profile.specs.Opening.{plain_of}
+use Rattle.std.specs.FinMap.{get}
 use Rattle.crypto_profile.proofs.Opened.{opens_by_its_tag}
 use Rattle.rtmfp_packet.specs.Whole.{Whole}
 use Rattle.rtmfp_packet.specs.Walk.{Placed}
@@ -13,7 +15,7 @@ use Rattle.rtmfp_packet.proofs.Readings.{packet_reading_same}
 use Rattle.rtmfp_chunks.specs.declared.reading.ChunkFault.{ChunkFault}
 use Rattle.rtmfp_chunks.specs.Chunk.{Chunk, RHello, IIKeying, RIKeying, Spells}
 use Rattle.rtmfp_chunks.proofs.ReadingLaws.{reading_same}
-use Rattle.endpoint_laws.specs.Contexts.{ReadsUnder}
+use Rattle.endpoint_laws.specs.Contexts.{Secrets, generation_of, ReadsUnder}
 use Rattle.endpoint_model.specs.Keying.{IsAmong, IsFirst, IsSigned}
 
 -- what opens in a context reads as one packet
@@ -21,12 +23,17 @@ whole_or : Whole → Result Whole PacketFault → Whole
 whole_or w (Ok p) = p
 whole_or w (Err fault) = w
 
-pub one_packet : (secret : List ℕ) (context : Context) (sid : ℕ) (sent : List ℕ) (p q : Whole) → ReadsUnder secret context sid sent p → ReadsUnder secret context sid sent q → p ≡ q
+-- a generation has one secret
+pub one_secret : (secrets : Secrets) (generation : ℕ) (x y : List ℕ) → get secrets generation ≡ Some x → get secrets generation ≡ Some y → x ≡ y
+one_secret secrets generation x y p q = let both : Some x ≡ Some y = sym p ∙ q in cc
+
+pub one_packet : (secrets : Secrets) (context : Context) (sid : ℕ) (sent : List ℕ) (p q : Whole) → ReadsUnder secrets context sid sent p → ReadsUnder secrets context sid sent q → p ≡ q
 unfolding whole_or
-one_packet secret context sid sent p q a b =
-    let left = ((opens_by_its_tag secret context sid (drop 4 sent) a.plain).0 a.opens.opens).2 in
-    let right = ((opens_by_its_tag secret context sid (drop 4 sent) b.plain).0 b.opens.opens).2 in
-    let same : a.plain ≡ b.plain = left ∙ sym right in
+one_packet secrets context sid sent p q a b =
+    let left = ((opens_by_its_tag a.opens.secret context sid (drop 4 sent) a.plain).0 a.opens.opens).2 in
+    let right = ((opens_by_its_tag b.opens.secret context sid (drop 4 sent) b.plain).0 b.opens.opens).2 in
+    let secret : a.opens.secret ≡ b.opens.secret = one_secret secrets (generation_of context) a.opens.secret b.opens.secret a.opens.known b.opens.known in
+    let same : a.plain ≡ b.plain = left ∙ ap (λ (x : List ℕ). plain_of (keys_of x context) (drop 4 sent)) secret ∙ sym right in
     ap (whole_or p) (packet_reading_same b.plain (Ok p) (Ok q) (subst (λ (x : List ℕ). PacketReading x (Ok p)) same a.reads) b.reads)
 
 -- the first of its type is one

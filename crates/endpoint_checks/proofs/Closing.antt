@@ -51,7 +51,7 @@ neither A (inl none) = none
 neither A (inr none) = none.0
 
 pub closings_refused : TheTableRefusesClosings
-closings_refused setup moment c d e from sent draws j why = record {
+closings_refused secrets setup moment c d e from sent draws j why = record {
   of_nothing = λ near h. let line = h.0.0 in closed_nothing near line.thing line.at _ line.closing;
   of_attempt = λ peer h. let line = h.1.0.0 in closed_none 5 line.thing line.at _ _ (Started peer 1 5 peer) refl line.closing;
   of_held = λ h. let line = h.1.0.0 in closed_none j.near line.thing line.at _ _ (Born j) refl line.closing;
@@ -66,7 +66,7 @@ closings_refused setup moment c d e from sent draws j why = record {
   in_close = λ id h. neither _ h.1.1.0.0.by;
   early = λ h. let line = h.1.1.0.0 in in_tick 0 18999 line.at (sym (closed_so j.near line.thing line.at _ _ j why line.closing).moment_is) line.by (omega arith);
   early_later = λ h. let line = h.1.1.0.0 in in_tick 7 19006 line.at (sym (closed_so j.near line.thing line.at _ _ j why line.closing).moment_is) line.by (omega arith);
-  untaken = untaken setup from sent draws j CloseAck _ _ _ _ _
+  untaken = untaken secrets setup from sent draws j CloseAck _ _ _ _ _
       (λ no h. let line = h.1.1.0.0 in no (taken line.thing (closed_so j.near line.thing line.at _ _ j Near line.closing).was_held line.by))
       (λ first no h. let line = h.1.1.1.0.0 in no (taken line.thing (closed_later j.near line.thing line.at _ _ _ j Near line.closing).was_held line.by))
       (λ chunks no h. let line = h.1.1.0.0 in no (taken line.thing (closed_so j.near line.thing line.at _ _ j Near line.closing).was_held line.by))
@@ -81,7 +81,7 @@ closings_refused setup moment c d e from sent draws j why = record {
     thing = HalfOpen j;
     at = 0;
     closing = inr (tt, inl ((refl, refl, born), refl));
-    by = inl (takes_it setup from sent draws j CloseAck moment _ _ refl (born_now j _) b);
+    by = inl (takes_it secrets setup from sent draws j CloseAck moment _ _ refl (born_now j _) b);
   };
 }
   where
@@ -93,8 +93,8 @@ closings_refused setup moment c d e from sent draws j why = record {
     in_tick begun now at e (inr late) edge = young begun now at 19000 e late.1 edge
 
     taken : {past : Past} {A : Type 0} (thing : Held) → cond (bytes_eq j.peer j.peer) (Some (HalfOpen j)) None ≡ Some thing →
-        TakesChunkOf setup past thing j.near (record { from = from; datagram = sent; draws = draws }) CloseAck ⊎ (⊥ × A) →
-        TakesChunkOf setup past (HalfOpen j) j.near (record { from = from; datagram = sent; draws = draws }) CloseAck
+        TakesChunkOf secrets setup past thing j.near (record { from = from; datagram = sent; draws = draws }) CloseAck ⊎ (⊥ × A) →
+        TakesChunkOf secrets setup past (HalfOpen j) j.near (record { from = from; datagram = sent; draws = draws }) CloseAck
     taken {past} thing is (inl t) =
-        subst (λ (x : Held). TakesChunkOf setup past x j.near (record { from = from; datagram = sent; draws = draws }) CloseAck) (sym (held_here j.peer (HalfOpen j) thing is)) t
+        subst (λ (x : Held). TakesChunkOf secrets setup past x j.near (record { from = from; datagram = sent; draws = draws }) CloseAck) (sym (held_here j.peer (HalfOpen j) thing is)) t
     taken {past} thing is (inr none) = absurd none.0

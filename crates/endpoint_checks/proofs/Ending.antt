@@ -46,7 +46,7 @@ young begun now start span e over edge = omega arith
 -- ---- what is refused
 
 pub cancels_refused : TheTableRefusesCancels
-cancels_refused setup moment c draws peer = record {
+cancels_refused secrets setup moment c draws peer = record {
   in_open = λ towards candidates h. h.1.0.0.1.by;
   in_receive = λ from datagram h. h.1.0.0.1.by;
   in_tick = λ h. h.1.0.0.1.by;
@@ -63,7 +63,7 @@ cancels_refused setup moment c draws peer = record {
 }
 
 pub expiries_refused : TheTableRefusesExpiries
-expiries_refused setup c draws peer = record {
+expiries_refused secrets setup c draws peer = record {
   in_open = λ moment towards candidates h. h.1.0.0.1.0;
   in_receive = λ moment from datagram h. h.1.0.0.1.0;
   in_cancel = λ moment m h. h.1.0.0.1.0;
@@ -89,7 +89,7 @@ expiries_refused setup c draws peer = record {
 }
 
 pub ways_refused : TheTableRefusesWays
-ways_refused setup moment c d peer j = record {
+ways_refused secrets setup moment c d peer j = record {
   alone = λ h. h.1.0.0.1;
   in_next_event = λ e b h. h.1.0.0.1;
   after_discard = λ at cause b h. h.1.0.0.1;

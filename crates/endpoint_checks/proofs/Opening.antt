@@ -3,7 +3,6 @@ use Rattle.std.proofs.Common.{ℕ, ◌≤◌, ◌<◌, List, [], length, drop, l
 use Rattle.std.specs.Prelude.{Bool}
 use Rattle.std.specs.Str.{bytes_eq}
 use Rattle.crypto_profile.specs.declared.keys.Context.TheVariants.{Startup}
-use Rattle.crypto_profile.specs.Sealing.{Opens}
 use Rattle.crypto_profile.specs.Hmac.{hmac}
 use Rattle.crypto_profile.specs.Keys.{sign_key_of}
 use Rattle.rtmfp_packet.specs.Whole.{Whole}
@@ -14,14 +13,14 @@ use Rattle.glare_core.specs.declared.facts.Held.TheVariants.{Opening, HalfOpen}
 use Rattle.glare_core.specs.declared.facts.Joined.{Joined}
 use Rattle.glare_core.specs.Standing.{confirmed}
 use Rattle.glare_core.specs.Things.{near_of}
-use Rattle.endpoint_model.specs.Event.{own_of}
-use Rattle.endpoint_laws.specs.Contexts.{inward}
+use Rattle.endpoint_model.specs.Event.{Setup}
+use Rattle.endpoint_laws.specs.Contexts.{Secrets, Knows, inward, OpensUnder}
 use Rattle.endpoint_model.specs.Keying.{IsAmong, IsSigned, chunks_of, responder_part}
 use Rattle.endpoint_laws.specs.Lawful.{AnswersAttempt}
 use Rattle.endpoint_checks.specs.Brings.{Answer, BringsAnswer}
 use Rattle.endpoint_checks.specs.Opens.{TheTableRefusesOpenings, TheTableRefusesAnswers, TheTableRefusesConfirms}
 use Rattle.endpoint_checks.proofs.Logs.{same, other}
-use Rattle.endpoint_checks.proofs.Brings.{one_packet, one_answer, OneAnswer, only_one, signed_here}
+use Rattle.endpoint_checks.proofs.Brings.{one_secret, one_packet, one_answer, OneAnswer, only_one, signed_here}
 
 number_in : Option Held → ℕ
 number_in (Some (Opening n near ni)) = n
@@ -53,7 +52,7 @@ too_short sent long short = omega (arith, length-drop 4 sent, long, short)
 
 pub openings_refused : TheTableRefusesOpenings
 unfolding number_in nonce_in near_in
-openings_refused setup moment c from sent draws j = record {
+openings_refused secrets setup moment c from sent draws j = record {
   in_open = λ towards candidates h. h.1.0.0.1;
   in_cancel = λ m h. h.1.0.0.1;
   in_close = λ near h. h.1.0.0.1;
@@ -71,32 +70,35 @@ openings_refused setup moment c from sent draws j = record {
 
 -- ---- what the keying of the datagram says
 
-module _ (secret sent : List ℕ) (j : Joined) (a : Answer) (b : BringsAnswer secret j.near sent a) (line : AnswersAttempt secret j sent) where
+module _ (secrets : Secrets) (setup : Setup) (sent : List ℕ) (j : Joined) (a : Answer) (known : Knows secrets setup) (b : BringsAnswer secrets setup.generation j.near sent a) (line : AnswersAttempt secrets setup.generation j sent) where
   same_chunk : line.chunk ≡ b.chunk
   same_chunk =
       only_one line.chunk b.chunk (chunks_of b.packet) b.only
-      (subst (λ (p : Whole). IsAmong line.chunk (chunks_of p)) (one_packet secret (Startup 0) j.near sent line.packet b.packet line.reads b.reads) line.among)
+      (subst (λ (p : Whole). IsAmong line.chunk (chunks_of p)) (one_packet secrets (Startup setup.generation) j.near sent line.packet b.packet line.reads b.reads) line.among)
 
   one : OneAnswer j.far a.near (responder_part j.nr j.k j.peer j.ni) a.part line.sign a.sign
   one =
       one_answer b.chunk.kind b.chunk.payload j.far a.near (responder_part j.nr j.k j.peer j.ni) a.part line.sign a.sign
       (subst (λ (c : Placed). Spells (RIKeying j.far (responder_part j.nr j.k j.peer j.ni) line.sign) c.kind c.payload) same_chunk line.spells) b.spells
 
-  signed_so : a.sign ≡ hmac (sign_key_of secret) a.before
-  signed_so = signed_here secret b.chunk.payload a.before a.sign line.sign (subst (λ (c : Placed). IsSigned secret c.payload line.sign) same_chunk line.signed) one.sign_is b.payload
+  signed_so : a.sign ≡ hmac (sign_key_of setup.secret) a.before
+  signed_so =
+      signed_here setup.secret b.chunk.payload a.before a.sign line.sign
+      (subst (λ (x : List ℕ). IsSigned x b.chunk.payload line.sign) (one_secret secrets setup.generation line.reads.opens.secret setup.secret line.reads.opens.known known)
+      (subst (λ (c : Placed). IsSigned line.reads.opens.secret c.payload line.sign) same_chunk line.signed)) one.sign_is b.payload
 
 pub answers_refused : TheTableRefusesAnswers
-answers_refused setup moment c from sent draws j a b = record {
-  other_far = λ differ h. let says = one setup.secret sent j a b h.1.0.0.1 in differ (sym says.near_is);
-  other_part = λ differ h. let says = one setup.secret sent j a b h.1.0.0.1 in differ (sym says.part_is);
-  unsigned = λ differ h. differ (signed_so setup.secret sent j a b h.1.0.0.1);
+answers_refused secrets setup moment c from sent draws j a known b = record {
+  other_far = λ differ h. let says = one secrets setup sent j a known b h.1.0.0.1 in differ (sym says.near_is);
+  other_part = λ differ h. let says = one secrets setup sent j a known b h.1.0.0.1 in differ (sym says.part_is);
+  unsigned = λ differ h. differ (signed_so secrets setup sent j a known b h.1.0.0.1);
 }
 
 -- ---- confirming
 
 pub confirms_refused : TheTableRefusesConfirms
 unfolding near_in session_in
-confirms_refused setup moment c from sent draws j = record {
+confirms_refused secrets setup moment c from sent draws j = record {
   in_open = λ towards candidates h. h.1.0.0.1.by;
   in_cancel = λ m h. h.1.0.0.1.by;
   in_close = λ near h. h.1.0.0.1.by;
@@ -111,7 +113,7 @@ confirms_refused setup moment c from sent draws j = record {
   unopened = λ none h.
       let line = h.1.0.0.1 in
       let is : line.j ≡ j = sym (ap (session_in j) (half line.j line.session)) in
-      none line.by.0 (subst (λ (x : Joined). Opens setup.secret (inward (own_of setup) (HalfOpen x)) j.near (drop 4 sent) line.by.0) is line.by.1.opens);
+      none line.by.0 (subst (λ (x : Joined). OpensUnder secrets (inward setup (HalfOpen x)) j.near sent line.by.0) is line.by.1);
 }
   where
     nothing : (x : Joined) → None ≡ Some (HalfOpen x) → ⊥

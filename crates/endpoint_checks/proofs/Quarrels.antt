@@ -11,7 +11,8 @@ use Rattle.glare_core.specs.Steps.{Item, Did, Step, step, holding, Happened}
 use Rattle.glare_core.specs.Agreed.{AreOne, Attempt, AreCrossed}
 use Rattle.endpoint_model.specs.Event.{Setup, own_of}
 use Rattle.endpoint_laws.specs.History.{History}
-use Rattle.endpoint_laws.specs.Agreed.{AreAgreed, no_generation}
+use Rattle.endpoint_laws.specs.Contexts.{Secrets}
+use Rattle.endpoint_laws.specs.Agreed.{AreAgreed}
 use Rattle.endpoint_checks.specs.Histories.{HistoriesRefuseDisagreed}
 use Rattle.endpoint_checks.proofs.Logs.{same, other}
 
@@ -66,10 +67,10 @@ no_end who peer near why g early (s ∷ earlier) none (inl e) = clash (ap is_end
 no_end who peer near why g early (s ∷ earlier) none (inr h) = no_end who peer near why g early earlier none.1 h
 
 -- where the last step is the only birth, it is that which happened
-one_birth : (who x : List ℕ) (b t : Joined) (g : ℕ) (early earlier : List Step) → NoBirths earlier → Happened who (Did (Born b) g) early (step x (Did (Born t) no_generation) ∷ earlier) → b ≡ t
+one_birth : (who x : List ℕ) (b t : Joined) (g h : ℕ) (early earlier : List Step) → NoBirths earlier → Happened who (Did (Born b) g) early (step x (Did (Born t) h) ∷ earlier) → b ≡ t
 unfolding born_first born_item
-one_birth who x b t g early earlier none (inl e) = ap (born_first b) e
-one_birth who x b t g early earlier none (inr h) = absurd (no_birth who b g early earlier none h)
+one_birth who x b t g h early earlier none (inl e) = ap (born_first b) e
+one_birth who x b t g h early earlier none (inr later) = absurd (no_birth who b g early earlier none later)
 
 -- ---- two ends
 
@@ -81,19 +82,19 @@ module _ (ends : ℕ → Setup) (s t : Joined) (differ : own_of (ends 0) ≢ own
   y = own_of (ends 1)
 
   abbrev start : Step
-  start = step x (Did (Started s.peer s.n s.near s.ni) no_generation)
+  start = step x (Did (Started s.peer s.n s.near s.ni) (ends 0).generation)
 
   abbrev start_back : Step
-  start_back = step y (Did (Started t.peer t.n t.near t.ni) no_generation)
+  start_back = step y (Did (Started t.peer t.n t.near t.ni) (ends 1).generation)
 
   abbrev birth : Step
-  birth = step y (Did (Born t) no_generation)
+  birth = step y (Did (Born t) (ends 1).generation)
 
   abbrev opening : Step
-  opening = step x (Did (Opened s) no_generation)
+  opening = step x (Did (Opened s) (ends 0).generation)
 
   abbrev confirm : Step
-  confirm = step y (Did (Confirmed t.peer t.near) no_generation)
+  confirm = step y (Did (Confirmed t.peer t.near) (ends 1).generation)
 
   xx : bytes_eq x x ≡ true
   xx = same x x refl
@@ -158,8 +159,8 @@ module _ (ends : ℕ → Setup) (s t : Joined) (differ : own_of (ends 0) ≢ own
     not_born_x = λ b g early h _ _ _. no_birth x b g early (start_back ∷ start ∷ []) no_births_yet h;
   }
 
-  one_kept : (history : History) → AreAgreed ends history (confirm ∷ opening ∷ birth ∷ start ∷ []) → AreOne s t
-  one_kept history a = a.same x y s t (inl x_keeps) (inr y_keeps)
+  one_kept : (secrets : Secrets) (history : History) → AreAgreed secrets ends history (confirm ∷ opening ∷ birth ∷ start ∷ []) → AreOne s t
+  one_kept secrets history a = a.same x y s t (inl x_keeps) (inr y_keeps)
 
   not_one : AreOne s t → (s.ni ≢ t.ni) ⊎ ((s.nr ≢ t.nr) ⊎ ((s.near ≢ t.far) ⊎ (s.far ≢ t.near))) → ⊥
   not_one one (inl d) = d one.ni
@@ -168,27 +169,28 @@ module _ (ends : ℕ → Setup) (s t : Joined) (differ : own_of (ends 0) ≢ own
   not_one one (inr (inr (inr d))) = d one.far
 
 pub disagreed_refused : HistoriesRefuseDisagreed
-disagreed_refused ends s t differ ps pt = record {
-  kept = λ apart h. not_one ends s t differ ps pt (one_kept ends s t differ ps pt _ (h _ (inl refl))) apart;
-  kept_before = λ apart h. not_one ends s t differ ps pt (one_kept ends s t differ ps pt _ (h _ (inr (inl refl)))) (inr (inl apart));
-  unborn = λ h. let one = (h _ (inl refl)).opened (own_of (ends 0)) s no_generation _ (inl refl) in no_birth s.peer one.t _ one.early _ (none_born ends s t differ ps pt) one.born;
-  born_later = λ h. let one = (h _ (inl refl)).opened (own_of (ends 0)) s no_generation _ (inr (inl refl)) in no_birth s.peer one.t _ one.early _ (none_born ends s t differ ps pt) one.born;
+disagreed_refused secrets ends s t differ ps pt = record {
+  kept = λ apart h. not_one ends s t differ ps pt (one_kept ends s t differ ps pt secrets _ (h _ (inl refl))) apart;
+  kept_before = λ apart h. not_one ends s t differ ps pt (one_kept ends s t differ ps pt secrets _ (h _ (inr (inl refl)))) (inr (inl apart));
+  unborn = λ h. let one = (h _ (inl refl)).opened (own_of (ends 0)) s (ends 0).generation _ (inl refl) in no_birth s.peer one.t _ one.early _ (none_born ends s t differ ps pt) one.born;
+  born_later = λ h. let one = (h _ (inl refl)).opened (own_of (ends 0)) s (ends 0).generation _ (inr (inl refl)) in no_birth s.peer one.t _ one.early _ (none_born ends s t differ ps pt) one.born;
   other_count = λ apart h.
-      let one = (h _ (inl refl)).opened (own_of (ends 0)) s no_generation _ (inl refl) in
-      apart (sym (ap (λ (j : Joined). j.k) (one_birth s.peer (own_of (ends 1)) one.t t _ one.early _ (none_born ends s t differ ps pt) one.born)) ∙ one.k);
+      let one = (h _ (inl refl)).opened (own_of (ends 0)) s (ends 0).generation _ (inl refl) in
+      apart (sym (ap (λ (j : Joined). j.k) (one_birth s.peer (own_of (ends 1)) one.t t _ _ one.early _ (none_born ends s t differ ps pt) one.born)) ∙ one.k);
   other_id = λ apart h.
-      let one = (h _ (inl refl)).opened (own_of (ends 0)) s no_generation _ (inl refl) in
-      apart (sym (ap (λ (j : Joined). j.near) (one_birth s.peer (own_of (ends 1)) one.t t _ one.early _ (none_born ends s t differ ps pt) one.born)) ∙ ap (λ (v : Values). v.near_r) one.values);
-  other_keys = λ to_responder n ni apart h. apart ((h _ (inl refl)).keys 0 1 s t no_generation no_generation _ _ (inl refl) (inr (inl refl)) (inl refl) (inr (inl refl)) ps n ni to_responder);
+      let one = (h _ (inl refl)).opened (own_of (ends 0)) s (ends 0).generation _ (inl refl) in
+      apart (sym (ap (λ (j : Joined). j.near) (one_birth s.peer (own_of (ends 1)) one.t t _ _ one.early _ (none_born ends s t differ ps pt) one.born)) ∙ ap (λ (v : Values). v.near_r) one.values);
+  other_keys = λ secret to_responder n ni known apart h. apart (((h _ (inl refl)).keys 0 1 s t (ends 0).generation (ends 1).generation _ _ (inl refl) (inr (inl refl)) (inl refl) (inr (inl refl)) ps n ni).1 secret to_responder known);
+  other_generation = λ n ni apart h. apart ((h _ (inl refl)).keys 0 1 s t (ends 0).generation (ends 1).generation _ _ (inl refl) (inr (inl refl)) (inl refl) (inr (inl refl)) ps n ni).0;
   twice = λ u n ni peer un uni apart h.
-      apart ((h _ (inl refl)).started (own_of (ends 0)) s.peer s.n s.near s.ni no_generation [] (inr (inr (inl refl))) (own_of (ends 1)) (own_of (ends 1)) t u no_generation no_generation _ _ (inr (inl refl)) pt n ni (inl refl) (peer ∙ pt) un uni).1;
+      apart ((h _ (inl refl)).started (own_of (ends 0)) s.peer s.n s.near s.ni (ends 0).generation [] (inr (inr (inl refl))) (own_of (ends 1)) (own_of (ends 1)) t u (ends 1).generation (ends 1).generation _ _ (inr (inl refl)) pt n ni (inl refl) (peer ∙ pt) un uni).1;
   crossed = λ h.
-      let over = (h _ (inl refl)).over (own_of (ends 0)) (own_of (ends 1)) (attempt ends s t differ ps pt) (back ends s t differ ps pt) _ _ (inr (inl refl)) (crossing ends s t differ ps pt) (s, no_generation, inl refl, ps, refl) in
+      let over = (h _ (inl refl)).over (own_of (ends 0)) (own_of (ends 1)) (attempt ends s t differ ps pt) (back ends s t differ ps pt) _ _ (inr (inl refl)) (crossing ends s t differ ps pt) (s, (ends 0).generation, inl refl, ps, refl) in
       no_end (own_of (ends 1)) (own_of (ends 0)) over.0 over.1 over.2 over.3 _ (no_ends_yet ends s t differ ps pt) over.4;
   both = λ h.
-      (h _ (inl refl)).one (own_of (ends 0)) (own_of (ends 1)) (attempt ends s t differ ps pt) (back ends s t differ ps pt) _ _ _ (inr (inr (inl refl))) (crossing ends s t differ ps pt) (s, no_generation, inr (inl refl), ps, refl) (t, no_generation, inl refl, pt, refl);
-  spared = λ near above h. (h _ (inl refl)).spared (own_of (ends 0)) s.peer near no_generation _ (inl refl) above;
+      (h _ (inl refl)).one (own_of (ends 0)) (own_of (ends 1)) (attempt ends s t differ ps pt) (back ends s t differ ps pt) _ _ _ (inr (inr (inl refl))) (crossing ends s t differ ps pt) (s, (ends 0).generation, inr (inl refl), ps, refl) (t, (ends 1).generation, inl refl, pt, refl);
+  spared = λ near above h. (h _ (inl refl)).spared (own_of (ends 0)) s.peer near (ends 0).generation _ (inl refl) above;
   overridden = λ near h.
-      let ended = (h _ (inl refl)).late (own_of (ends 0)) s.peer near no_generation s _ (inl refl) (inl (x_kept ends s t differ ps pt)) in
+      let ended = (h _ (inl refl)).late (own_of (ends 0)) s.peer near (ends 0).generation s _ (inl refl) (inl (x_kept ends s t differ ps pt)) in
       no_end s.peer (own_of (ends 0)) ended.near ended.why ended.g ended.early _ (none_ended ends s t differ ps pt) ended.ended;
 }

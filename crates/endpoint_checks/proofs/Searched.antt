@@ -11,6 +11,7 @@ use Rattle.glare_core.specs.declared.facts.Why.{Why}
 use Rattle.glare_core.specs.declared.facts.Why.TheVariants.{Cancelled, Expired, Glare, Override, Unconfirmed, Near, Far, Idle}
 use Rattle.endpoint_model.specs.Event.{Call}
 use Rattle.endpoint_model.specs.Keying.{IsAmong, chunks_of}
+use Rattle.endpoint_laws.specs.Contexts.{Secrets}
 use Rattle.endpoint_laws.specs.Past.{Past}
 use Rattle.endpoint_laws.specs.Lawful.{AnswersSearch, SearchEnds}
 use Rattle.endpoint_checks.specs.Brings.{Hello, BringsHello}
@@ -22,7 +23,7 @@ use Rattle.endpoint_checks.proofs.Opening.{too_short}
 -- ---- beginning
 
 pub seeks_refused : TheTableRefusesSeeks
-seeks_refused setup moment candidates draws name near = record {
+seeks_refused secrets setup moment candidates draws name near = record {
   in_open = λ peer h. h.0.0.by;
   in_unseek = λ id h. h.0.0.by;
   in_receive = λ from datagram h. h.0.0.by;
@@ -68,7 +69,7 @@ no_end call near at now Far one other ends = ends
 no_end call near at now Idle one other ends = ends
 
 pub unseeks_refused : TheTableRefusesUnseeks
-unseeks_refused setup moment candidates drawn draws name = record {
+unseeks_refused secrets setup moment candidates drawn draws name = record {
   in_open = λ peer h. h.1.0.0.by;
   in_receive = λ from datagram h. h.1.0.0.by;
   in_tick = λ h. h.1.0.0.by;
@@ -100,7 +101,7 @@ by_hello (inl none) = absurd none.0
 by_hello (inr hello) = hello
 
 pub searches_refused : TheTableRefusesSearches
-searches_refused setup moment candidates drawn draws name from sent peer = record {
+searches_refused secrets setup moment candidates drawn draws name from sent peer = record {
   in_tick = λ h. by_hello h.1.0.0.1;
   no_search = λ near ni h. passed (by_hello h.0.0.1).stands;
   over = λ c why h. gone_by_end (passed (by_hello h.1.1.0.0.1).stands);
@@ -110,15 +111,15 @@ searches_refused setup moment candidates drawn draws name from sent peer = recor
   other_number = λ n differ h. differ h.1.0.0.0.next;
   under_id = λ differ h. let hello = by_hello h.1.0.0.1 in differ hello.reads.opens.id;
   short = λ short h. let hello = by_hello h.1.0.0.1 in too_short sent hello.reads.opens.opens.0 short;
-  unopened = λ none h. let hello = by_hello h.1.0.0.1 in none hello.reads.plain hello.reads.opens.opens;
+  unopened = λ none h. let hello = by_hello h.1.0.0.1 in none hello.reads.plain hello.reads.opens;
 }
 
 -- what the hello of the datagram says
-module _ (secret : List ℕ) (past : Past) (sent peer : List ℕ) (n near : ℕ) (ni : List ℕ) (hello : Hello) (b : BringsHello secret sent hello) (line : AnswersSearch secret past sent peer n near ni) where
+module _ (secrets : Secrets) (generation : ℕ) (past : Past) (sent peer : List ℕ) (n near : ℕ) (ni : List ℕ) (hello : Hello) (b : BringsHello secrets generation sent hello) (line : AnswersSearch secrets generation past sent peer n near ni) where
   same_chunk : line.chunk ≡ b.chunk
   same_chunk =
       only_one line.chunk b.chunk (chunks_of b.packet) b.only
-      (subst (λ (p : Whole). IsAmong line.chunk (chunks_of p)) (one_packet secret (Startup 0) 0 sent line.packet b.packet line.reads b.reads) line.among)
+      (subst (λ (p : Whole). IsAmong line.chunk (chunks_of p)) (one_packet secrets (Startup generation) 0 sent line.packet b.packet line.reads b.reads) line.among)
 
   one : OneHello line.tag hello.tag line.cert hello.cert
   one =
@@ -126,17 +127,17 @@ module _ (secret : List ℕ) (past : Past) (sent peer : List ℕ) (n near : ℕ)
       (subst (λ (c : Placed). Spells (RHello line.tag line.cookie line.cert) c.kind c.payload) same_chunk line.spells) b.spells
 
 pub hellos_refused : TheTableRefusesHellos
-hellos_refused setup moment candidates drawn draws name from sent peer hello b = record {
+hellos_refused secrets setup moment candidates drawn draws name from sent peer hello b = record {
   other_tag = λ differ h.
       let line = by_hello h.1.0.0.1 in
-      differ (sym (one setup.secret _ sent peer 1 5 drawn.nonce hello b line).tag_is ∙ (the_one (passed line.stands)).0.2.0);
+      differ (sym (one secrets setup.generation _ sent peer 1 5 drawn.nonce hello b line).tag_is ∙ (the_one (passed line.stands)).0.2.0);
   other_name = λ differ h.
       let line = by_hello h.1.0.0.1 in
-      differ (sym ((the_one (passed line.stands)).0.1 ∙ ap (drop 16) (one setup.secret _ sent peer 1 5 drawn.nonce hello b line).cert_is));
+      differ (sym ((the_one (passed line.stands)).0.1 ∙ ap (drop 16) (one secrets setup.generation _ sent peer 1 5 drawn.nonce hello b line).cert_is));
   other_peer = λ differ h.
       let line = by_hello h.1.0.0.1 in
-      differ (line.peer_is ∙ ap sha256 (one setup.secret _ sent peer 1 5 drawn.nonce hello b line).cert_is);
+      differ (line.peer_is ∙ ap sha256 (one secrets setup.generation _ sent peer 1 5 drawn.nonce hello b line).cert_is);
   no_certificate = λ none h.
       let line = by_hello h.1.0.0.1 in
-      none (subst IsCertificate (one setup.secret _ sent peer 1 5 drawn.nonce hello b line).cert_is line.is_cert);
+      none (subst IsCertificate (one secrets setup.generation _ sent peer 1 5 drawn.nonce hello b line).cert_is line.is_cert);
 }

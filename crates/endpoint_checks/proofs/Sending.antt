@@ -20,15 +20,15 @@ use Rattle.glare_core.specs.declared.facts.Held.{Held}
 use Rattle.glare_core.specs.declared.facts.Held.TheVariants.{Opening, HalfOpen, KeptAsResponder, KeptAsInitiator}
 use Rattle.glare_core.specs.declared.facts.Joined.{Joined}
 use Rattle.glare_core.specs.Standing.{opened}
-use Rattle.glare_core.specs.Tells.{as_responder}
 use Rattle.endpoint_model.specs.declared.entry.Entry.TheVariants.{Fact as FactEntry, Closed}
 use Rattle.endpoint_model.specs.Event.{Setup, own_of, Event}
 use Rattle.endpoint_laws.specs.Past.{Past, begun, stamped, facts_of, is_close}
-use Rattle.endpoint_laws.specs.Contexts.{session_context, outward, HeldUnder, StandsUnder}
+use Rattle.endpoint_laws.specs.Contexts.{Secrets, generation_of, outward, HeldUnder, StandsUnder}
 use Rattle.endpoint_model.specs.Keying.{initiator_part, responder_part}
 use Rattle.endpoint_laws.specs.Lawful.{OutLine, KeyingOfAttempt, KeyingOfBorn, IsBornHere, IsFarOf}
-use Rattle.endpoint_checks.specs.Sends.{HasChunk, TheTableRefusesSends, TheTableRefusesNumbers, TheTableRefusesKeyingsSent, TheTableRefusesAnswersSent, TheTableRefusesSendsInSessions}
+use Rattle.endpoint_checks.specs.Sends.{HasChunk, born_context, TheTableRefusesSends, TheTableRefusesNumbers, TheTableRefusesKeyingsSent, TheTableRefusesAnswersSent, TheTableRefusesSendsInSessions}
 use Rattle.endpoint_checks.proofs.Logs.{same}
+use Rattle.endpoint_checks.proofs.Brings.{one_secret}
 use Rattle.endpoint_checks.proofs.Pasts.{some_event, NothingEnds, none_closing, one_closing}
 use Rattle.endpoint_checks.proofs.Ending.{holds}
 
@@ -43,35 +43,38 @@ long_enough secret context sid number plain sent size e =
     let four : length (to_be_bytes w32 (scrambled sid part)) ≡ 4 = refl in
     omega (arith, ap length e, length-append (to_be_bytes w32 (scrambled sid part)) part, four, (sealed_carries (keys_of secret context) sid number plain size).1)
 
-number_is : (setup : Setup) (past : Past) (sent : List ℕ) (context : Context) (line : OutLine setup past sent context) → number_of (drop 4 sent) ≡ line.number
-number_is setup past sent context line =
-    ap number_of (behind line.sid (sealed_in setup.secret context line.sid line.number line.plain) sent line.is) ∙ (sealed_carries (keys_of setup.secret context) line.sid line.number line.plain line.numbered).0
+number_is : (secrets : Secrets) (setup : Setup) (past : Past) (sent : List ℕ) (context : Context) (line : OutLine secrets setup past sent context) → number_of (drop 4 sent) ≡ line.number
+number_is secrets setup past sent context line =
+    ap number_of (behind line.sid (sealed_in line.secret context line.sid line.number line.plain) sent line.is) ∙ (sealed_carries (keys_of line.secret context) line.sid line.number line.plain line.numbered).0
 
 plain_is : (secret : List ℕ) (context : Context) (sid : ℕ) (number plain sent : List ℕ) → length number ≡ 16 → sent ≡ datagram sid (sealed_in secret context sid number plain) → plain_of (keys_of secret context) (drop 4 sent) ≡ plain
 plain_is secret context sid number plain sent size e =
     ap (plain_of (keys_of secret context)) (behind sid (sealed_in secret context sid number plain) sent e) ∙ (sealed_opens (keys_of secret context) sid number plain size).1
 
 -- the packet of the datagram is the one that the table judges
-reads_there : (setup : Setup) (past : Past) (sent : List ℕ) (context : Context) (chunk : Chunk) (line : OutLine setup past sent context) (has : HasChunk setup.secret context sent chunk) → PacketReading line.plain (Ok has.packet)
-reads_there setup past sent context chunk line has =
+reads_there : (secrets : Secrets) (setup : Setup) (past : Past) (sent : List ℕ) (context : Context) (chunk : Chunk) (line : OutLine secrets setup past sent context) (has : HasChunk secrets context sent chunk) → PacketReading line.plain (Ok has.packet)
+reads_there secrets setup past sent context chunk line has =
     let one : has.plain ≡ line.plain =
-    sym (plain_is setup.secret context has.sid has.number has.plain sent has.numbered has.is) ∙ plain_is setup.secret context line.sid line.number line.plain sent line.numbered line.is in
+    sym (plain_is has.secret context has.sid has.number has.plain sent has.numbered has.is)
+    ∙ ap (λ (x : List ℕ). plain_of (keys_of x context) (drop 4 sent)) (one_secret secrets (generation_of context) has.secret line.secret has.known line.known)
+    ∙ plain_is line.secret context line.sid line.number line.plain sent line.numbered line.is in
     subst (λ (b : List ℕ). PacketReading b (Ok has.packet)) one has.reads
 
 -- ---- each datagram
 
 pub sends_refused : TheTableRefusesSends
-sends_refused setup moment c to sent context = record {
-  short = λ short h. let line = h.0.0 in let long = long_enough setup.secret context line.sid line.number line.plain sent line.numbered line.is in omega (arith, long, short);
-  unsealed = λ none h. let line = h.0.0 in none line.sid line.number line.plain line.is;
+sends_refused secrets setup moment c to sent context = record {
+  short = λ short h. let line = h.0.0 in let long = long_enough line.secret context line.sid line.number line.plain sent line.numbered line.is in omega (arith, long, short);
+  unsealed = λ none h. let line = h.0.0 in none line.secret line.sid line.number line.plain line.known line.is;
+  unknown = λ none h. let line = h.0.0 in let clash : None ≡ Some line.secret = sym none ∙ line.known in cc;
 }
 
 pub numbers_refused : TheTableRefusesNumbers
-numbers_refused setup moment c d first second sent again e = record {
-  in_startup = λ h. let line = h.0.1.0 in line.once tt (inl (refl, e ∙ number_is _ _ again (Startup 0) line));
-  in_two_calls = λ h. let line = h.1.0.0 in line.once tt (inr (inl (refl, e ∙ number_is _ _ again (Startup 0) line)));
-  in_session = λ peer ni near x y fp_i fp_r sid_i sid_r to_responder h.
-      let line = h.1.0.1.0 in line.once (λ none. none, tt) (inl (refl, e ∙ number_is _ _ again (Session 0 x y fp_i fp_r sid_i sid_r to_responder) line));
+numbers_refused secrets setup moment c d first second sent again e = record {
+  in_startup = λ generation h. let line = h.0.1.0 in line.once tt (inl (refl, e ∙ number_is _ _ _ again (Startup generation) line));
+  in_two_calls = λ generation h. let line = h.1.0.0 in line.once tt (inr (inl (refl, e ∙ number_is _ _ _ again (Startup generation) line)));
+  in_session = λ peer ni near generation x y fp_i fp_r sid_i sid_r to_responder h.
+      let line = h.1.0.1.0 in line.once (λ none. none, tt) (inl (refl, e ∙ number_is _ _ _ again (Session generation x y fp_i fp_r sid_i sid_r to_responder) line));
 }
 
 -- ---- what is held where one thing was begun
@@ -127,31 +130,32 @@ no_born false true j s n near ni (inr is) = cc
 no_born false false j s n near ni (inl is) = cc
 no_born false false j s n near ni (inr is) = cc
 
-module _ (setup : Setup) (past : Past) (sent : List ℕ) (context : Context) (line : OutLine setup past sent context) where
-  attempt_of : (near : ℕ) (cookie cert part sign : List ℕ) → HasChunk setup.secret context sent (IIKeying near cookie cert part sign) → KeyingOfAttempt setup context (facts_of past) near cert part
+module _ (secrets : Secrets) (setup : Setup) (past : Past) (sent : List ℕ) (context : Context) (line : OutLine secrets setup past sent context) where
+  attempt_of : (near : ℕ) (cookie cert part sign : List ℕ) → HasChunk secrets context sent (IIKeying near cookie cert part sign) → KeyingOfAttempt setup context (facts_of past) near cert part
   attempt_of near cookie cert part sign has =
-      (line.keyings has.packet (reads_there setup past sent context (IIKeying near cookie cert part sign) line has)).initiators has.placed near cookie cert part sign has.among has.spells
+      (line.keyings has.packet (reads_there secrets setup past sent context (IIKeying near cookie cert part sign) line has)).initiators has.placed near cookie cert part sign has.among has.spells
 
-  born_of : (near : ℕ) (part sign : List ℕ) → HasChunk setup.secret context sent (RIKeying near part sign) → KeyingOfBorn setup context (facts_of past) line.sid near part
+  born_of : (near : ℕ) (part sign : List ℕ) → HasChunk secrets context sent (RIKeying near part sign) → KeyingOfBorn setup context (facts_of past) line.sid near part
   born_of near part sign has =
-      (line.keyings has.packet (reads_there setup past sent context (RIKeying near part sign) line has)).responders has.placed near part sign has.among has.spells
+      (line.keyings has.packet (reads_there secrets setup past sent context (RIKeying near part sign) line has)).responders has.placed near part sign has.among has.spells
 
 pub keyings_sent_refused : TheTableRefusesKeyingsSent
 unfolding near_in part_with
-keyings_sent_refused setup moment c d to sent context peer ni near cookie cert part sign has = record {
-  other_context = λ differ h. differ (attempt_of setup _ sent context h.1.0.0 near cookie cert part sign has).startup;
-  other_cert = λ differ h. differ (attempt_of setup _ sent context h.1.0.0 near cookie cert part sign has).own;
-  no_attempt = λ h. let k = attempt_of setup _ sent context h.0.0 near cookie cert part sign has in nothing (Opening k.n near k.ni) k.is_held;
+keyings_sent_refused secrets setup moment c d to sent context peer ni near cookie cert part sign has = record {
+  other_context = λ differ h. differ (attempt_of secrets setup _ sent context h.1.0.0 near cookie cert part sign has).startup;
+  other_generation = λ generation is differ h. differ (ap generation_of (sym is ∙ (attempt_of secrets setup _ sent context h.1.0.0 near cookie cert part sign has).startup));
+  other_cert = λ differ h. differ (attempt_of secrets setup _ sent context h.1.0.0 near cookie cert part sign has).own;
+  no_attempt = λ h. let k = attempt_of secrets setup _ sent context h.0.0 near cookie cert part sign has in nothing (Opening k.n near k.ni) k.is_held;
   other_id = λ differ h.
-      let k = attempt_of setup _ sent context h.1.0.0 near cookie cert part sign has in
+      let k = attempt_of secrets setup _ sent context h.1.0.0 near cookie cert part sign has in
       differ (sym (ap near_in (true_is peer k.peer (Opening 1 5 ni) (Opening k.n near k.ni) k.is_held).1));
   other_part = λ differ h.
-      let k = attempt_of setup _ sent context h.1.0.0 near cookie cert part sign has in
+      let k = attempt_of secrets setup _ sent context h.1.0.0 near cookie cert part sign has in
       let is = true_is peer k.peer (Opening 1 5 ni) (Opening k.n near k.ni) k.is_held in
       differ (k.values ∙ sym (ap (part_with k.peer) is.1) ∙ ap (initiator_part ni 1) (sym is.0));
-  over = λ h. let k = attempt_of setup _ sent context h.1.0.0 near cookie cert part sign has in none_left (bytes_eq peer k.peer) (Opening 1 5 ni) (Opening k.n near k.ni) k.is_held;
+  over = λ h. let k = attempt_of secrets setup _ sent context h.1.0.0 near cookie cert part sign has in none_left (bytes_eq peer k.peer) (Opening 1 5 ni) (Opening k.n near k.ni) k.is_held;
   is_open = λ j e h.
-      let k = attempt_of setup _ sent context h.1.0.0 near cookie cert part sign has in
+      let k = attempt_of secrets setup _ sent context h.1.0.0 near cookie cert part sign has in
       no_opening (bytes_eq j.peer k.peer) (bytes_eq peer k.peer) j 1 5 k.n near ni k.ni (ap (λ (p : List ℕ). bytes_eq p k.peer) e) k.is_held;
 }
 
@@ -171,21 +175,22 @@ birth_over b j s (inl e) = none_left b (HalfOpen j) (HalfOpen s) e
 birth_over b j s (inr e) = none_left b (HalfOpen j) (KeptAsResponder s) e
 
 pub answers_sent_refused : TheTableRefusesAnswersSent
-answers_sent_refused setup moment c d to sent context j near part sign has = record {
-  other_context = λ differ h. differ (born_of setup _ sent context h.1.0.0 near part sign has).startup;
-  no_session = λ h. let b = born_of setup _ sent context h.0.0 near part sign has in no_birth b.j b.is_held;
+answers_sent_refused secrets setup moment c d to sent context j near part sign has = record {
+  other_context = λ differ h. differ (born_of secrets setup _ sent context h.1.0.0 near part sign has).startup;
+  other_generation = λ generation is differ h. differ (ap generation_of (sym is ∙ (born_of secrets setup _ sent context h.1.0.0 near part sign has).startup));
+  no_session = λ h. let b = born_of secrets setup _ sent context h.0.0 near part sign has in no_birth b.j b.is_held;
   other_id = λ differ h.
-      let b = born_of setup _ sent context h.1.0.0 near part sign has in
+      let b = born_of secrets setup _ sent context h.1.0.0 near part sign has in
       differ (b.near_is ∙ sym (ap (λ (s : Joined). s.near) (born_is j b.j b.is_held)));
   other_part = λ differ h.
-      let b = born_of setup _ sent context h.1.0.0 near part sign has in
+      let b = born_of secrets setup _ sent context h.1.0.0 near part sign has in
       differ (b.values ∙ sym (ap (λ (s : Joined). responder_part s.nr s.k (own_of setup) s.ni) (born_is j b.j b.is_held)));
   under_another = λ none h.
-      let b = born_of setup _ sent context h.1.0.0 near part sign has in
+      let b = born_of secrets setup _ sent context h.1.0.0 near part sign has in
       let sid : h.1.0.0.sid ≡ j.far = b.sid_is ∙ sym (ap (λ (s : Joined). s.far) (born_is j b.j b.is_held)) in
-      none h.1.0.0.number h.1.0.0.plain (h.1.0.0.is ∙ ap (λ (id : ℕ). datagram id (sealed_in setup.secret context id h.1.0.0.number h.1.0.0.plain)) sid);
-  over = λ why h. let b = born_of setup _ sent context h.1.0.0 near part sign has in birth_over (bytes_eq j.peer b.j.peer) j b.j b.is_held;
-  opened_here = λ peer ni o h. let b = born_of setup _ sent context h.1.0.0 near part sign has in no_born (bytes_eq o.peer b.j.peer) (bytes_eq peer b.j.peer) o b.j 1 5 ni b.is_held;
+      none h.1.0.0.secret h.1.0.0.number h.1.0.0.plain h.1.0.0.known (h.1.0.0.is ∙ ap (λ (id : ℕ). datagram id (sealed_in h.1.0.0.secret context id h.1.0.0.number h.1.0.0.plain)) sid);
+  over = λ why h. let b = born_of secrets setup _ sent context h.1.0.0 near part sign has in birth_over (bytes_eq j.peer b.j.peer) j b.j b.is_held;
+  opened_here = λ peer ni o h. let b = born_of secrets setup _ sent context h.1.0.0 near part sign has in no_born (bytes_eq o.peer b.j.peer) (bytes_eq peer b.j.peer) o b.j 1 5 ni b.is_held;
 }
 
 -- ---- in sessions
@@ -233,8 +238,8 @@ direction : Context → Bool
 direction (Startup generation) = false
 direction (Session generation x y fp_i fp_r sid_i sid_r to_responder) = to_responder
 
-no_startup : (x y fp_i fp_r : List ℕ) (sid_i sid_r : ℕ) (to_responder : Bool) → Session 0 x y fp_i fp_r sid_i sid_r to_responder ≡ (Startup 0) → ⊥
-no_startup x y fp_i fp_r sid_i sid_r to_responder e = cc
+no_startup : (generation other : ℕ) (x y fp_i fp_r : List ℕ) (sid_i sid_r : ℕ) (to_responder : Bool) → Session generation x y fp_i fp_r sid_i sid_r to_responder ≡ Startup other → ⊥
+no_startup generation other x y fp_i fp_r sid_i sid_r to_responder e = cc
 
 true_isnt_false : true ≡ false → ⊥
 true_isnt_false e = cc
@@ -252,39 +257,47 @@ opened_sends false false own ni j thing e is = absurd (let clash : None ≡ Some
 
 pub sends_in_sessions_refused : TheTableRefusesSendsInSessions
 unfolding direction
-sends_in_sessions_refused setup moment c d to sent x y fp_i fp_r sid_i sid_r to_responder j = record {
+sends_in_sessions_refused secrets setup moment c d to sent generation x y fp_i fp_r sid_i sid_r to_responder j = record {
   nothing_held = λ h. let s = h.0.0.session in nothing s.0 (held_of_none s.1 s.0 _ 0 some_event some_event s.2).is_held;
   attempt_held = λ peer ni h.
       let s = h.1.0.0.session in
       let u = held_started s.1 s.0 _ _ some_event some_event peer ni s.2 in
-      no_startup x y fp_i fp_r sid_i sid_r to_responder (s.3 ∙ ap (outward (own_of setup)) (sym (true_is peer u.peer (Opening 1 5 ni) s.0 u.is_held).1));
+      no_startup generation setup.generation x y fp_i fp_r sid_i sid_r to_responder (s.3 ∙ ap (outward setup) (sym (true_is peer u.peer (Opening 1 5 ni) s.0 u.is_held).1));
   other_values = λ differ h.
       let s = h.1.0.0.session in
       let u = held_born s.1 s.0 _ _ some_event some_event j s.2 in
-      differ (s.3 ∙ ap (outward (own_of setup)) (sym (true_is j.peer u.peer (HalfOpen j) s.0 u.is_held).1));
+      differ (s.3 ∙ ap (outward setup) (sym (true_is j.peer u.peer (HalfOpen j) s.0 u.is_held).1));
   towards = λ h.
       let s = h.1.0.0.session in
       let u = held_born s.1 s.0 _ _ some_event some_event j s.2 in
-      true_isnt_false (ap direction (s.3 ∙ ap (outward (own_of setup)) (sym (true_is j.peer u.peer (HalfOpen j) s.0 u.is_held).1)));
+      true_isnt_false (ap direction (s.3 ∙ ap (outward setup) (sym (true_is j.peer u.peer (HalfOpen j) s.0 u.is_held).1)));
   opened_towards = λ ni h.
       let s = h.1.0.0.session in
       let u = held_opened s.1 s.0 _ _ some_event some_event j ni s.2 in
-      false_isnt_true (ap direction (s.3 ∙ ap (outward (own_of setup)) (opened_sends (bytes_eq j.peer u.peer) (bytes_eq j.peer u.peer) (own_of setup) ni j s.0 refl u.is_held)));
+      false_isnt_true (ap direction (s.3 ∙ ap (outward setup) (opened_sends (bytes_eq j.peer u.peer) (bytes_eq j.peer u.peer) (own_of setup) ni j s.0 refl u.is_held)));
+  other_generation = λ other differ h.
+      let s = h.1.0.0.session in
+      let u = held_born s.1 s.0 _ _ some_event some_event j s.2 in
+      differ (ap generation_of (s.3 ∙ ap (outward setup) (sym (true_is j.peer u.peer (HalfOpen j) s.0 u.is_held).1)));
+  opened_in_another = λ ni other differ h.
+      let s = h.1.0.0.session in
+      let u = held_opened s.1 s.0 _ _ some_event some_event j ni s.2 in
+      differ (ap generation_of (s.3 ∙ ap (outward setup) (opened_sends (bytes_eq j.peer u.peer) (bytes_eq j.peer u.peer) (own_of setup) ni j s.0 refl u.is_held)));
   under_another = λ none h.
       let line = h.1.0.0 in
       let s = line.session in
       let u = held_born s.1 s.0 _ _ some_event some_event j s.2 in
       let is : HalfOpen j ≡ s.0 = (true_is j.peer u.peer (HalfOpen j) s.0 u.is_held).1 in
       let far : line.sid ≡ j.far = subst (λ (t : Held). IsFarOf t line.sid) (sym is) s.4 in
-      none line.number line.plain (line.is ∙ ap (λ (id : ℕ). datagram id (sealed_in setup.secret (session_context (as_responder (own_of setup) j) false) id line.number line.plain)) far);
+      none line.secret line.number line.plain line.known (line.is ∙ ap (λ (id : ℕ). datagram id (sealed_in line.secret (born_context setup j false) id line.number line.plain)) far);
   closing_values = λ why differ h.
       let s = h.1.0.0.session in
-      differ (s.3 ∙ ap (outward (own_of setup)) (sym (closing_one s.1 s.0 _ _ some_event some_event j why s.2).1));
+      differ (s.3 ∙ ap (outward setup) (sym (closing_one s.1 s.0 _ _ some_event some_event j why s.2).1));
   closing_under_another = λ why none h.
       let line = h.1.0.0 in
       let s = line.session in
       let far : line.sid ≡ j.far = subst (λ (t : Held). IsFarOf t line.sid) (sym (closing_one s.1 s.0 _ _ some_event some_event j why s.2).1) s.4 in
-      none line.number line.plain (line.is ∙ ap (λ (id : ℕ). datagram id (sealed_in setup.secret (session_context (as_responder (own_of setup) j) false) id line.number line.plain)) far);
+      none line.secret line.number line.plain line.known (line.is ∙ ap (λ (id : ℕ). datagram id (sealed_in line.secret (born_context setup j false) id line.number line.plain)) far);
   over = λ why dropped h. let s = h.1.0.0.session in true_isnt_false (sym (closing_one s.1 s.0 _ _ some_event some_event j why s.2).0 ∙ dropped);
   closed = λ why h. let s = h.1.0.0.session in none_closed s.1 s.0 _ _ some_event some_event j why s.2;
   while_closing = λ why closes. (HalfOpen j, j.near, inr (0, inl ((refl, closes, holds (bytes_eq j.peer j.peer) (HalfOpen j) (same j.peer j.peer refl)), refl)), refl, refl);

@@ -18,6 +18,7 @@ use Rattle.glare_core.specs.Things.{IsHalfOpen, IsKept, near_of}
 use Rattle.endpoint_model.specs.declared.config.Draws.{Draws}
 use Rattle.endpoint_model.specs.declared.entry.Entry.TheVariants.{Fact as FactEntry}
 use Rattle.endpoint_model.specs.Event.{Setup, own_of, Call, Event}
+use Rattle.endpoint_laws.specs.Contexts.{Secrets}
 use Rattle.endpoint_laws.specs.Past.{Past, WasDone, begun, stamped, Taken, taken_since}
 use Rattle.endpoint_laws.specs.Lawful.{BeganWith}
 use Rattle.endpoint_laws.specs.Taken.{count_in, IsNewAfter, Passes, TakesChunkOf, TookAt}
@@ -53,8 +54,8 @@ keeps : (b : Bool) (j : Joined) → b ≡ true → cond b (confirmed (cond b (So
 keeps true j e = refl
 keeps false j e = absurd (cc)
 
-others_refused : (setup : Setup) (moment : ℕ) (c call : Call) (j : Joined) (why : Why) → ((peer : List ℕ) (n near : ℕ) (ni : List ℕ) → Ends (own_of setup) peer why (Opening n near ni) → ⊥) → OthersRefused setup moment c call j why
-others_refused setup moment c call j why no_attempt = record {
+others_refused : (secrets : Secrets) (setup : Setup) (moment : ℕ) (c call : Call) (j : Joined) (why : Why) → ((peer : List ℕ) (n near : ℕ) (ni : List ℕ) → Ends (own_of setup) peer why (Opening n near ni) → ⊥) → OthersRefused secrets setup moment c call j why
+others_refused secrets setup moment c call j why no_attempt = record {
   other_id = λ near differ h.
       let ended = h.1.0.0.0 in
       differ (ended.id ∙ sym (ap near_of (held_here j.peer (HalfOpen j) ended.h ended.thing)));
@@ -69,8 +70,8 @@ others_refused setup moment c call j why no_attempt = record {
 -- ---- unconfirmed and near
 
 pub unconfirmed_refused : TheTableRefusesUnconfirmed
-unconfirmed_refused setup moment c d from sent draws j = record {
-  others = others_refused setup moment c _ j Unconfirmed (λ peer n near ni e. e);
+unconfirmed_refused secrets setup moment c d from sent draws j = record {
+  others = others_refused secrets setup moment c _ j Unconfirmed (λ peer n near ni e. e);
   in_open = λ towards candidates h. h.1.0.0.1.0;
   in_cancel = λ m h. h.1.0.0.1.0;
   in_close = λ id h. h.1.0.0.1.0;
@@ -92,8 +93,8 @@ unconfirmed_refused setup moment c d from sent draws j = record {
 }
 
 pub nears_refused : TheTableRefusesNears
-nears_refused setup moment c from sent draws j = record {
-  others = others_refused setup moment c _ j Near (λ peer n near ni e. e);
+nears_refused secrets setup moment c from sent draws j = record {
+  others = others_refused secrets setup moment c _ j Near (λ peer n near ni e. e);
   in_open = λ towards candidates h. h.1.0.0.1;
   in_cancel = λ m h. h.1.0.0.1;
   in_receive = λ h. h.1.0.0.1;
@@ -120,29 +121,29 @@ pub born_now : (j : Joined) (others : List Taken) → (if j.near == j.near then 
 born_now j others = since_birth (j.near == j.near) others (eq-eqb j.near j.near refl)
 
 -- a datagram that comes in the session is taken where nothing was taken before
-took_it : (setup : Setup) (j : Joined) (sent : List ℕ) (before : List Taken) (thing : Held) → before ≡ [] → KeptAsResponder j ≡ thing → ComesIn setup j sent →
-    TookAt setup thing j.near 1 (record { moment = 1; datagram = sent } ∷ before)
-took_it setup j sent before thing none is comes =
-    let passes : Passes setup (KeptAsResponder j) j.near before sent = record {
+took_it : (secrets : Secrets) (setup : Setup) (j : Joined) (sent : List ℕ) (before : List Taken) (thing : Held) → before ≡ [] → KeptAsResponder j ≡ thing → ComesIn secrets setup j sent →
+    TookAt secrets setup thing j.near 1 (record { moment = 1; datagram = sent } ∷ before)
+took_it secrets setup j sent before thing none is comes =
+    let passes : Passes secrets setup (KeptAsResponder j) j.near before sent = record {
       packet = comes.packet;
       reads = comes.reads;
-      number = subst (IsNewAfter setup.secret (context_here setup j) j.near (count_in sent)) (sym none) comes.counted;
+      number = subst (IsNewAfter secrets (context_here setup j) j.near (count_in sent)) (sym none) comes.counted;
       mode_is = comes.mode;
     } in
-    let took : TookAt setup (KeptAsResponder j) j.near 1 (record { moment = 1; datagram = sent } ∷ before) = inl (passes, refl) in
-    subst (λ (x : Held). TookAt setup x j.near 1 (record { moment = 1; datagram = sent } ∷ before)) is took
+    let took : TookAt secrets setup (KeptAsResponder j) j.near 1 (record { moment = 1; datagram = sent } ∷ before) = inl (passes, refl) in
+    subst (λ (x : Held). TookAt secrets setup x j.near 1 (record { moment = 1; datagram = sent } ∷ before)) is took
 
-pub takes_it : (setup : Setup) (from : AddressParts) (sent : List ℕ) (draws : Draws) (j : Joined) (chunk : Chunk) (moment : ℕ) (past : Past) (before : List Taken) →
-    taken_since j.near past ≡ record { moment = moment; datagram = sent } ∷ before → before ≡ [] → Brings setup j sent chunk →
-    TakesChunkOf setup past (HalfOpen j) j.near (record { from = from; datagram = sent; draws = draws }) chunk
-takes_it setup from sent draws j chunk moment past before last none b = record {
+pub takes_it : (secrets : Secrets) (setup : Setup) (from : AddressParts) (sent : List ℕ) (draws : Draws) (j : Joined) (chunk : Chunk) (moment : ℕ) (past : Past) (before : List Taken) →
+    taken_since j.near past ≡ record { moment = moment; datagram = sent } ∷ before → before ≡ [] → Brings secrets setup j sent chunk →
+    TakesChunkOf secrets setup past (HalfOpen j) j.near (record { from = from; datagram = sent; draws = draws }) chunk
+takes_it secrets setup from sent draws j chunk moment past before last none b = record {
   moment = moment;
   before = before;
   last = last;
   passes = record {
     packet = b.comes.packet;
     reads = b.comes.reads;
-    number = subst (IsNewAfter setup.secret (context_here setup j) j.near (count_in sent)) (sym none) b.comes.counted;
+    number = subst (IsNewAfter secrets (context_here setup j) j.near (count_in sent)) (sym none) b.comes.counted;
     mode_is = b.comes.mode;
   };
   placed = b.placed;
@@ -151,13 +152,13 @@ takes_it setup from sent draws j chunk moment past before last none b = record {
 }
 
 pub fars_refused : TheTableRefusesFars
-fars_refused setup moment c from sent draws j = record {
-  others = others_refused setup moment c _ j Far (λ peer n near ni e. e);
+fars_refused secrets setup moment c from sent draws j = record {
+  others = others_refused secrets setup moment c _ j Far (λ peer n near ni e. e);
   in_open = λ towards candidates h. h.1.0.0.1.by;
   in_cancel = λ m h. h.1.0.0.1.by;
   in_close = λ id h. h.1.0.0.1.by;
   in_tick = λ h. h.1.0.0.1.by;
-  untaken = untaken setup from sent draws j CloseChunk _ _ _ _ _
+  untaken = untaken secrets setup from sent draws j CloseChunk _ _ _ _ _
       (λ no h. let line = h.1.0.0.1 in no (taken line.thing line.is_held line.by))
       (λ first no h. let line = h.1.1.0.0.1 in no (taken line.thing line.is_held line.by))
       (λ chunks no h. let line = h.1.0.0.1 in no (taken line.thing line.is_held line.by))
@@ -165,15 +166,15 @@ fars_refused setup moment c from sent draws j = record {
   by_close = λ b. record {
     thing = HalfOpen j;
     is_held = holds (bytes_eq j.peer j.peer) (HalfOpen j) (same j.peer j.peer refl);
-    by = takes_it setup from sent draws j CloseChunk moment _ _ refl (born_now j _) b;
+    by = takes_it secrets setup from sent draws j CloseChunk moment _ _ refl (born_now j _) b;
   };
 }
   where
     taken : {past : Past} (thing : Held) → cond (bytes_eq j.peer j.peer) (Some (HalfOpen j)) None ≡ Some thing →
-        TakesChunkOf setup past thing j.near (record { from = from; datagram = sent; draws = draws }) CloseChunk →
-        TakesChunkOf setup past (HalfOpen j) j.near (record { from = from; datagram = sent; draws = draws }) CloseChunk
+        TakesChunkOf secrets setup past thing j.near (record { from = from; datagram = sent; draws = draws }) CloseChunk →
+        TakesChunkOf secrets setup past (HalfOpen j) j.near (record { from = from; datagram = sent; draws = draws }) CloseChunk
     taken {past} thing is t =
-        subst (λ (x : Held). TakesChunkOf setup past x j.near (record { from = from; datagram = sent; draws = draws }) CloseChunk) (sym (held_here j.peer (HalfOpen j) thing is)) t
+        subst (λ (x : Held). TakesChunkOf secrets setup past x j.near (record { from = from; datagram = sent; draws = draws }) CloseChunk) (sym (held_here j.peer (HalfOpen j) thing is)) t
 
 -- ---- idle
 
@@ -181,8 +182,8 @@ isnt_start : (j : Joined) (peer ni : List ℕ) (n near : ℕ) → FactEntry (Ope
 isnt_start j peer ni n near e = cc
 
 pub idles_refused : TheTableRefusesIdles
-idles_refused setup moment c d from sent draws j = record {
-  others = others_refused setup moment c _ j Idle (λ peer n near ni e. e);
+idles_refused secrets setup moment c d from sent draws j = record {
+  others = others_refused secrets setup moment c _ j Idle (λ peer n near ni e. e);
   in_open = λ towards candidates h. h.1.1.0.0.1.0;
   in_cancel = λ m h. h.1.1.0.0.1.0;
   in_close = λ id h. h.1.1.0.0.1.0;
@@ -197,7 +198,7 @@ idles_refused setup moment c d from sent draws j = record {
   heard = λ comes h.
       let idle = h.1.1.0.0.1.1 in
       let is : KeptAsResponder j ≡ idle.thing = confirmed_here j.peer j idle.thing idle.is_held in
-      later 120000 (idle.quiet 1 (took_it setup j sent _ idle.thing (born_now j _) is comes));
+      later 120000 (idle.quiet 1 (took_it secrets setup j sent _ idle.thing (born_now j _) is comes));
   in_time = (
     tt,
     record {
@@ -208,7 +209,7 @@ idles_refused setup moment c d from sent draws j = record {
       began_with = refl;
       began = inr (inl refl);
       old = omega arith;
-      quiet = λ at took. absurd (subst (λ (ts : List Taken). TookAt setup (KeptAsResponder j) j.near at ts) (none_since (j.near == j.near)) took);
+      quiet = λ at took. absurd (subst (λ (ts : List Taken). TookAt secrets setup (KeptAsResponder j) j.near at ts) (none_since (j.near == j.near)) took);
     },
   );
 }

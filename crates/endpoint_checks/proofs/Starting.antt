@@ -8,6 +8,7 @@ use Rattle.glare_core.specs.declared.facts.Held.{Held}
 use Rattle.glare_core.specs.declared.facts.Held.TheVariants.{Opening, HalfOpen}
 use Rattle.endpoint_checks.specs.Starts.{TheTableRefusesStarts}
 use Rattle.endpoint_model.specs.Event.{Setup, Event}
+use Rattle.endpoint_laws.specs.Contexts.{Secrets}
 use Rattle.endpoint_laws.specs.Past.{IsSearch, begun, is_close}
 use Rattle.endpoint_laws.specs.Lawful.{AnswersSearch}
 use Rattle.endpoint_checks.proofs.Logs.{same, last_lawful}
@@ -32,19 +33,19 @@ by_call (inl x) = x
 by_call (inr none) = absurd none
 
 -- a datagram answers no search where none began
-none_sought : {A : Type 0} (setup : Setup) (moment : ℕ) (e : Event) (datagram peer : List ℕ) (n near : ℕ) (ni : List ℕ) → (⊥ × A) ⊎ AnswersSearch setup.secret (begun moment e ∷ []) datagram peer n near ni → ⊥
-none_sought setup moment e datagram peer n near ni (inl none) = none.0
-none_sought setup moment e datagram peer n near ni (inr hello) = by hello.stands
+none_sought : {A : Type 0} (secrets : Secrets) (setup : Setup) (moment : ℕ) (e : Event) (datagram peer : List ℕ) (n near : ℕ) (ni : List ℕ) → (⊥ × A) ⊎ AnswersSearch secrets setup.generation (begun moment e ∷ []) datagram peer n near ni → ⊥
+none_sought secrets setup moment e datagram peer n near ni (inl none) = none.0
+none_sought secrets setup moment e datagram peer n near ni (inr hello) = by hello.stands
   where
     by : IsSearch near (record { name = drop 16 hello.cert; tag = hello.tag; ni = ni }) hello.at (begun moment e ∷ []) → ⊥
     by (inl own) = own.0
     by (inr old) = old.2
 
 pub starts_refused : TheTableRefusesStarts
-starts_refused setup moment candidates draws peer n near ni = record {
+starts_refused secrets setup moment candidates draws peer n near ni = record {
   in_cancel = λ m h. (by_call h.0.0.1).0;
   in_close = λ id h. (by_call h.0.0.1).0;
-  in_receive = λ from datagram h. none_sought setup _ _ datagram peer n near ni h.0.0.1;
+  in_receive = λ from datagram h. none_sought secrets setup _ _ datagram peer n near ni h.0.0.1;
   in_tick = λ h. (by_call h.0.0.1).0;
   other_peer = λ towards differ h. differ (by_call h.0.0.1).0.0;
   other_nonce = λ differ h. differ (by_call h.0.0.1).0.1;
@@ -53,7 +54,7 @@ starts_refused setup moment candidates draws peer n near ni = record {
   with_session = λ c j e h. taken (bytes_eq j.peer peer) (HalfOpen j) (same j.peer peer e) h.1.0.0.0.free;
   first_number = λ differ h. differ h.0.0.0.next;
   second_number = λ differ c d other id nonce h. differ h.1.1.0.0.0.next;
-  wide_number = λ log wide h. let small = (last_lawful setup 0 [] log _ h).0.2 in omega (arith, small, wide);
+  wide_number = λ log wide h. let small = (last_lawful secrets setup 0 [] log _ h).0.2 in omega (arith, small, wide);
   zero = λ h. (by_call h.0.0.1).1.some refl;
   of_attempt = λ c other nonce h. let clash : true ≡ false = (by_call h.1.0.0.1).1.unused in cc;
   of_born = λ c j e h. let clash = ap (λ (x : ℕ). list_any (λ id. id == 5) (x ∷ [])) (sym e) ∙ (by_call h.1.0.0.1).1.unused in cc;

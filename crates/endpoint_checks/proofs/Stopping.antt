@@ -1,5 +1,5 @@
 -- Where a datagram or a tick can stop that finds no memory.
-use Rattle.std.proofs.Common.{◌≡◌, ℕ, ◌<◌, ◌≤◌, List, [], length, take, Option, None, IsSome, inl, inr, refl, subst, arith}
+use Rattle.std.proofs.Common.{◌≡◌, ℕ, ◌<◌, ◌≤◌, List, [], length, take, Option, IsSome, inl, inr, refl, subst, arith}
 use Rattle.rtmfp_forms.specs.Address.{AddressParts}
 use Rattle.rtmfp_packet.specs.Walk.{Placed}
 use Rattle.rtmfp_packet.specs.Whole.{Whole}
@@ -10,7 +10,7 @@ use Rattle.endpoint_model.specs.State.{State, Does, nothing, then_do}
 use Rattle.endpoint_model.specs.Admission.{Admission, Admitted, admission, confirming}
 use Rattle.endpoint_model.specs.Keying.{chunks_of}
 use Rattle.endpoint_model.specs.Effects.{Item, walked_in_part}
-use Rattle.endpoint_model.specs.Event.{Receive, Tick, Stopped}
+use Rattle.endpoint_model.specs.Event.{Receive, Stopped}
 use Rattle.endpoint_model.specs.Log.{Answers, StopsAt, StopsSo}
 use Rattle.endpoint_checks.specs.Stops.{NoIdleTickStops, NoneStopsBefore, StopsAreInOrder, StopsTellTheirChunks, after, before}
 

@@ -1,10 +1,10 @@
 -- Histories that aren't honest, aren't fresh, or aren't agreed.
-use Rattle.std.proofs.Common.{ℕ, List, [], ◌∷◌, length, drop, ◌≡◌, ◌⊎◌, inl, inr, refl, sym, subst, cond, Some, None, true, arith}
+use Rattle.std.proofs.Common.{ℕ, List, [], ◌∷◌, length, drop, ◌≡◌, ◌⊎◌, inl, inr, refl, sym, ap, subst, cond, Some, None, true, arith}
 use Rattle.std.specs.Str.{bytes_eq}
 use Rattle.crypto_profile.specs.declared.keys.Context.{Context}
 use Rattle.crypto_profile.specs.declared.keys.Context.TheVariants.{Startup}
-use Rattle.crypto_profile.specs.Sealing.{sealed_in, Opens}
-use Rattle.packet_scramble.specs.Datagram.{datagram, sid_of}
+use Rattle.crypto_profile.specs.Sealing.{Opens}
+use Rattle.packet_scramble.specs.Datagram.{sid_of}
 use Rattle.glare_core.specs.declared.facts.Why.{Why}
 use Rattle.glare_core.specs.declared.facts.Fact.TheVariants.{Started, Born, Ended}
 use Rattle.glare_core.specs.declared.facts.Held.TheVariants.{Opening, HalfOpen}
@@ -13,10 +13,10 @@ use Rattle.endpoint_model.specs.Views.{out_in}
 use Rattle.endpoint_model.specs.declared.entry.Entry.TheVariants.{Out}
 use Rattle.endpoint_model.specs.Event.{Setup, own_of}
 use Rattle.endpoint_laws.specs.Past.{Past, is_close}
-use Rattle.endpoint_laws.specs.Contexts.{session_context, inward, OpensFirst, ContextsOf}
+use Rattle.endpoint_laws.specs.Contexts.{Secrets, Knows, generation_of, session_context, inward, OpensFirst, ContextsOf}
 use Rattle.endpoint_laws.specs.History.{History, IsOut, WasSent, past_at}
 use Rattle.endpoint_laws.proofs.AnswerCarried.{opens_again}
-use Rattle.endpoint_checks.specs.Histories.{did, HistoriesRefuseForged, HistoriesRefuseForgedInSessions, HistoriesRefuseStale}
+use Rattle.endpoint_checks.specs.Histories.{did, startup_sent, HistoriesRefuseForged, HistoriesRefuseForgedInSessions, HistoriesRefuseStale}
 use Rattle.endpoint_checks.specs.Logs.{says}
 use Rattle.endpoint_checks.proofs.Logs.{same}
 use Rattle.endpoint_checks.proofs.Ending.{holds}
@@ -24,13 +24,22 @@ use Rattle.endpoint_checks.proofs.Ending.{holds}
 -- ---- honest
 
 -- a datagram that opens in the startup context under session ID 0 was sent in it
-sent_so : (setup : Setup) (past : Past) (earlier : History) (number plain : List ℕ) → length number ≡ 16 →
-    ((contexts : List Context) (context : Context) (p : List ℕ) → ContextsOf (own_of setup) past (sid_of (datagram 0 (sealed_in setup.secret (Startup 0) 0 number plain))) contexts →
-    OpensFirst setup.secret contexts (sid_of (datagram 0 (sealed_in setup.secret (Startup 0) 0 number plain))) (datagram 0 (sealed_in setup.secret (Startup 0) 0 number plain)) context p → WasSent (datagram 0 (sealed_in setup.secret (Startup 0) 0 number plain)) context earlier) →
-    WasSent (datagram 0 (sealed_in setup.secret (Startup 0) 0 number plain)) (Startup 0) earlier
-sent_so setup past earlier number plain size honest =
-    let opens = opens_again setup.secret 0 number plain (omega arith) size in
-    honest (Startup 0 ∷ []) (Startup 0) plain (inl (inl opens.id, refl)) (inl (refl, record { id = refl; opens = subst (λ (sid : ℕ). Opens setup.secret (Startup 0) sid (drop 4 (datagram 0 (sealed_in setup.secret (Startup 0) 0 number plain))) plain) (sym opens.id) opens.opens }))
+sent_so : (secrets : Secrets) (setup : Setup) (past : Past) (earlier : History) (number plain : List ℕ) → Knows secrets setup → length number ≡ 16 →
+    ((contexts : List Context) (context : Context) (p : List ℕ) → ContextsOf setup past (sid_of (startup_sent setup 0 number plain)) contexts →
+    OpensFirst secrets contexts (sid_of (startup_sent setup 0 number plain)) (startup_sent setup 0 number plain) context p → WasSent (startup_sent setup 0 number plain) context earlier) →
+    WasSent (startup_sent setup 0 number plain) (Startup setup.generation) earlier
+sent_so secrets setup past earlier number plain known size honest =
+    let opens = opens_again secrets setup.secret setup.generation 0 number plain known (omega arith) size in
+    honest (Startup setup.generation ∷ []) (Startup setup.generation) plain (inl (inl opens.id, refl))
+    (inl (
+      refl,
+      record {
+        secret = opens.secret;
+        known = opens.known;
+        id = refl;
+        opens = subst (λ (sid : ℕ). Opens opens.secret (Startup setup.generation) sid (drop 4 (startup_sent setup 0 number plain)) plain) (sym opens.id) opens.opens;
+      },
+    ))
 
 -- the one entry of the one event before
 one_out : (P : Type 0) → (P ⊎ ⊥) ⊎ ⊥ → P
@@ -49,38 +58,39 @@ out_then P (inl (inr none)) = absurd none
 out_then P (inr later) = absurd (one_out ⊥ later)
 
 pub forged_refused : HistoriesRefuseForged
-forged_refused ends from to draws number plain other_bytes peer ni context n size = record {
-  unsent = λ h. let sent = sent_so (ends 0) [] [] number plain size h.0 in sent;
-  others_sent = λ differ h. differ (one_out (IsOut (datagram 0 (sealed_in (ends 0).secret (Startup 0) 0 number plain)) (Startup 0) (out_in (Out to other_bytes (Startup 0)))) (sent_so (ends 0) [] (did 1 (Out to other_bytes (Startup 0) ∷ []) ∷ []) number plain size h.0)).0;
-  other_context = λ differ h. differ (one_out (IsOut (datagram 0 (sealed_in (ends 0).secret (Startup 0) 0 number plain)) (Startup 0) (out_in (Out to (datagram 0 (sealed_in (ends 0).secret (Startup 0) 0 number plain)) context))) (sent_so (ends 0) [] (did 1 (Out to (datagram 0 (sealed_in (ends 0).secret (Startup 0) 0 number plain)) context ∷ []) ∷ []) number plain size h.0)).1;
-  sent_later = λ h. let sent = sent_so (ends 0) [] [] number plain size h.1.0 in sent;
-  sent_itself = λ h. let sent = sent_so (ends 0) [] [] number plain size h.0 in sent;
+forged_refused secrets ends from to draws number plain other_bytes peer ni context n size known = record {
+  unsent = λ h. let sent = sent_so secrets (ends 0) [] [] number plain known size h.0 in sent;
+  others_sent = λ differ h. differ (one_out (IsOut (startup_sent (ends 0) 0 number plain) (Startup (ends 0).generation) (out_in (Out to other_bytes (Startup (ends 0).generation)))) (sent_so secrets (ends 0) [] (did 1 (Out to other_bytes (Startup (ends 0).generation) ∷ []) ∷ []) number plain known size h.0)).0;
+  other_context = λ differ h. differ (one_out (IsOut (startup_sent (ends 0) 0 number plain) (Startup (ends 0).generation) (out_in (Out to (startup_sent (ends 0) 0 number plain) context))) (sent_so secrets (ends 0) [] (did 1 (Out to (startup_sent (ends 0) 0 number plain) context ∷ []) ∷ []) number plain known size h.0)).1;
+  other_generation = λ generation other h. other (ap generation_of (one_out (IsOut (startup_sent (ends 0) 0 number plain) (Startup (ends 0).generation) (out_in (Out to (startup_sent (ends 0) 0 number plain) (Startup generation)))) (sent_so secrets (ends 0) [] (did 1 (Out to (startup_sent (ends 0) 0 number plain) (Startup generation) ∷ []) ∷ []) number plain known size h.0)).1);
+  sent_later = λ h. let sent = sent_so secrets (ends 0) [] [] number plain known size h.1.0 in sent;
+  sent_itself = λ h. let sent = sent_so secrets (ends 0) [] [] number plain known size h.0 in sent;
   under_attempt = λ h.
-      let opens = opens_again (ends 0).secret 5 number plain (omega arith) size in
-      let there : ContextsOf (own_of (ends 0)) (past_at 0 (did 0 (says (Started peer n 5 ni)) ∷ [])) (sid_of (datagram 5 (sealed_in (ends 0).secret (Startup 0) 5 number plain))) (Startup 0 ∷ []) =
+      let opens = opens_again secrets (ends 0).secret (ends 0).generation 5 number plain known (omega arith) size in
+      let there : ContextsOf (ends 0) (past_at 0 (did 0 (says (Started peer n 5 ni)) ∷ [])) (sid_of (startup_sent (ends 0) 5 number plain)) (Startup (ends 0).generation ∷ []) =
       inr (Opening n 5 ni, inl (record { peer = peer; is_held = holds (bytes_eq peer peer) (Opening n 5 ni) (same peer peer refl); id = sym opens.id }), refl) in
-      let sent = h.0 (Startup 0 ∷ []) (Startup 0) plain there (inl (refl, record { id = refl; opens = subst (λ (sid : ℕ). Opens (ends 0).secret (Startup 0) sid (drop 4 (datagram 5 (sealed_in (ends 0).secret (Startup 0) 5 number plain))) plain) (sym opens.id) opens.opens })) in
+      let sent = h.0 (Startup (ends 0).generation ∷ []) (Startup (ends 0).generation) plain there (inl (refl, record { secret = opens.secret; known = opens.known; id = refl; opens = subst (λ (sid : ℕ). Opens opens.secret (Startup (ends 0).generation) sid (drop 4 (startup_sent (ends 0) 5 number plain)) plain) (sym opens.id) opens.opens })) in
       one_out ⊥ sent;
 }
 
 pub forged_in_sessions_refused : HistoriesRefuseForgedInSessions
-forged_in_sessions_refused ends from to draws sent plain context j opens = record {
-  unsent = λ h. one_out ⊥ (h.0 (session_context (as_responder (own_of (ends 0)) j) true ∷ []) (session_context (as_responder (own_of (ends 0)) j) true) plain there again);
-  other_context = λ differ h. differ (out_then (IsOut sent (session_context (as_responder (own_of (ends 0)) j) true) (out_in (Out to sent context))) (h.0 (session_context (as_responder (own_of (ends 0)) j) true ∷ []) (session_context (as_responder (own_of (ends 0)) j) true) plain there again)).1;
-  closing = λ why closes h. none_out (h.0 (session_context (as_responder (own_of (ends 0)) j) true ∷ []) (session_context (as_responder (own_of (ends 0)) j) true) plain (closed why closes) again);
+forged_in_sessions_refused secrets ends from to draws sent plain context j opens = record {
+  unsent = λ h. one_out ⊥ (h.0 (session_context (ends 0).generation (as_responder (own_of (ends 0)) j) true ∷ []) (session_context (ends 0).generation (as_responder (own_of (ends 0)) j) true) plain there again);
+  other_context = λ differ h. differ (out_then (IsOut sent (session_context (ends 0).generation (as_responder (own_of (ends 0)) j) true) (out_in (Out to sent context))) (h.0 (session_context (ends 0).generation (as_responder (own_of (ends 0)) j) true ∷ []) (session_context (ends 0).generation (as_responder (own_of (ends 0)) j) true) plain there again)).1;
+  closing = λ why closes h. none_out (h.0 (session_context (ends 0).generation (as_responder (own_of (ends 0)) j) true ∷ []) (session_context (ends 0).generation (as_responder (own_of (ends 0)) j) true) plain (closed why closes) again);
 }
   where
     born : cond (bytes_eq j.peer j.peer) (Some (HalfOpen j)) None ≡ Some (HalfOpen j)
     born = holds (bytes_eq j.peer j.peer) (HalfOpen j) (same j.peer j.peer refl)
 
-    there : ContextsOf (own_of (ends 0)) (past_at 0 (did 0 (says (Born j)) ∷ [])) (sid_of sent) (session_context (as_responder (own_of (ends 0)) j) true ∷ [])
+    there : ContextsOf (ends 0) (past_at 0 (did 0 (says (Born j)) ∷ [])) (sid_of sent) (session_context (ends 0).generation (as_responder (own_of (ends 0)) j) true ∷ [])
     there = inr (HalfOpen j, inl (record { peer = j.peer; is_held = born; id = sym opens.id }), refl)
 
-    closed : (why : Why) → is_close why ≡ true → ContextsOf (own_of (ends 0)) (past_at 0 (did 0 (says (Ended j.peer j.near why)) ∷ did 0 (says (Born j)) ∷ [])) (sid_of sent) (session_context (as_responder (own_of (ends 0)) j) true ∷ [])
+    closed : (why : Why) → is_close why ≡ true → ContextsOf (ends 0) (past_at 0 (did 0 (says (Ended j.peer j.near why)) ∷ did 0 (says (Born j)) ∷ [])) (sid_of sent) (session_context (ends 0).generation (as_responder (own_of (ends 0)) j) true ∷ [])
     closed why closes = inr (HalfOpen j, inr (0, inl ((sym opens.id, closes, born), refl)), refl)
 
-    again : OpensFirst (ends 0).secret (session_context (as_responder (own_of (ends 0)) j) true ∷ []) (sid_of sent) sent (session_context (as_responder (own_of (ends 0)) j) true) plain
-    again = inl (refl, record { id = refl; opens = subst (λ (sid : ℕ). Opens (ends 0).secret (inward (own_of (ends 0)) (HalfOpen j)) sid (drop 4 sent) plain) (sym opens.id) opens.opens })
+    again : OpensFirst secrets (session_context (ends 0).generation (as_responder (own_of (ends 0)) j) true ∷ []) (sid_of sent) sent (session_context (ends 0).generation (as_responder (own_of (ends 0)) j) true) plain
+    again = inl (refl, record { secret = opens.secret; known = opens.known; id = refl; opens = subst (λ (sid : ℕ). Opens opens.secret (inward (ends 0) (HalfOpen j)) sid (drop 4 sent) plain) (sym opens.id) opens.opens })
 
 -- ---- fresh
 

@@ -4,7 +4,7 @@ use Rattle.crypto_profile.specs.declared.keys.Context.TheVariants.{Startup}
 use Rattle.rtmfp_packet.specs.Whole.{Whole}
 use Rattle.rtmfp_packet.specs.Walk.{Placed}
 use Rattle.rtmfp_chunks.specs.Chunk.{RHello, IIKeying, RIKeying, Spells}
-use Rattle.endpoint_laws.specs.Contexts.{ReadsUnder}
+use Rattle.endpoint_laws.specs.Contexts.{Secrets, ReadsUnder}
 use Rattle.endpoint_model.specs.Keying.{IsFirst, chunks_of}
 
 -- what an initiator's keying says; the signature ends its payload
@@ -16,11 +16,12 @@ pub record Keying : Type 0 where
   pub before : List ℕ
   pub sign : List ℕ
 
--- The datagram opens in the startup context under session ID 0, and its first initiator's keying
--- says this.
-pub record BringsKeying (secret sent : List ℕ) (k : Keying) : Type 0 where
+-- The datagram opens in the startup context of this generation under session ID 0, and its first
+-- initiator's keying says this.
+pub record BringsKeying (secrets : Secrets) (generation : ℕ) (sent : List ℕ) (k : Keying)
+    : Type 0 where
   pub packet : Whole
-  pub reads : ReadsUnder secret (Startup 0) 0 sent packet
+  pub reads : ReadsUnder secrets (Startup generation) 0 sent packet
   pub chunk : Placed
   pub first : IsFirst chunk (chunks_of packet)
   pub spells : Spells (IIKeying k.near k.cookie k.cert k.part k.sign) chunk.kind chunk.payload
@@ -33,11 +34,12 @@ pub record Answer : Type 0 where
   pub before : List ℕ
   pub sign : List ℕ
 
--- The datagram opens in the startup context under this session ID, and a responder's keying that
--- says this is its only chunk.
-pub record BringsAnswer (secret : List ℕ) (sid : ℕ) (sent : List ℕ) (a : Answer) : Type 0 where
+-- The datagram opens in the startup context of this generation under this session ID, and a responder's
+-- keying that says this is its only chunk.
+pub record BringsAnswer (secrets : Secrets) (generation sid : ℕ) (sent : List ℕ) (a : Answer)
+    : Type 0 where
   pub packet : Whole
-  pub reads : ReadsUnder secret (Startup 0) sid sent packet
+  pub reads : ReadsUnder secrets (Startup generation) sid sent packet
   pub chunk : Placed
   pub only : chunks_of packet ≡ chunk ∷ []
   pub spells : Spells (RIKeying a.near a.part a.sign) chunk.kind chunk.payload
@@ -49,11 +51,12 @@ pub record Hello : Type 0 where
   pub cookie : List ℕ
   pub cert : List ℕ
 
--- The datagram opens in the startup context under session ID 0, and a responder's hello that says
--- this is its only chunk.
-pub record BringsHello (secret sent : List ℕ) (hello : Hello) : Type 0 where
+-- The datagram opens in the startup context of this generation under session ID 0, and a responder's
+-- hello that says this is its only chunk.
+pub record BringsHello (secrets : Secrets) (generation : ℕ) (sent : List ℕ) (hello : Hello)
+    : Type 0 where
   pub packet : Whole
-  pub reads : ReadsUnder secret (Startup 0) 0 sent packet
+  pub reads : ReadsUnder secrets (Startup generation) 0 sent packet
   pub chunk : Placed
   pub only : chunks_of packet ≡ chunk ∷ []
   pub spells : Spells (RHello hello.tag hello.cookie hello.cert) chunk.kind chunk.payload

@@ -10,6 +10,7 @@ use Rattle.endpoint_model.specs.declared.config.Draws.{Draws}
 use Rattle.endpoint_model.specs.declared.entry.Entry.{Entry}
 use Rattle.endpoint_model.specs.declared.entry.Entry.TheVariants.{Closed}
 use Rattle.endpoint_model.specs.Event.{Setup, Call, Open, Cancel, Close, Receive, Tick, Event}
+use Rattle.endpoint_laws.specs.Contexts.{Secrets}
 use Rattle.endpoint_laws.specs.Past.{is_close, with_begun}
 use Rattle.endpoint_laws.specs.Lawful.{ClosedLine}
 use Rattle.endpoint_checks.specs.Logs.{answering, doing, says, IsRefused, past_of_end}
@@ -25,45 +26,49 @@ over j = Closed j.near ∷ []
 abbrev pub after_end : ℕ → Call → Call → Joined → Why → List Event → List Event
 after_end moment c d j why more = doing 0 c (says (Born j)) ∷ doing moment d (ends j why) ∷ more
 
-pub record ClosingsRefused (setup : Setup) (moment : ℕ) (c d e : Call) (from : AddressParts)
-    (sent : List ℕ) (draws : Draws) (j : Joined) (why : Why) : Type 0 where
+pub record ClosingsRefused (secrets : Secrets) (setup : Setup) (moment : ℕ) (c d e : Call)
+    (from : AddressParts) (sent : List ℕ) (draws : Draws) (j : Joined) (why : Why) : Type 0 where
   -- nothing was closed: there was nothing, an attempt, or a session that is held; or the session
   -- ended for a cause after which no session is closing
-  pub of_nothing : (near : ℕ) → IsRefused setup (doing moment e (Closed near ∷ []) ∷ [])
+  pub of_nothing : (near : ℕ) → IsRefused secrets setup (doing moment e (Closed near ∷ []) ∷ [])
   pub of_attempt : (peer : List ℕ) →
-      IsRefused setup (after_start 0 c peer (doing moment e (Closed 5 ∷ [])))
-  pub of_held : IsRefused setup (after_birth c j (doing moment e (over j)))
+      IsRefused secrets setup (after_start 0 c peer (doing moment e (Closed 5 ∷ [])))
+  pub of_held : IsRefused secrets setup (after_birth c j (doing moment e (over j)))
   pub of_dropped : is_close why ≡ false →
-      IsRefused setup (after_end 0 c d j why (doing moment e (over j) ∷ []))
+      IsRefused secrets setup (after_end 0 c d j why (doing moment e (over j) ∷ []))
   -- another session was closed, or the closing is over already
   pub other_id : (near : ℕ) → near ≢ j.near →
-      IsRefused setup (after_end 0 c d j why (doing moment e (Closed near ∷ []) ∷ []))
+      IsRefused secrets setup (after_end 0 c d j why (doing moment e (Closed near ∷ []) ∷ []))
   pub again : (f : Call) →
-      IsRefused setup (after_end 0 c d j why (doing 0 f (over j) ∷ doing moment e (over j) ∷ []))
+      IsRefused secrets setup (after_end 0 c d j why (doing 0 f (over j) ∷ doing moment e (over j)
+      ∷ []))
   -- another call than a tick, and than one that takes a datagram
   pub in_open : (towards : List ℕ) (candidates : List AddressParts) →
-      IsRefused setup
+      IsRefused secrets setup
       (after_end 0 c d j why (doing moment (Open towards candidates draws) (over j) ∷ []))
   pub in_cancel : (m : ℕ) →
-      IsRefused setup (after_end 0 c d j why (doing moment (Cancel m) (over j) ∷ []))
+      IsRefused secrets setup (after_end 0 c d j why (doing moment (Cancel m) (over j) ∷ []))
   pub in_close : (id : ℕ) →
-      IsRefused setup (after_end 0 c d j why (doing moment (Close id) (over j) ∷ []))
+      IsRefused secrets setup (after_end 0 c d j why (doing moment (Close id) (over j) ∷ []))
   -- a tick 18,999 ms after the session was closed, also where that wasn't at 0
-  pub early : IsRefused setup (after_end 0 c d j why (doing 18999 (Tick draws) (over j) ∷ []))
-  pub early_later : IsRefused setup (after_end 7 c d j why (doing 19006 (Tick draws) (over j) ∷ []))
+  pub early : IsRefused secrets setup (after_end 0 c d j why (doing 18999 (Tick draws) (over j)
+      ∷ []))
+  pub early_later : IsRefused secrets setup (after_end 7 c d j why (doing 19006 (Tick draws)
+      (over j) ∷ []))
   -- a datagram that the session doesn't take, or that has no answer to a close
-  pub untaken : UntakenRefused setup from sent draws j CloseAck
-      (λ more answer. IsRefused setup (after_end 0 c (Close j.near) j Near
+  pub untaken : UntakenRefused secrets setup from sent draws j CloseAck
+      (λ more answer. IsRefused secrets setup (after_end 0 c (Close j.near) j Near
       (more ++ answering moment (Receive from sent draws) answer (over j) ∷ [])))
   -- a tick at 19,000 ms meets the line, and a datagram with an answer to a close
   pub in_time : is_close why ≡ true →
-      ClosedLine setup 19000 (Tick draws) (past_of_end j why) j.near
-  pub by_answer : Brings setup j sent CloseAck →
-      ClosedLine setup moment (Receive from sent draws)
+      ClosedLine secrets setup 19000 (Tick draws) (past_of_end j why) j.near
+  pub by_answer : Brings secrets setup j sent CloseAck →
+      ClosedLine secrets setup moment (Receive from sent draws)
       (with_begun moment (doing moment (Receive from sent draws) (over j)) (past_of_end j Near))
       j.near
 
 abbrev pub TheTableRefusesClosings : Type 0
-TheTableRefusesClosings = (setup : Setup) (moment : ℕ) (c d e : Call) (from : AddressParts)
+TheTableRefusesClosings = (secrets : Secrets) (setup : Setup) (moment : ℕ) (c d e : Call)
+    (from : AddressParts)
     (sent : List ℕ) (draws : Draws) (j : Joined) (why : Why)
-    → ClosingsRefused setup moment c d e from sent draws j why
+    → ClosingsRefused secrets setup moment c d e from sent draws j why

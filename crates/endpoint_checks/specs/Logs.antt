@@ -7,6 +7,7 @@ use Rattle.glare_core.specs.declared.facts.Joined.{Joined}
 use Rattle.endpoint_model.specs.declared.entry.Entry.{Entry}
 use Rattle.endpoint_model.specs.declared.entry.Entry.TheVariants.{Fact as FactEntry}
 use Rattle.endpoint_model.specs.Event.{Setup, Call, Answer, Done, Event}
+use Rattle.endpoint_laws.specs.Contexts.{Secrets}
 use Rattle.endpoint_laws.specs.Past.{Past, nothing_done, with_fact}
 use Rattle.endpoint_laws.specs.Lawful.{IsLawful}
 
@@ -27,9 +28,9 @@ doing moment call entries = answering moment call Done entries
 abbrev pub says : Fact → List Entry
 says fact = FactEntry fact ∷ []
 
--- The log isn't lawful.
-abbrev pub IsRefused : Setup → List Event → Type 0
-IsRefused setup log = IsLawful setup log → ⊥
+-- The log isn't lawful where these are the secrets of the group.
+abbrev pub IsRefused : Secrets → Setup → List Event → Type 0
+IsRefused secrets setup log = IsLawful secrets setup log → ⊥
 
 -- a session with this near id, of the first attempt of its initiator
 abbrev pub joined : List ℕ → ℕ → ℕ → List ℕ → List ℕ → Joined

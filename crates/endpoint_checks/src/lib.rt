@@ -121,7 +121,8 @@ pub fn confirms()
     ensures { TheTableRefusesConfirms }
 {}
 
-/// Datagrams that go out and aren't sealed in their context.
+/// Datagrams that go out and aren't sealed in their context, or go out in one of a generation for
+/// which the group has no secret.
 pub fn sends()
     ensures { TheTableRefusesSends }
 {}
@@ -131,25 +132,26 @@ pub fn numbers()
     ensures { TheTableRefusesNumbers }
 {}
 
-/// Initiators' keyings that go out without an attempt that is held, or that say something else than
-/// it.
+/// Initiators' keyings that go out without an attempt that is held, in another generation than the
+/// end's, or that say something else than the attempt.
 pub fn keyings_sent()
     ensures { TheTableRefusesKeyingsSent }
 {}
 
-/// Responders' keyings that go out without a session that was born here and is held, or that say
-/// something else than it.
+/// Responders' keyings that go out without a session that was born here and is held, in another
+/// generation than the end's, or that say something else than the session.
 pub fn answers_sent()
     ensures { TheTableRefusesAnswersSent }
 {}
 
-/// Datagrams that go out in the context of a session that isn't held, towards this end, or under
-/// another session ID than the peer's.
+/// Datagrams that go out in the context of a session that isn't held, towards this end, in another
+/// generation than the session's, or under another session ID than the peer's.
 pub fn sends_in_sessions()
     ensures { TheTableRefusesSendsInSessions }
 {}
 
-/// Histories in which an end takes a datagram that nobody sent in its context before.
+/// Histories in which an end takes a datagram that nobody sent in its context before, though it was
+/// sent in that of another generation.
 pub fn forged()
     ensures startup { HistoriesRefuseForged }
     ensures sessions { HistoriesRefuseForgedInSessions }
@@ -161,7 +163,7 @@ pub fn stale()
 {}
 
 /// Histories in which two ends keep different sessions, or in which attempts open, are born or end
-/// otherwise than agreed histories allow.
+/// otherwise than agreed histories allow, also as the ends are in different generations.
 pub fn disagreed()
     ensures { HistoriesRefuseDisagreed }
 {}
