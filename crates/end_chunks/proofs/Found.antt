@@ -11,8 +11,10 @@ use Rattle.startup.specs.Attempts.{lowest, has_tag, changed, answer_fact, after_
 use Rattle.startup.specs.Redirects.{sent_by_spread}
 use Rattle.startup.specs.Judging.{IsFound, IsGreeted, found_in, ExtensionParts, Extends, extension_spread}
 use Rattle.startup.proofs.Choices.{found_is}
+use Rattle.crypto_profile.specs.declared.group.GroupSecret.{GroupSecret}
 use Rattle.endpoint_model.specs.declared.place.Place.{Place}
 use Rattle.endpoint_model.specs.Added.{Added}
+use Rattle.endpoint_model.specs.Admission.{group_at}
 use Rattle.endpoint_model.specs.State.{State, Did, Done, after_entries, fact_entries, with_startup}
 use Rattle.endpoint_model.specs.Sending.{sent_answer, sent_if}
 use Rattle.end_chunks.specs.Judging.{hello_did, view_done}
@@ -21,23 +23,24 @@ use Rattle.end_chunks.specs.Judging.{hello_did, view_done}
 
 -- the hello with this certificate does what the attempt or search does that was found, with its fingerprint
 pub hello_does : (s : State) (place : Place) (from : AddressParts) (tag cookie cert : List ℕ) (greeting : Greeting) → IsGreeted s.startup greeting (lowest (has_tag tag) s.startup.attempts) cert →
-    view_done s place from (RHello tag cookie cert) ≡ hello_did s greeting.print (found_in s.startup greeting.found) from cookie
+    view_done s place from (RHello tag cookie cert) ≡ hello_did s (group_at s place) greeting.print (found_in s.startup greeting.found) from cookie
 hello_does s place from tag cookie cert greeting is =
-    ap (λ (print : List ℕ). hello_did s print (lowest (has_tag tag) s.startup.attempts) from cookie) (sym is.print)
-    ∙ ap (λ (o : Option (ℕ × AttemptState)). hello_did s greeting.print o from cookie) (found_is s.startup greeting.found (lowest (has_tag tag) s.startup.attempts) is.found)
+    ap (λ (print : List ℕ). hello_did s (group_at s place) print (lowest (has_tag tag) s.startup.attempts) from cookie) (sym is.print)
+    ∙ ap (λ (o : Option (ℕ × AttemptState)). hello_did s (group_at s place) greeting.print o from cookie) (found_is s.startup greeting.found (lowest (has_tag tag) s.startup.attempts) is.found)
 
 -- what startup told of the one that was chosen, and then its keying, is what the one does that was found
-pub hello_so : (s t : State) (print : List ℕ) (chosen found : Option (ℕ × AttemptState)) (from : AddressParts) (cookie : List ℕ) (fact : Option Fact) (answer : Answer) (new : State) (before after : Added) →
-    chosen ≡ found → fact ≡ answer_fact s.startup print chosen → answer_keying s.startup print chosen from cookie ≡ Some answer →
-    t ≡ with_startup s (after_answer s.startup print chosen from cookie s.moment) →
-    Done (after_entries (fact_entries fact) (sent_answer t answer)) new before after → Done (hello_did s print found from cookie) new before after
-hello_so s t print chosen found from cookie fact answer new before after same fact_is answer_is t_is done =
-    let left : State = with_startup s (after_answer s.startup print chosen from cookie s.moment) in
-    let did : after_entries (fact_entries fact) (sent_answer t answer) ≡ hello_did s print found from cookie =
+pub hello_so : (s t : State) (g group : GroupSecret) (print : List ℕ) (chosen found : Option (ℕ × AttemptState)) (from : AddressParts) (cookie : List ℕ) (fact : Option Fact) (answer : Answer) (new : State) (before after : Added) →
+    g ≡ group → chosen ≡ found → fact ≡ answer_fact s.startup print chosen → answer_keying s.startup print chosen from cookie g ≡ Some answer →
+    t ≡ with_startup s (after_answer s.startup print chosen from cookie s.moment g) →
+    Done (after_entries (fact_entries fact) (sent_answer t answer)) new before after → Done (hello_did s group print found from cookie) new before after
+hello_so s t g group print chosen found from cookie fact answer new before after under same fact_is answer_is t_is done =
+    let left : State = with_startup s (after_answer s.startup print chosen from cookie s.moment g) in
+    let did : after_entries (fact_entries fact) (sent_answer t answer) ≡ hello_did s group print found from cookie =
     ap (λ (f : Option Fact). after_entries (fact_entries f) (sent_answer t answer)) fact_is
     ∙ ap (λ (u : State). after_entries (fact_entries (answer_fact s.startup print chosen)) (sent_answer u answer)) t_is
     ∙ ap (λ (o : Option Answer). after_entries (fact_entries (answer_fact s.startup print chosen)) (sent_if left o)) (sym answer_is)
-    ∙ ap (λ (o : Option (ℕ × AttemptState)). hello_did s print o from cookie) same in
+    ∙ ap (λ (o : Option (ℕ × AttemptState)). hello_did s g print o from cookie) same
+    ∙ ap (λ (h : GroupSecret). hello_did s h print found from cookie) under in
     subst (λ (d : Did). Done d new before after) did done
 
 -- ---- a change of a cookie

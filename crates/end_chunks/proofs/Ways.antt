@@ -64,12 +64,12 @@ module _ (s : State) (place : Place) (walk : Walk) (from : AddressParts) (c : Pl
       initiator_kind : c.kind ≡ 0x38
       initiator_kind = sym same ∙ eqb-true row.kind 0x38 (is.initiator ∙ ap is_initiator way)
 
-      pub initiator_cause : judged_cause place 0x38 (keying_fault 0x38 c.payload) (initiator_keying_cause s walk from c.payload) ≡ chunk_cause s place walk from c
+      pub initiator_cause : judged_cause place 0x38 (keying_fault 0x38 c.payload) (initiator_keying_cause s place walk from c.payload) ≡ chunk_cause s place walk from c
       initiator_cause =
-          sym (skip_none (keying_fault 0x38 c.payload) (where_true (not (takes place 0x38)) WrongPlace ∷ initiator_keying_cause s walk from c.payload ∷ []))
+          sym (skip_none (keying_fault 0x38 c.payload) (where_true (not (takes place 0x38)) WrongPlace ∷ initiator_keying_cause s place walk from c.payload ∷ []))
           ∙ sym (ap (λ k. chunk_cause s place walk from (of_kind k)) initiator_kind)
 
-      pub initiator_does : ◌≡◌ {A = Draws → Did} (λ draws. initiator_keyed s from draws c.payload) (λ draws. effect s place walk from draws c)
+      pub initiator_does : ◌≡◌ {A = Draws → Did} (λ draws. initiator_keyed s place from draws c.payload) (λ draws. effect s place walk from draws c)
       initiator_does = sym (ap {B = Draws → Did} (λ (k : ℕ) (draws : Draws). effect s place walk from draws (of_kind k)) initiator_kind)
 
       pub initiator_busy : is_idle s place from c ≡ true → ⊥
@@ -80,9 +80,9 @@ module _ (s : State) (place : Place) (walk : Walk) (from : AddressParts) (c : Pl
       responder_kind : c.kind ≡ 0x78
       responder_kind = sym same ∙ eqb-true row.kind 0x78 (is.responder ∙ ap is_responder way)
 
-      pub responder_cause : judged_cause place 0x78 (keying_fault 0x78 c.payload) (responder_keying_cause s (sid_at place) c.payload) ≡ chunk_cause s place walk from c
+      pub responder_cause : judged_cause place 0x78 (keying_fault 0x78 c.payload) (responder_keying_cause s place c.payload) ≡ chunk_cause s place walk from c
       responder_cause =
-          sym (skip_none (keying_fault 0x78 c.payload) (where_true (not (takes place 0x78)) WrongPlace ∷ responder_keying_cause s (sid_at place) c.payload ∷ []))
+          sym (skip_none (keying_fault 0x78 c.payload) (where_true (not (takes place 0x78)) WrongPlace ∷ responder_keying_cause s place c.payload ∷ []))
           ∙ sym (ap (λ k. chunk_cause s place walk from (of_kind k)) responder_kind)
 
       pub responder_does : ◌≡◌ {A = Draws → Did} (λ draws. responder_keyed s (sid_at place) from c.payload) (λ draws. effect s place walk from draws c)
@@ -123,8 +123,8 @@ module _ (s : State) (place : Place) (walk : Walk) (from : AddressParts) (c : Pl
           else read_fault (length c.payload) (chunk_reading c.kind c.payload))
           ∷ where_true (fragment i) FragmentCause
           ∷ where_true (not (takes place c.kind)) WrongPlace
-          ∷ (if initiator i then initiator_keying_cause s walk from c.payload
-          else if responder i then responder_keying_cause s (sid_at place) c.payload
+          ∷ (if initiator i then initiator_keying_cause s place walk from c.payload
+          else if responder i then responder_keying_cause s place c.payload
           else if apart i then flow_cause (get s.sessions (sid_at place)) (data_reading walk.cursor c.kind c.payload)
           else other_cause s place from c) ∷ []))
           ∙ skip_none (read_fault (length c.payload) (chunk_reading c.kind c.payload)) (where_true (not (takes place c.kind)) WrongPlace ∷ other_cause s place from c ∷ [])
@@ -134,7 +134,7 @@ module _ (s : State) (place : Place) (walk : Walk) (from : AddressParts) (c : Pl
 
       as_other : ◌≡◌ {A = Draws → Did} (λ draws. effect s place walk from draws c) (λ draws. other_done s place from c)
       as_other =
-          λ i draws. if initiator i then initiator_keyed s from draws c.payload
+          λ i draws. if initiator i then initiator_keyed s place from draws c.payload
           else if responder i then responder_keyed s (sid_at place) from c.payload
           else if is_told_in_session c.kind then told_in_session s (sid_at place) from c
           else if apart i then flow_taken s (sid_at place) (data_reading walk.cursor c.kind c.payload)

@@ -3,6 +3,7 @@ use Rattle.std.specs.Prelude.{ℕ, ◌≤◌, not, Bool, true, if◌then◌else�
 use Rattle.std.specs.Prelude.{Some, None, Ok, ◌≡◌}
 use Rattle.std.specs.FinMap.{get}
 use Rattle.rtmfp_forms.specs.Address.{AddressParts}
+use Rattle.crypto_profile.specs.declared.group.GroupSecret.{GroupSecret}
 use Rattle.rtmfp_chunks.specs.Chunk.{chunk_of, Chunk}
 use Rattle.rtmfp_chunks.specs.Chunk.{Close as CloseChunk, CloseAck as CloseAckChunk}
 use Rattle.rtmfp_chunks.specs.Chunk.{FIHello, PingReply as PingReplyChunk}
@@ -28,7 +29,7 @@ use Rattle.endpoint_model.specs.declared.place.Place.{Place}
 use Rattle.endpoint_model.specs.State.{State, Did, nothing, after_entries, then_do, fact_entries}
 use Rattle.endpoint_model.specs.State.{with_startup, full}
 use Rattle.endpoint_model.specs.Sending.{sent_answer, sent_if, sent_in_session}
-use Rattle.endpoint_model.specs.Admission.{sid_at}
+use Rattle.endpoint_model.specs.Admission.{group_at, sid_at}
 use Rattle.endpoint_model.specs.InSessions.{answers_by, close_taken_by, closed, moved_by}
 use Rattle.endpoint_model.specs.InSessions.{told_in_session}
 use Rattle.endpoint_model.specs.Causes.{has_state_for, read_cause, takes}
@@ -37,7 +38,7 @@ use Rattle.endpoint_model.specs.Effects.{adds_nothing, forwarded, is_told_in_ses
 use Rattle.endpoint_model.specs.Effects.{sent_spread_if}
 use Rattle.endpoint_model.specs.Introducing.{redirect_of}
 use Rattle.end_chunks.specs.declared.judging.Verdict.{Verdict}
-use Rattle.end_chunks.specs.declared.judging.Verdict.TheVariants.{Hello, ResponderHello}
+use Rattle.end_chunks.specs.declared.judging.Verdict.TheVariants.{Hello, ForwardedHello, ResponderHello}
 use Rattle.end_chunks.specs.declared.judging.Verdict.TheVariants.{CookieChange}
 use Rattle.end_chunks.specs.declared.judging.Verdict.TheVariants.{InitiatorKeying, ResponderKeying}
 use Rattle.end_chunks.specs.declared.judging.Verdict.TheVariants.{Introduction, Redirect}
@@ -76,24 +77,27 @@ does_nothing s place from (PingReplyChunk bytes) =
     not (answers_by from bytes (get s.sessions (sid_at place)))
 does_nothing s place from chunk = adds_nothing s from (Ok chunk)
 
--- What the hello of the end with this fingerprint does to the attempt or search that it answers: a
--- search starts as an attempt, which is told first, and the keying goes to where the hello came
--- from.
-abbrev pub hello_did : State → List ℕ → Option (ℕ × AttemptState) → AddressParts → List ℕ → Did
-hello_did s print chosen from cookie = after_entries
+-- What the hello of the end with this fingerprint does to the attempt or search that it answers,
+-- where it came under this secret of the group: a search starts as an attempt, which is told first,
+-- and the keying goes to where the hello came from.
+abbrev pub hello_did : State → GroupSecret → List ℕ → Option (ℕ × AttemptState) → AddressParts →
+    List ℕ → Did
+hello_did s g print chosen from cookie = after_entries
     (fact_entries (answer_fact s.startup print chosen))
-    (sent_if (with_startup s (after_answer s.startup print chosen from cookie s.moment))
-    (answer_keying s.startup print chosen from cookie))
+    (sent_if (with_startup s (after_answer s.startup print chosen from cookie s.moment g))
+    (answer_keying s.startup print chosen from cookie g))
 
 -- what it does
 abbrev pub verdict_did : State → Place → AddressParts → Draws → Verdict → Did
-verdict_did s place from draws (Hello tag to) =
-    sent_answer s (initiator_hello_answer s.startup tag.now to s.moment)
+verdict_did s place from draws (Hello tag) =
+    sent_answer s (initiator_hello_answer s.startup tag.now from s.moment (group_at s place))
+verdict_did s place from draws (ForwardedHello tag to) =
+    sent_answer s (initiator_hello_answer s.startup tag.now to s.moment s.group)
 verdict_did s place from draws (ResponderHello greeting cookie) =
-    hello_did s greeting.print (found_in s.startup greeting.found) from cookie.now
+    hello_did s (group_at s place) greeting.print (found_in s.startup greeting.found) from cookie.now
 verdict_did s place from draws (Introduction epd tag near row) =
     then_do (forwarded s near (chunk_bytes (FIHello epd.now (observed from) tag.now)))
-    (λ t. sent_if t (redirect_of tag.now from row))
+    (λ t. sent_if t (redirect_of tag.now from row (group_at s place)))
 verdict_did s place from draws (Redirect extension) =
     sent_spread_if (with_startup s
     (after_extension_of s.startup (found_in s.startup extension.found) extension.new s.moment))
@@ -102,7 +106,7 @@ verdict_did s place from draws (CookieChange found new) =
     sent_if (with_startup s (after_change s.startup (found_in s.startup found) new.now s.moment))
     (change_keying s.startup (found_in s.startup found) new.now)
 verdict_did s place from draws (InitiatorKeying fields hearing) =
-    initiator_keyed s from draws fields.payload.now
+    initiator_keyed s place from draws fields.payload.now
 verdict_did s place from draws (ResponderKeying fields peer) =
     responder_keyed s (sid_at place) from fields.payload.now
 verdict_did s place from draws (Reply chunk) =
@@ -116,7 +120,8 @@ verdict_did s place from draws Quiet = nothing s
 
 -- what was found is so
 abbrev pub IsSo : State → Place → AddressParts → Verdict → Type 0
-IsSo s place from (Hello tag to) = wide tag.now ≡ None
+IsSo s place from (Hello tag) = wide tag.now ≡ None
+IsSo s place from (ForwardedHello tag to) = wide tag.now ≡ None
 IsSo s place from (ResponderHello greeting cookie) =
     ((chosen : Option (ℕ × AttemptState)) × ((cert : List ℕ) ×
     IsGreeted s.startup greeting chosen cert)) × (length cookie.now ≤ 128)
@@ -128,8 +133,8 @@ IsSo s place from (CookieChange found new) =
     × (length new.now ≤ 128)
 IsSo s place from (InitiatorKeying fields hearing) =
     (initiator_keying_in fields.payload.now ≡ Ok (initiator_of fields))
-    × (judged_initiator s.startup fields.payload.now from s.moment (full s) (initiator_of fields)
-    ≡ Ok hearing)
+    × (judged_initiator s.startup fields.payload.now from s.moment (full s) (group_at s place)
+    (initiator_of fields) ≡ Ok hearing)
 IsSo s place from (ResponderKeying fields peer) =
     (responder_keying_in fields.payload.now ≡ Ok (responder_of fields))
     × (peer_of_attempt (get s.startup.attempts (sid_at place)) ≡ Some peer)

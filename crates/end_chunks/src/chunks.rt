@@ -9,6 +9,7 @@ ghost use Rattle.startup.specs.State.{AttemptState};
 ghost use Rattle.startup.specs.Attempts.{after_change, change_keying, changed, wide};
 ghost use Rattle.startup.specs.Keyings.{initiator_hello_answer};
 ghost use Rattle.startup.specs.Judging.{found_in, IsFound, IsGreeted};
+ghost use Rattle.endpoint_model.specs.Admission.{group_at};
 ghost use Rattle.endpoint_model.specs.Effects.{IsQuiet, chunk_did, discards_for, walked};
 ghost use Rattle.endpoint_model.specs.Causes.{chunk_cause};
 ghost use Rattle.endpoint_model.specs.Sending.{sent_answer, sent_if, sent_in_session};
@@ -46,13 +47,14 @@ fn apply(
     ensures quiet { verdict.now ≡ Verdict.Quiet → IsOk result }
 {
     match verdict {
-        Verdict::Hello { tag, to } => answer_hello(end, tag, to, out),
+        Verdict::Hello { tag } => answer_hello(end, place, tag, from, out),
+        Verdict::ForwardedHello { tag, to } => answer_forwarded(end, tag, to, out),
         Verdict::Introduction {
             epd,
             tag,
             near,
             row,
-        } => introduce(end, *near, row, epd, tag, from, out),
+        } => introduce(end, place, *near, row, epd, tag, from, out),
         Verdict::Redirect { extension } => {
             let hellos = extend(end, extension, out)?;
             end.send_each(
@@ -64,11 +66,11 @@ fn apply(
             Ok(())
         }
         Verdict::ResponderHello { greeting, cookie } => {
-            take_hello(end, greeting, cookie, from, out)
+            take_hello(end, place, greeting, cookie, from, out)
         }
-        Verdict::CookieChange { found, new } => change_cookie(end, *found, new, out),
+        Verdict::CookieChange { found, new } => change_cookie(end, place, *found, new, out),
         Verdict::InitiatorKeying { fields, hearing } => {
-            initiator_keyed(end, fields, hearing, from, draws, out)
+            initiator_keyed(end, place, fields, hearing, from, draws, out)
         }
         Verdict::ResponderKeying { fields, peer } => {
             responder_keyed(end, sid_at(place), fields, peer, from, out)
@@ -81,8 +83,31 @@ fn apply(
     }
 }
 
-/// Answers a hello that selects this end and has this tag, to an address.
+/// Answers a hello that selects this end and has this tag, which came from an address at a place.
 fn answer_hello(
+    end: &mut EndState,
+    place: Place,
+    tag: &[u8],
+    from: &Address,
+    out: &mut Outbox,
+) -> Result<(), AllocError>
+    requires { wide tag.now ≡ None }
+    ensures ok { OnOk result
+        (Done (sent_answer end.old (initiator_hello_answer end.old.startup tag.now from.now
+        end.old.moment (group_at end.old place))) end.new out.old out.new) }
+    ensures err { OnErr result (Done (nothing end.old) end.new out.old out.new) }
+{
+    out.make_room(1)?;
+    let blank = blank(end.alloc)?;
+    let group = end.group_at(place);
+    let answer = end.startup.apply_hello(tag, from, end.moment, group.get());
+    out.add_some(end.seal_answer(blank, &answer));
+    Ok(())
+}
+
+/// Answers a hello that was forwarded to this end and has this tag, to an address, in the current
+/// generation.
+fn answer_forwarded(
     end: &mut EndState,
     tag: &[u8],
     to: &Address,
@@ -91,20 +116,23 @@ fn answer_hello(
     requires { wide tag.now ≡ None }
     ensures ok { OnOk result
         (Done (sent_answer end.old (initiator_hello_answer end.old.startup tag.now to.now
-        end.old.moment)) end.new out.old out.new) }
+        end.old.moment end.old.group)) end.new out.old out.new) }
     ensures err { OnErr result (Done (nothing end.old) end.new out.old out.new) }
 {
     out.make_room(1)?;
     let blank = blank(end.alloc)?;
-    let answer = end.startup.apply_hello(tag, to, end.moment);
+    let answer = end
+        .startup
+        .apply_hello(tag, to, end.moment, &end.groups.current);
     out.add_some(end.seal_answer(blank, &answer));
     Ok(())
 }
 
-/// Takes a responder's hello with this cookie, which came from an address and answers the attempt
-/// or the search that was found. A search starts as an attempt then.
+/// Takes a responder's hello with this cookie, which came from an address at a place and answers
+/// the attempt or the search that was found. A search starts as an attempt then.
 fn take_hello(
     end: &mut EndState,
+    place: Place,
     greeting: &Greeting,
     cookie: &[u8],
     from: &Address,
@@ -113,16 +141,17 @@ fn take_hello(
     requires greeted { (chosen : Option (ℕ × AttemptState)) × ((cert : List ℕ) ×
         IsGreeted end.old.startup greeting.now chosen cert) }
     requires cookie { length cookie.now ≤ 128 }
-    ensures ok { OnOk result (Done (hello_did end.old greeting.now.print
-        (found_in end.old.startup greeting.now.found) from.now cookie.now) end.new out.old
-        out.new) }
+    ensures ok { OnOk result (Done (hello_did end.old (group_at end.old place)
+        greeting.now.print (found_in end.old.startup greeting.now.found) from.now cookie.now)
+        end.new out.old out.new) }
     ensures err { OnErr result (Done (nothing end.old) end.new out.old out.new) }
 {
     out.make_room(2)?;
     let blank = blank(end.alloc)?;
+    let group = end.groups.at(&end.startup, place);
     match end
         .startup
-        .apply_responder_hello(greeting, cookie, from, end.moment)
+        .apply_responder_hello(greeting, cookie, from, end.moment, group.get())
     {
         Ok(told) => {
             let (fact, answer) = told;
@@ -134,9 +163,11 @@ fn take_hello(
     }
 }
 
-/// Takes a change to this cookie, which is of the attempt that was found.
+/// Takes a change to this cookie, which came at a place and is of the attempt that was found. Its
+/// keying goes out again under its own secret, which is mostly that of the place.
 fn change_cookie(
     end: &mut EndState,
+    place: Place,
     found: Found,
     new: &[u8],
     out: &mut Outbox,
@@ -153,7 +184,10 @@ fn change_cookie(
 {
     out.make_room(1)?;
     let blank = blank(end.alloc)?;
-    let answer = end.startup.apply_cookie_change(found, new, end.moment);
+    let group = end.groups.at(&end.startup, place);
+    let answer = end
+        .startup
+        .apply_cookie_change(found, new, end.moment, group.get());
     out.add_some(end.seal_answer(blank, &answer));
     Ok(())
 }

@@ -10,6 +10,7 @@ ghost use Rattle.rtmfp_chunks.specs.Writing.{chunk_bytes};
 ghost use Rattle.startup.specs.Attempts.{wide};
 ghost use Rattle.startup.specs.Redirects.{adds, redirect_cause};
 ghost use Rattle.startup.specs.Judging.{after_extension_of, extension_spread, Extends, found_in};
+ghost use Rattle.endpoint_model.specs.Admission.{group_at};
 ghost use Rattle.endpoint_model.specs.Effects.{forwarded, hello_reply, read_done, replied};
 ghost use Rattle.endpoint_model.specs.Introducing.{hello_cause, redirect_of};
 ghost use Rattle.endpoint_model.specs.Sending.{sent_if};
@@ -24,7 +25,7 @@ use identity::Epd;
 use rtmfp_base::Cause;
 use rtmfp_chunks::ChunkView;
 use rtmfp_forms::Address;
-use startup::{Extension, Spread, redirect_answer, wide};
+use startup::{Answer, Extension, Spread, redirect_answer, wide};
 use std::alloc::AllocError;
 
 /// The origin of an address that an end observed.
@@ -53,7 +54,7 @@ pub(crate) fn judge_hello<'a>(
 ) -> Result<Verdict<'a>, Cause>
     ensures ok { IfOk result (Stands end.now place from.now
         (λ _. replied end.now place from.now
-        (hello_reply end.now epd.now tag.now from.now))) }
+        (hello_reply end.now epd.now tag.now from.now (group_at end.now place)))) }
     ensures none { IfOk result (λ _. hello_cause end.now epd.now tag.now ≡ None) }
     ensures refused { IfErr result (λ cause. hello_cause end.now epd.now tag.now
         ≡ Some cause) }
@@ -62,7 +63,7 @@ pub(crate) fn judge_hello<'a>(
         return Err(cause);
     }
     if end.startup.is_selected_by(epd) {
-        return Ok(Verdict::Hello { tag, to: *from });
+        return Ok(Verdict::Hello { tag });
     }
     // A name is nobody's fingerprint, so nobody is introduced for it.
     let Some(selected) = Epd::read(epd) else {
@@ -137,10 +138,32 @@ fn forward(
     end.seal_home(blank, near, &chunk)
 }
 
-/// Does what a hello asks that came from an address and selects another end: it is forwarded in
-/// this session of that end, and then answered with the addresses of its row.
+/// The redirect that answers a hello with this tag, which came at a place, with the addresses of a
+/// row, where there is one.
+fn redirect_at(
+    end: &EndState,
+    place: Place,
+    tag: &[u8],
+    from: &Address,
+    row: &Option<RowAddresses>,
+) -> Option<Answer>
+    requires { wide tag.now ≡ None }
+    ensures { result ≡ redirect_of tag.now from.now row.now (group_at end.now place) }
+{
+    match row {
+        Some(row) => {
+            let group = end.group_at(place);
+            Some(redirect_answer(tag, row.addresses(), from, group.get()))
+        }
+        None => None,
+    }
+}
+
+/// Does what a hello asks that came from an address at a place and selects another end: it is
+/// forwarded in this session of that end, and then answered with the addresses of its row.
 pub(crate) fn introduce(
     end: &mut EndState,
+    place: Place,
     near: Option<u32>,
     row: &Option<RowAddresses>,
     epd: &[u8],
@@ -152,15 +175,16 @@ pub(crate) fn introduce(
     requires selected { (selected : Epd) × (discriminator_of epd.now ≡ Some selected) }
     ensures ok { OnOk result (Done (then_do (forwarded end.old near
         (chunk_bytes (FIHello epd.now (observed from.now) tag.now)))
-        (λ t. sent_if t (redirect_of tag.now from.now row.now))) end.new out.old out.new) }
+        (λ t. sent_if t (redirect_of tag.now from.now row.now (group_at end.old place))))
+        end.new out.old out.new) }
     ensures err { OnErr result (Done (nothing end.old) end.new out.old out.new) }
 {
     out.make_room(2)?;
     let first = blank(end.alloc)?;
     let second = blank(end.alloc)?;
+    let redirect = redirect_at(end, place, tag, from, row);
     out.add_some(forward(end, first, near, epd, tag, from));
-    if let Some(row) = row {
-        let answer = redirect_answer(tag, row.addresses(), from);
+    if let Some(answer) = redirect {
         out.add_some(end.seal_answer(second, &answer));
     }
     Ok(())

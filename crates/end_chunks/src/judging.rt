@@ -7,12 +7,14 @@ ghost use Rattle.std.specs.FinMap.{get};
 ghost use Rattle.rtmfp_base.specs.Reasons.{first_that_stands, where_true};
 ghost use Rattle.rtmfp_forms.specs.Address.{AddressParts};
 ghost use Rattle.rtmfp_chunks.specs.declared.kinds.TheConstants.{FRAGMENT, IIKEYING, RIKEYING};
-ghost use Rattle.rtmfp_chunks.specs.Chunk.{chunk_of, kind_of};
+ghost use Rattle.rtmfp_chunks.specs.Chunk.{chunk_of, kind_of, CookieChange};
 ghost use Rattle.rtmfp_chunks.specs.FieldReading.{chunk_reading};
 ghost use Rattle.rtmfp_packet.specs.Chunks.{shown};
+ghost use Rattle.startup.specs.Attempts.{cookie_change_cause};
 ghost use Rattle.startup.specs.Keyings.{keying_fault};
-ghost use Rattle.endpoint_model.specs.Admission.{sid_at};
-ghost use Rattle.endpoint_model.specs.Effects.{effect, initiator_keyed, is_idle, responder_keyed};
+ghost use Rattle.endpoint_model.specs.Admission.{group_at, sid_at};
+ghost use Rattle.endpoint_model.specs.Effects.{effect, initiator_keyed, is_idle, read_done};
+ghost use Rattle.endpoint_model.specs.Effects.{responder_keyed};
 ghost use Rattle.endpoint_model.specs.InSessions.{answers_by, moved_by};
 ghost use Rattle.endpoint_model.specs.Causes.{chunk_cause, initiator_keying_cause};
 ghost use Rattle.endpoint_model.specs.Causes.{read_cause, read_fault, responder_keying_cause};
@@ -42,8 +44,12 @@ const PING_LIMIT: usize = 1024;
 /// A chunk that isn't discarded, as it was read, with what was found of it.
 #[derive(Drop)]
 pub(crate) enum Verdict<'a> {
-    /// The hello of an initiator with this tag, which is answered to an address.
+    /// The hello of an initiator with this tag, which is answered to where it came from.
     Hello {
+        tag: &'a [u8],
+    },
+    /// One that was forwarded, which is answered to an address, in the current generation.
+    ForwardedHello {
         tag: &'a [u8],
         to: Address,
     },
@@ -197,6 +203,30 @@ fn judge_reply<'a>(end: &EndState, place: Place, from: &Address, bytes: &'a [u8]
     }
 }
 
+/// What a change of a cookie does, or why it is discarded.
+fn judge_change<'a>(
+    end: &EndState,
+    place: Place,
+    old: &[u8],
+    new: &'a [u8],
+) -> Result<Verdict<'a>, Cause>
+    ensures ok { IfOk result (λ verdict. (from : AddressParts) → Stands end.now place from
+        (λ _. read_done end.now place from (Ok (CookieChange old.now new.now))) verdict) }
+    ensures none { IfOk result (λ _. cookie_change_cause end.now.startup (sid_at place) old.now
+        new.now (group_at end.now place).generation ≡ None) }
+    ensures refused { IfErr result (λ cause. cookie_change_cause end.now.startup (sid_at place)
+        old.now new.now (group_at end.now place).generation ≡ Some cause) }
+{
+    let group = end.group_at(place);
+    match end
+        .startup
+        .judge_cookie_change(sid_at(place), old, new, group.get())
+    {
+        Ok(found) => Ok(Verdict::CookieChange { found, new }),
+        Err(cause) => Err(cause),
+    }
+}
+
 /// What a chunk does that is no keying, or why it is discarded.
 fn judge_view<'a>(
     end: &EndState,
@@ -219,7 +249,7 @@ fn judge_view<'a>(
         ChunkView::FIHello { epd, reply, tag } => {
             match end.startup.initiator_hello_cause(epd, tag) {
                 Some(cause) => Err(cause),
-                None => Ok(Verdict::Hello { tag, to: reply }),
+                None => Ok(Verdict::ForwardedHello { tag, to: reply }),
             }
         }
         ChunkView::RHello { tag, cookie, cert } => {
@@ -228,12 +258,7 @@ fn judge_view<'a>(
                 Err(cause) => Err(cause),
             }
         }
-        ChunkView::CookieChange { old, new } => {
-            match end.startup.judge_cookie_change(sid_at(place), old, new) {
-                Ok(found) => Ok(Verdict::CookieChange { found, new }),
-                Err(cause) => Err(cause),
-            }
-        }
+        ChunkView::CookieChange { old, new } => judge_change(end, place, old, new),
         ChunkView::Ping { bytes } => match ping_cause(bytes) {
             Some(cause) => Err(cause),
             None => Ok(Verdict::Reply {
@@ -262,13 +287,13 @@ fn judge_initiator<'a>(
     requires row { IsRow kind.now }
     requires kind { kind.now.kind ≡ IIKEYING }
     ensures ok { IfOk result (Stands end.now place from.now
-        (λ draws. initiator_keyed end.now from.now draws payload.now)) }
+        (λ draws. initiator_keyed end.now place from.now draws payload.now)) }
     ensures none { IfOk result (λ _. judged_cause place IIKEYING
         (keying_fault IIKEYING payload.now)
-        (initiator_keying_cause end.now walk.now from.now payload.now) ≡ None) }
+        (initiator_keying_cause end.now place walk.now from.now payload.now) ≡ None) }
     ensures refused { IfErr result (λ cause. judged_cause place IIKEYING
         (keying_fault IIKEYING payload.now)
-        (initiator_keying_cause end.now walk.now from.now payload.now) ≡ Some cause) }
+        (initiator_keying_cause end.now place walk.now from.now payload.now) ≡ Some cause) }
 {
     let fields = match read_initiator_keying(payload) {
         Ok(fields) => fields,
@@ -280,9 +305,10 @@ fn judge_initiator<'a>(
     if walk.keyed {
         return Err(Cause::SecondKeying);
     }
+    let group = end.group_at(place);
     match end
         .startup
-        .judge_initiator_keying(&fields, from, end.moment, end.full())
+        .judge_initiator_keying(&fields, from, end.moment, end.full(), group.get())
     {
         Ok(hearing) => Ok(Verdict::InitiatorKeying { fields, hearing }),
         Err(cause) => Err(cause),
@@ -303,10 +329,10 @@ fn judge_responder<'a>(
         (λ _. responder_keyed end.now (sid_at place) from payload.now) verdict) }
     ensures none { IfOk result (λ _. judged_cause place RIKEYING
         (keying_fault RIKEYING payload.now)
-        (responder_keying_cause end.now (sid_at place) payload.now) ≡ None) }
+        (responder_keying_cause end.now place payload.now) ≡ None) }
     ensures refused { IfErr result (λ cause. judged_cause place RIKEYING
         (keying_fault RIKEYING payload.now)
-        (responder_keying_cause end.now (sid_at place) payload.now) ≡ Some cause) }
+        (responder_keying_cause end.now place payload.now) ≡ Some cause) }
 {
     let fields = match read_responder_keying(payload) {
         Ok(fields) => fields,
@@ -315,7 +341,11 @@ fn judge_responder<'a>(
     if !kind.takes(place) {
         return Err(Cause::WrongPlace);
     }
-    match end.startup.judge_opening(sid_at(place), &fields) {
+    let group = end.group_at(place);
+    match end
+        .startup
+        .judge_opening(sid_at(place), &fields, group.get())
+    {
         Ok(peer) => Ok(Verdict::ResponderKeying { fields, peer }),
         Err(cause) => Err(cause),
     }

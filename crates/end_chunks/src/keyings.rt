@@ -6,13 +6,14 @@ ghost use Rattle.startup.specs.State.{peer_of_attempt};
 ghost use Rattle.startup_packets.specs.Readings.{initiator_keying_in, responder_keying_in};
 ghost use Rattle.startup_packets.specs.Read.{initiator_of, responder_of};
 ghost use Rattle.startup.specs.Judging.{judged_initiator};
+ghost use Rattle.endpoint_model.specs.Admission.{group_at};
 ghost use Rattle.endpoint_model.specs.Effects.{initiator_keyed, responder_keyed, sessions_born};
 ghost use Rattle.endpoint_model.specs.Effects.{sessions_opened, without_ended};
 ghost use Rattle.endpoint_model.specs.State.{Done, full, nothing};
 
-use crypto_profile::HmacKey;
-use end_state::{CURRENT_GENERATION, EndState, Outbox, blank, fact_entry};
-use endpoint_model::{Draws, Entry};
+use crypto_profile::Generation;
+use end_state::{EndState, Outbox, blank, fact_entry};
+use endpoint_model::{Draws, Entry, Place};
 use glare_core::Fact;
 use rtmfp_chunks::ChunkView;
 use rtmfp_forms::Address;
@@ -22,9 +23,10 @@ use startup::{Hearing, Keyed};
 use startup_packets::{InitiatorFields, ResponderFields};
 use std::alloc::AllocError;
 
-/// Hears an initiator's keying that was found to be this, which came from an address.
+/// Hears an initiator's keying that was found to be this, which came from an address at a place.
 pub(crate) fn initiator_keyed(
     end: &mut EndState,
+    place: Place,
     fields: &InitiatorFields<'_>,
     hearing: &Hearing,
     from: &Address,
@@ -33,8 +35,9 @@ pub(crate) fn initiator_keyed(
 ) -> Result<(), AllocError>
     requires reads { initiator_keying_in fields.now.payload.now ≡ Ok (initiator_of fields.now) }
     requires judged { judged_initiator end.old.startup fields.now.payload.now from.now
-        end.old.moment (full end.old) (initiator_of fields.now) ≡ Ok hearing.now }
-    ensures ok { OnOk result (Done (initiator_keyed end.old from.now draws.now
+        end.old.moment (full end.old) (group_at end.old place) (initiator_of fields.now)
+        ≡ Ok hearing.now }
+    ensures ok { OnOk result (Done (initiator_keyed end.old place from.now draws.now
         fields.now.payload.now) end.new out.old out.new) }
     ensures err { OnErr result (Done (nothing end.old) end.new out.old out.new) }
 {
@@ -42,10 +45,17 @@ pub(crate) fn initiator_keyed(
     out.make_room(3)?;
     end.sessions.reserve()?;
     let blank = blank(end.alloc)?;
-    match end
-        .startup
-        .apply_initiator_keying(fields, hearing, from, end.moment, near, draws.nonce)
-    {
+    let hashed = end.groups.at(&end.startup, place);
+    let group = hashed.get();
+    match end.startup.apply_initiator_keying(
+        fields,
+        hearing,
+        from,
+        end.moment,
+        near,
+        draws.nonce,
+        group,
+    ) {
         Ok(Keyed::Change(answer)) => {
             out.add_some(end.seal_answer(blank, &answer));
             Ok(())
@@ -67,7 +77,7 @@ pub(crate) fn initiator_keyed(
                 &born,
                 &end.print,
                 from,
-                end.startup.secret(),
+                group,
                 end.moment,
             );
             out.add_some(fact_entry(ended));
@@ -98,13 +108,16 @@ pub(crate) fn responder_keyed(
     out.make_room(2)?;
     end.sessions.reserve()?;
     let blank = blank(end.alloc)?;
+    // The secret of its attempt, which isn't there any more then.
+    let hashed = end.groups.of_attempt(&end.startup, near);
+    let group = hashed.get();
     let fact = end.startup.apply_responder_keying(near, peer, fields);
     keep_opened(
         &mut end.sessions,
         &fact,
         &end.print,
         from,
-        end.startup.secret(),
+        group,
         end.moment,
     );
     out.add(Entry::Fact(fact));
@@ -112,19 +125,20 @@ pub(crate) fn responder_keyed(
     Ok(())
 }
 
-/// Keeps a session that was born, half-open, and forgets what ended. There is room for one more.
+/// Keeps a session that was born under this secret of the group, half-open, and forgets what ended.
+/// There is room for one more.
 fn keep_born(
     sessions: &mut SessionTable,
     ended: &Option<Fact>,
     born: &Fact,
     print: &[u8; 32],
     from: &Address,
-    secret: &HmacKey,
+    group: &Generation,
     moment: u64,
 )
     requires { 0 < sessions.old.free }
     ensures { sessions.new.rows ≡ sessions_born sessions.old.rows ended.now born.now print.now
-        from.now secret.now moment }
+        from.now group.now moment }
 {
     if let Fact::Born(joined) = born {
         forget_ended(sessions, ended);
@@ -133,26 +147,26 @@ fn keep_born(
             print,
             Role::Responder,
             *from,
-            secret,
-            CURRENT_GENERATION,
+            group.secret(),
+            group.number(),
             moment,
         );
         sessions.keep(half_open);
     }
 }
 
-/// Keeps a session that was opened. There is room for one more.
+/// Keeps a session that was opened under this secret of the group. There is room for one more.
 fn keep_opened(
     sessions: &mut SessionTable,
     opened: &Fact,
     print: &[u8; 32],
     from: &Address,
-    secret: &HmacKey,
+    group: &Generation,
     moment: u64,
 )
     requires { 0 < sessions.old.free }
     ensures { sessions.new.rows ≡ sessions_opened sessions.old.rows opened.now print.now from.now
-        secret.now moment }
+        group.now moment }
 {
     if let Fact::Opened(joined) = opened {
         let session = Session::under(
@@ -160,8 +174,8 @@ fn keep_opened(
             print,
             Role::Initiator,
             *from,
-            secret,
-            CURRENT_GENERATION,
+            group.secret(),
+            group.number(),
             moment,
         );
         sessions.keep(session);

@@ -20,6 +20,7 @@ use Rattle.endpoint_model.specs.OnFlows.{with_flows}
 use Rattle.endpoint_model.specs.State.{State, Did, Sessions, after_entries, nothing, then_do, with_row, with_sessions}
 use Rattle.endpoint_model.specs.FlowChunks.{acked_by, acks_body}
 use Rattle.end_state.specs.declared.settings.Settings.{Settings}
+use Rattle.end_state.specs.declared.groups.Groups.{Groups}
 use Rattle.end_state.specs.Stored.{state_of}
 use Rattle.end_state.specs.Steps.{Gives}
 use Rattle.end_state.proofs.Giving.{gives_nothing}
@@ -42,20 +43,20 @@ packet_as s near row flows body =
     ∙ ap (λ (m : Sessions). record { state = with_sessions s m; entries = out_of row.session.address (sealed_of s.moment body row.session) })
     (insert_twice s.sessions near sent last)
 
-pub acks_one : (settings : Settings) (moment sealed : ℕ) (startup : StartupState) (old new : Sessions) (t : State) (near : ℕ) (row : Row) (to : AddressParts) (answer : Option Sealed) (entry : Option Entry) →
-    state_of settings moment sealed startup old ≡ t → get old near ≡ Some row → to ≡ row.session.address → answer ≡ acks_sealed moment (get old near) → new ≡ in_row (acked moment) old near →
-    out_of to answer ≡ option_to_list entry → IfSome entry (λ e. IsShort e) → Gives (acked_by t near (get t.sessions near)) (state_of settings moment sealed startup new) entry
-acks_one settings moment sealed startup old new t near row to answer entry view found to_is answer_is new_is entries short =
-    let s : State = state_of settings moment sealed startup old in
+pub acks_one : (settings : Settings) (moment sealed : ℕ) (groups : Groups) (startup : StartupState) (old new : Sessions) (t : State) (near : ℕ) (row : Row) (to : AddressParts) (answer : Option Sealed) (entry : Option Entry) →
+    state_of settings moment sealed groups startup old ≡ t → get old near ≡ Some row → to ≡ row.session.address → answer ≡ acks_sealed moment (get old near) → new ≡ in_row (acked moment) old near →
+    out_of to answer ≡ option_to_list entry → IfSome entry (λ e. IsShort e) → Gives (acked_by t near (get t.sessions near)) (state_of settings moment sealed groups startup new) entry
+acks_one settings moment sealed groups startup old new t near row to answer entry view found to_is answer_is new_is entries short =
+    let s : State = state_of settings moment sealed groups startup old in
     let flows : FlowsState = after_acks row.flows (packet_head row.session moment) in
     let told : answer ≡ sealed_of moment (acks_body row moment) row.session = answer_is ∙ ap (acks_sealed moment) found in
     let did : acked_by s near (get old near) ≡ packet_did s near to row flows answer =
     ap (acked_by s near) found ∙ packet_as s near row flows (acks_body row moment) ∙ (λ i. packet_did s near (sym to_is i) row flows (sym told i)) in
     let left : new ≡ insert old near (acked moment row) = new_is ∙ ap (with_changed (acked moment) old near) found in
-    let gives : Gives (packet_did s near to row flows answer) (state_of settings moment sealed startup new) entry =
+    let gives : Gives (packet_did s near to row flows answer) (state_of settings moment sealed groups startup new) entry =
     record { state = ap (with_sessions s) left; entries = entries; short = short } in
-    subst (λ (u : State). Gives (acked_by u near (get u.sessions near)) (state_of settings moment sealed startup new) entry) view
-    (subst (λ (d : Did). Gives d (state_of settings moment sealed startup new) entry) (sym did) gives)
+    subst (λ (u : State). Gives (acked_by u near (get u.sessions near)) (state_of settings moment sealed groups startup new) entry) view
+    (subst (λ (d : Did). Gives d (state_of settings moment sealed groups startup new) entry) (sym did) gives)
 
 pub no_acks : (s : State) (near : ℕ) → get s.sessions near ≡ None → Gives (acked_by s near (get s.sessions near)) s None
 no_acks s near none = subst (λ (d : Did). Gives d s None) (sym (ap (acked_by s near) none)) (gives_nothing s)

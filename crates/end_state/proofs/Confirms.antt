@@ -1,11 +1,11 @@
 -- What confirming a half-open session does.
-use Rattle.std.proofs.Common.{if◌then◌else◌, ℕ, ◌≡◌, [], ◌∷◌, Bool, true, false, Option, None, Some, IfSome, refl, sym, ap, subst, ◌∙◌}
+use Rattle.std.proofs.Common.{if◌then◌else◌, ℕ, ◌≡◌, List, [], ◌∷◌, Bool, true, false, Option, None, Some, IfSome, refl, sym, ap, subst, ◌∙◌}
 use Rattle.std.specs.Prelude.{option_to_list}
 use Rattle.std.specs.FinMap.{get, insert}
 use Rattle.glare_core.specs.declared.facts.Fact.{Fact}
 use Rattle.glare_core.specs.Ledger.{Ledger, noted_if}
 use Rattle.startup.specs.State.{StartupState}
-use Rattle.startup.specs.Attempts.{after_confirm, confirm_fact}
+use Rattle.startup.specs.Attempts.{after_confirm, after_end_by, confirm_fact}
 use Rattle.session_core.specs.Session.{is_opening, confirmed}
 use Rattle.endpoint_model.specs.declared.row.Row.{Row}
 use Rattle.endpoint_model.specs.declared.entry.Entry.{Entry}
@@ -21,6 +21,11 @@ use Rattle.end_state.proofs.Giving.{gives_nothing}
 pub own_stays : (l : Ledger) (fact : Option Fact) → l.own ≡ (noted_if l fact).own
 own_stays l None = refl
 own_stays l (Some fact) = refl
+
+-- and so does the end of a session
+pub own_after_end : (s : StartupState) (peer : List ℕ) (fact : Option Fact) → s.ledger.own ≡ (after_end_by s peer fact).ledger.own
+own_after_end s peer None = refl
+own_after_end s peer (Some fact) = refl
 
 -- what confirming a half-open session does
 pub confirming_is : (s : State) (near : ℕ) (row : Row) → is_opening row.session.stage ≡ true → confirming_by s near (Some row) ≡ record {

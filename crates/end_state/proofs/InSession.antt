@@ -11,6 +11,7 @@ use Rattle.session_table.specs.declared.sealing.Sealed.{Sealed}
 use Rattle.session_table.specs.Table.{in_session, of_session, with_changed, sealed_by}
 use Rattle.endpoint_model.specs.declared.row.Row.{Row}
 use Rattle.end_state.specs.declared.settings.Settings.{Settings}
+use Rattle.end_state.specs.declared.groups.Groups.{Groups}
 use Rattle.endpoint_model.specs.declared.entry.Entry.{Entry}
 use Rattle.endpoint_model.specs.declared.entry.Entry.TheVariants.{Out}
 use Rattle.endpoint_model.specs.Added.{IsShort}
@@ -53,17 +54,17 @@ pub sent_as : (s : State) (near : ℕ) (to : AddressParts) (body : List ℕ) (o 
 sent_as s near to body None found = refl
 sent_as s near to body (Some row) found = by_count s near to body row (is_spent row.session) found refl
 
-pub sent_one : (settings : Settings) (moment sealed : ℕ) (startup : StartupState) (old new : Sessions) (t : State) (near : ℕ) (to : AddressParts) (body : List ℕ) (answer : Option Sealed) (entry : Option Entry) →
-    state_of settings moment sealed startup old ≡ t → answer ≡ sealed_by moment body (get old near) → new ≡ in_session after_seal old near →
-    out_of to answer ≡ option_to_list entry → IfSome entry (λ e. IsShort e) → Gives (sent_in_session t near to body) (state_of settings moment sealed startup new) entry
-sent_one settings moment sealed startup old new t near to body answer entry view answer_is new_is entries short =
-    let s : State = state_of settings moment sealed startup old in
+pub sent_one : (settings : Settings) (moment sealed : ℕ) (groups : Groups) (startup : StartupState) (old new : Sessions) (t : State) (near : ℕ) (to : AddressParts) (body : List ℕ) (answer : Option Sealed) (entry : Option Entry) →
+    state_of settings moment sealed groups startup old ≡ t → answer ≡ sealed_by moment body (get old near) → new ≡ in_session after_seal old near →
+    out_of to answer ≡ option_to_list entry → IfSome entry (λ e. IsShort e) → Gives (sent_in_session t near to body) (state_of settings moment sealed groups startup new) entry
+sent_one settings moment sealed groups startup old new t near to body answer entry view answer_is new_is entries short =
+    let s : State = state_of settings moment sealed groups startup old in
     let did : sent_in_session s near to body ≡ sealed_did s near to (get old near) answer =
     sent_as s near to body (get old near) refl ∙ ap (sealed_did s near to (get old near)) (sym answer_is) in
-    let gives : Gives (sealed_did s near to (get old near) answer) (state_of settings moment sealed startup new) entry =
+    let gives : Gives (sealed_did s near to (get old near) answer) (state_of settings moment sealed groups startup new) entry =
     record { state = ap (with_sessions s) new_is; entries = entries; short = short } in
-    subst (λ (u : State). Gives (sent_in_session u near to body) (state_of settings moment sealed startup new) entry) view
-    (subst (λ (d : Did). Gives d (state_of settings moment sealed startup new) entry) (sym did) gives)
+    subst (λ (u : State). Gives (sent_in_session u near to body) (state_of settings moment sealed groups startup new) entry) view
+    (subst (λ (d : Did). Gives d (state_of settings moment sealed groups startup new) entry) (sym did) gives)
 
 -- ---- to where its datagrams go
 

@@ -5,3 +5,4 @@ pub mod Changing
 pub mod Endings
 pub mod Confirms
 pub mod DataSent
+pub mod Under

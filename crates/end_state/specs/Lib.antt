@@ -1,3 +1,4 @@
+pub mod Groups
 pub mod Stored
 pub mod NamedContext
 pub mod Steps

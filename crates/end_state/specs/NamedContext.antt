@@ -1,6 +1,6 @@
 -- The context that a datagram's session ID names at an end, whether or not the datagram opens in
 -- it.
-use Rattle.std.specs.Prelude.{ℕ, nat_lt, false, if◌then◌else◌, List, length, Option, Some, None}
+use Rattle.std.specs.Prelude.{ℕ, nat_lt, false, if◌then◌else◌, List, [], ◌∷◌, length, Option, Some, None}
 use Rattle.std.specs.FinMap.{get}
 use Rattle.crypto_profile.specs.declared.keys.Context.{Context}
 use Rattle.crypto_profile.specs.declared.keys.Context.TheVariants.{Startup as StartupContext}
@@ -10,7 +10,7 @@ use Rattle.endpoint_model.specs.declared.row.Row.{Row}
 use Rattle.endpoint_model.specs.declared.place.Place.{Place}
 use Rattle.endpoint_model.specs.declared.place.Place.TheVariants.{Startup, Attempt, Session}
 use Rattle.endpoint_model.specs.State.{State}
-use Rattle.endpoint_model.specs.Admission.{place_of}
+use Rattle.endpoint_model.specs.Admission.{places_of}
 
 -- a session's context towards this end
 abbrev pub context_towards : Option Row → Option Context
@@ -28,7 +28,12 @@ context_of_place s (Some (Session near)) = context_towards (get s.sessions near)
 abbrev pub named_id : List ℕ → Option ℕ
 named_id datagram = if nat_lt (length datagram) 36 then None else Some (sid_of datagram)
 
--- A datagram of fewer than 36 bytes names none.
+-- the first of the places where a datagram may belong
+abbrev pub first_place : List Place → Option Place
+first_place [] = None
+first_place (place ∷ rest) = Some place
+
+-- That of the first place. A datagram of fewer than 36 bytes names none.
 abbrev pub named_context : State → List ℕ → Option Context
 named_context s datagram = if nat_lt (length datagram) 36 then None
-    else context_of_place s (place_of s (sid_of datagram))
+    else context_of_place s (first_place (places_of s (sid_of datagram)))

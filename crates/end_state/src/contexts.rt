@@ -1,11 +1,13 @@
 //! What the session ID of a datagram names, and the context in which a datagram opens.
 
-ghost use Rattle.std.specs.Prelude.{◌≡◌, length};
+ghost use Rattle.std.specs.Prelude.{◌≡◌, length, option_to_list};
 ghost use Rattle.std.specs.Int.{w32, from_be_bytes};
 ghost use Rattle.std.specs.FinMap.{get};
-ghost use Rattle.endpoint_model.specs.Admission.{place_of};
-ghost use Rattle.end_state.specs.NamedContext.{context_towards, named_context, named_id};
-ghost use Rattle.endpoint_laws.specs.OpensIn.{context_in_session, context_in_startup, opens_in};
+ghost use Rattle.endpoint_model.specs.Admission.{attempt_group, next_places, places_of, sid_at};
+ghost use Rattle.end_state.specs.NamedContext.{context_towards, first_place, named_context};
+ghost use Rattle.end_state.specs.NamedContext.{named_id};
+ghost use Rattle.endpoint_laws.specs.OpensIn.{context_at, context_first, context_in_session};
+ghost use Rattle.endpoint_laws.specs.OpensIn.{context_in_startup, opens_in};
 
 use crate::end_state::EndState;
 use crypto_profile::{CIPHERED_AT, Context, open_refusal};
@@ -16,19 +18,14 @@ use packet_scramble::{SEALED_AT, unscramble};
 pub const PLAIN_AT: usize = SEALED_AT + CIPHERED_AT;
 
 impl EndState {
-    /// What a session ID names.
+    /// The first place where a datagram under a session ID may belong.
     fn place_of(&self, sid: u32) -> Option<Place>
-        ensures { result ≡ place_of self.now sid }
+        ensures { result ≡ first_place (places_of self.now sid) }
     {
         if sid == 0 {
-            Some(Place::Startup {
-                generation: self.current_generation(),
-            })
+            Some(self.current_place())
         } else if self.startup.has_attempt(sid) {
-            Some(Place::Attempt {
-                near: sid,
-                generation: self.current_generation(),
-            })
+            Some(self.place_of_attempt(sid))
         } else if self.sessions.has(sid) {
             Some(Place::Session(sid))
         } else {
@@ -36,16 +33,50 @@ impl EndState {
         }
     }
 
-    /// What a session ID names. Where that is a session, it is found at once from now on.
+    /// The place of an attempt.
+    fn place_of_attempt(&self, near: u32) -> Place
+        ensures { result ≡ Place.Attempt near
+            (attempt_group self.now.group (get self.now.startup.attempts near)).generation }
+    {
+        Place::Attempt {
+            near,
+            generation: self.groups.of_attempt(&self.startup, near).get().number(),
+        }
+    }
+
+    /// Startup in the current generation, where a datagram under session ID 0 is tried first.
+    pub fn current_place(&self) -> Place
+        ensures { result ≡ Place.Startup self.now.group.generation }
+    {
+        Place::Startup {
+            generation: self.groups.current.number(),
+        }
+    }
+
+    /// Startup in the next generation, where that is known and a datagram under session ID 0 is
+    /// tried then.
+    pub fn next_place(&self) -> Option<Place>
+        ensures { next_places self.now.next ≡ option_to_list result }
+    {
+        match &self.groups.next {
+            Some(next) => Some(Place::Startup {
+                generation: next.number(),
+            }),
+            None => None,
+        }
+    }
+
+    /// The first place where a datagram under a session ID may belong. Where that is a session, it
+    /// is found at once from now on.
     pub fn look_up(&mut self, sid: u32) -> Option<Place>
-        ensures place { result ≡ place_of self.old sid }
+        ensures place { result ≡ first_place (places_of self.old sid) }
         ensures state { self.new ≡ self.old }
     {
         self.sessions.look_up(sid);
         self.place_of(sid)
     }
 
-    /// The context that a datagram's session ID names.
+    /// The context that a datagram's session ID names: the first one, where there are two.
     pub fn find_named(&self, datagram: &[u8]) -> Option<Context>
         ensures { result ≡ named_context self.now datagram.now }
     {
@@ -70,7 +101,7 @@ impl EndState {
         }
     }
 
-    /// The context in which a datagram opens, by what is kept.
+    /// The first context in which a datagram opens, by what is kept.
     pub fn find_context(&self, datagram: &[u8]) -> Option<Context>
         ensures { result ≡ opens_in self.now datagram.now }
     {
@@ -78,21 +109,56 @@ impl EndState {
             return None;
         };
         let (_, part) = datagram.split_at(SEALED_AT);
+        if sid == 0 {
+            return self.context_under_zero(part);
+        }
         match self.place_of(sid) {
-            Some(Place::Startup { generation }) => self.context_in_startup(generation, 0, part),
-            Some(Place::Attempt { near, generation }) => {
-                self.context_in_startup(generation, near, part)
-            }
-            Some(Place::Session(near)) => self.context_in_session(near, part),
+            Some(place) => self.context_at(place, part),
             None => None,
         }
     }
 
-    /// The startup context of a generation, where a sealed part opens in it under this session ID.
-    fn context_in_startup(&self, generation: u64, sid: u32, part: &[u8]) -> Option<Context>
-        ensures { result ≡ context_in_startup self.now generation sid part.now }
+    /// The context in which a sealed part opens under session ID 0: startup in the current
+    /// generation, or in the next one.
+    fn context_under_zero(&self, part: &[u8]) -> Option<Context>
+        ensures { result ≡ context_first self.now (places_of self.now 0) part.now }
     {
-        match open_refusal(self.startup_keys(generation), sid, part) {
+        if let Some(context) = self.context_at(self.current_place(), part) {
+            return Some(context);
+        }
+        match self.next_place() {
+            Some(next) => self.context_at(next, part),
+            None => None,
+        }
+    }
+
+    /// The context of a place, where a sealed part opens there.
+    fn context_at(&self, place: Place, part: &[u8]) -> Option<Context>
+        ensures { result ≡ context_at self.now place part.now }
+    {
+        match place {
+            Place::Startup { generation } => self.context_in_startup(place, 0, generation, part),
+            Place::Attempt { near, generation } => {
+                self.context_in_startup(place, near, generation, part)
+            }
+            Place::Session(near) => self.context_in_session(near, part),
+        }
+    }
+
+    /// The startup context of a generation, where a sealed part opens in it at a place with this
+    /// session ID.
+    fn context_in_startup(
+        &self,
+        place: Place,
+        sid: u32,
+        generation: u64,
+        part: &[u8],
+    ) -> Option<Context>
+        requires { sid ≡ sid_at place }
+        ensures { result ≡ context_in_startup self.now place generation part.now }
+    {
+        let group = self.group_at(place);
+        match open_refusal(group.get().startup(), sid, part) {
             None => Some(Context::Startup { generation }),
             Some(_) => None,
         }

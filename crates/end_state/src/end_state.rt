@@ -1,8 +1,9 @@
 //! What an end keeps.
 
+use crate::groups::{Groups, Hashed};
 use crate::settings::Settings;
-use crypto_profile::{Context, Keys};
-use endpoint_model::Config;
+use crypto_profile::Generation;
+use endpoint_model::{Config, Place};
 use identity::Certificate;
 use introducer::{Directory, RowRefusal};
 use rtmfp_forms::Address;
@@ -11,15 +12,12 @@ use startup::Startup;
 use std::alloc::Global;
 use std::marker::Model;
 
-/// The generation of the group secret in which an end sends and takes startup packets, and in which
-/// sessions begin. There is one generation (own).
-pub const CURRENT_GENERATION: u64 = 0;
-
 /// What an end keeps of its attempts, searches and sessions.
 ///
 /// Contracts see its limits, the largest moment that it was given, how many startup packets it
-/// sealed, what it keeps of attempts, searches and sessions, each by their session IDs, whether it
-/// introduces, and its rows of addresses.
+/// sealed, the group's secret in the current generation and in a next one that is known, what it
+/// keeps of attempts, searches and sessions, each by their session IDs, whether it introduces, and
+/// its rows of addresses.
 #[derive(Drop)]
 pub struct EndState {
     pub alloc: Global,
@@ -27,10 +25,9 @@ pub struct EndState {
     pub moment: u64,
     /// The fingerprint of the own certificate.
     pub print: [u8; 32],
-    /// The keys of startup packets of the current generation.
-    pub keys: Keys,
     /// How many startup packets were sealed.
     pub sealed: u64,
+    pub groups: Groups,
     pub startup: Startup,
     pub sessions: SessionTable,
 }
@@ -38,20 +35,22 @@ pub struct EndState {
 impl Model for EndState {
     ghost use Rattle.endpoint_model.specs.State.{State, state_code};
     ghost use Rattle.endpoint_model.specs.contracts.config.Config as config_type;
+    ghost use Rattle.crypto_profile.specs.contracts.group.GroupSecret as group_type;
     ghost use Rattle.startup.specs.contracts.startup.Startup as startup_type;
     ghost use Rattle.endpoint_model.specs.contracts.row.Row as row_type;
     ghost use Rattle.rtmfp_forms.specs.contracts.address.Address as address_type;
 
     ghost Value = { State };
 
-    ghost coded = { state_code config_type.the_row.coded startup_type.the_row.coded
-        row_type.the_row.coded address_type.the_row.coded };
+    ghost coded = { state_code config_type.the_row.coded group_type.the_row.coded
+        startup_type.the_row.coded row_type.the_row.coded address_type.the_row.coded };
 
     ghost use Rattle.end_state.specs.Stored.{state_of, IsEnd};
 
-    ghost view = { λ e. state_of e.settings e.moment e.sealed e.startup e.sessions.rows };
+    ghost view = { λ e. state_of e.settings e.moment e.sealed e.groups e.startup
+        e.sessions.rows };
 
-    ghost invariant = { λ e. IsEnd e.settings e.print e.keys e.startup };
+    ghost invariant = { λ e. IsEnd e.settings e.print e.startup };
 }
 
 impl EndState {
@@ -60,14 +59,17 @@ impl EndState {
     ghost use Rattle.introducer.specs.Directory.{row_refusal};
     ghost use Rattle.startup.specs.Attempts.{cancel_fact};
     ghost use Rattle.endpoint_model.specs.Introducing.{introducing, with_redirect};
-    ghost use Rattle.endpoint_model.specs.State.{current_generation, fresh, at_moment};
-    ghost use Rattle.endpoint_model.specs.Admission.{startup_keys};
+    ghost use Rattle.endpoint_model.specs.State.{fresh, at_moment};
+    ghost use Rattle.endpoint_model.specs.Admission.{group_at};
+    ghost use Rattle.end_state.specs.Groups.{hashed_of};
 
-    /// An end that holds nothing yet. It takes no memory.
+    /// An end that holds nothing yet, in this generation with this secret of the group. It takes no
+    /// memory.
     pub fn new(
         alloc: Global,
         config: Config,
         cert: Certificate,
+        generation: u64,
         secret: [u8; 32],
         cookie_secret: [u8; 32],
     ) -> EndState
@@ -76,12 +78,13 @@ impl EndState {
             ≡ fresh (record {
               config = config;
               cert = cert;
+              generation = generation;
               secret = secret;
               cookie_secret = cookie_secret;
             }) }
     {
         let print = cert.print();
-        let startup = Startup::new(alloc, cert, secret, cookie_secret, config.max_peers);
+        let startup = Startup::new(alloc, cert, cookie_secret, config.max_peers);
         EndState {
             alloc,
             settings: Settings {
@@ -91,40 +94,28 @@ impl EndState {
             },
             moment: 0,
             print,
-            keys: Keys::under(
-                startup.secret(),
-                &Context::Startup {
-                    generation: CURRENT_GENERATION,
-                },
-            ),
             sealed: 0,
+            groups: Groups {
+                current: Generation::of(generation, &secret),
+                next: None,
+            },
             startup,
             sessions: SessionTable::new(alloc),
         }
     }
 
-    /// The generation of the group secret in which this end sends and takes startup packets, and in
-    /// which sessions begin (own).
-    pub fn current_generation(&self) -> u64
-        ensures { result ≡ current_generation }
+    /// The group's secret that goes at a place, outside of sessions.
+    pub fn group_at(&self, place: Place) -> Hashed<'_>
+        ensures { hashed_of result ≡ group_at self.now place }
     {
-        CURRENT_GENERATION
+        self.groups.at(&self.startup, place)
     }
 
-    /// The keys of startup packets of a generation. All generations have one secret, and no key is
-    /// made of the number.
-    pub fn startup_keys(&self, generation: u64) -> &Keys
-        ensures { result.now ≡ startup_keys self.now generation }
-    {
-        let _ = generation;
-        &self.keys
-    }
-
-    /// Whether this is the secret of the end's group.
+    /// Whether this is the group's secret in the current generation.
     pub fn has_secret(&self, secret: &[u8; 32]) -> bool
-        ensures { result ≡ bytes_eq self.now.startup.secret secret.now }
+        ensures { result ≡ bytes_eq self.now.group.secret secret.now }
     {
-        *self.startup.secret().bytes() == *secret
+        *self.groups.current.secret().bytes() == *secret
     }
 
     /// Notes the moment that a call is given.

@@ -5,6 +5,7 @@
 mod acks;
 mod contexts;
 mod end_state;
+mod groups;
 mod introducing;
 mod outbox;
 mod sealing;
@@ -16,7 +17,8 @@ mod settings;
 mod taking;
 
 pub use contexts::{PLAIN_AT, session_id};
-pub use end_state::{CURRENT_GENERATION, EndState};
+pub use end_state::EndState;
+pub use groups::{Groups, Hashed};
 pub use introducing::RowAddresses;
 pub use outbox::{Outbox, fact_entry};
 pub use sealing::blank;

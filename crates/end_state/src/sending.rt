@@ -1,6 +1,7 @@
 //! Datagrams of an end that go out.
 
 ghost use Rattle.std.specs.Prelude.{◌≡◌, ◌≤◌, All, IfOk, length};
+ghost use Rattle.crypto_profile.specs.Keys.{startup_keys_of};
 ghost use Rattle.endpoint_model.specs.State.{Done};
 ghost use Rattle.endpoint_model.specs.Sending.{sent_answer, sent_each, sent_startup};
 ghost use Rattle.endpoint_model.specs.Sending.{startup_number};
@@ -9,7 +10,7 @@ ghost use Rattle.end_state.specs.Steps.{Gives};
 use crate::end_state::EndState;
 use crate::outbox::Outbox;
 use crate::sealing::{blank, seal};
-use crypto_profile::Context;
+use crypto_profile::{Context, Keys};
 use endpoint_model::Entry;
 use rtmfp_forms::{Address, Outgoing};
 use startup::Answer;
@@ -28,30 +29,31 @@ fn startup_number(print: &[u8; 32], count: u64) -> [u8; 16]
 }
 
 impl EndState {
-    /// The entry of a startup packet that goes out, for which memory was found. There is none where
-    /// all counts are used.
+    /// The entry of a startup packet that goes out under the keys of a generation, for which memory
+    /// was found. There is none where all counts are used.
     fn startup_packet(
         &mut self,
         blank: Vec<u8>,
+        generation: u64,
+        keys: &Keys,
         to: &Address,
         sid: u32,
         plain: &Outgoing,
     ) -> Option<Entry>
         requires { length blank.items ≡ 1200 }
-        ensures { Gives (sent_startup self.old to.now sid plain.now) self.new result }
+        ensures { Gives (sent_startup self.old generation keys.now to.now sid plain.now) self.new
+            result }
     {
         if self.sealed == u64::MAX {
             return None;
         }
         self.sealed += 1;
         let number = startup_number(&self.print, self.sealed);
-        let datagram = seal(blank, &self.keys, sid, number, plain);
+        let datagram = seal(blank, keys, sid, number, plain);
         Some(Entry::Out {
             to: *to,
             datagram,
-            context: Context::Startup {
-                generation: self.current_generation(),
-            },
+            context: Context::Startup { generation },
         })
     }
 
@@ -61,10 +63,29 @@ impl EndState {
         requires { length blank.items ≡ 1200 }
         ensures { Gives (sent_answer self.old answer.now) self.new result }
     {
-        self.startup_packet(blank, &answer.to, answer.sid, &answer.plain)
+        self.startup_packet(
+            blank,
+            answer.generation,
+            &answer.keys,
+            &answer.to,
+            answer.sid,
+            &answer.plain,
+        )
     }
 
-    /// Sends a startup packet to several addresses, under session ID 0.
+    /// The entry of a startup packet in the current generation under session ID 0, for which memory
+    /// was found. There is none where all counts are used.
+    fn seal_hello(&mut self, blank: Vec<u8>, to: &Address, plain: &Outgoing) -> Option<Entry>
+        requires { length blank.items ≡ 1200 }
+        ensures { Gives (sent_startup self.old self.old.group.generation
+            (startup_keys_of self.old.group) to.now 0 plain.now) self.new result }
+    {
+        let generation = self.groups.current.number();
+        let keys = self.groups.current.startup().copy();
+        self.startup_packet(blank, generation, &keys, to, 0, plain)
+    }
+
+    /// Sends a startup packet in the current generation to several addresses, under session ID 0.
     pub fn send_each(
         &mut self,
         mut blanks: Vec<Vec<u8>>,
@@ -81,7 +102,7 @@ impl EndState {
             let Some(blank) = blanks.pop() else {
                 return;
             };
-            let Some(entry) = self.startup_packet(blank, to, 0, plain) else {
+            let Some(entry) = self.seal_hello(blank, to, plain) else {
                 continue;
             };
             out.add(entry);

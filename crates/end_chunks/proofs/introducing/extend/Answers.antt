@@ -12,7 +12,7 @@ invariant_of-end c =
     let e = c.args.extension.now in
     let is : Extends i.startup e = subst (λ (s : State). Extends s.startup e) (sym c.end.view_is) c.requires in
     let chosen = Some (e.found.near, is.attempt) in
-    kept_end i.settings i.print i.keys i.startup c.apply_redirect-spread.new.self (after_extension_of i.startup chosen e.new i.moment) c.end.invariant
+    kept_end i.settings i.print i.startup c.apply_redirect-spread.new.self (after_extension_of i.startup chosen e.new i.moment) c.end.invariant
     (extension_keeps i.startup chosen e.new i.moment) (c.apply_redirect-spread.ensures.after chosen (extended_found i.startup e is))
 
 pub returns-clause-enough : goal.returns-clause-enough

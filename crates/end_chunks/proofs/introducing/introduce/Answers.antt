@@ -1,22 +1,18 @@
-use Rattle.std.proofs.Common.{◌≡◌, ℕ, List, Option, Some, ap, sym, subst, ◌∙◌}
+use Rattle.std.proofs.Common.{◌≡◌, ℕ, List, Option, Some, sym, subst, ◌∙◌}
 use Rattle.rtmfp_forms.specs.Address.{AddressParts}
 use Rattle.rtmfp_chunks.specs.Chunk.{FIHello}
 use Rattle.rtmfp_chunks.specs.Writing.{chunk_bytes}
 use Rattle.cookies.specs.Cookie.{observed}
 use Rattle.startup.specs.declared.answer.Answer.{Answer}
-use Rattle.startup.specs.Redirects.{redirect_answer}
 use Rattle.endpoint_model.specs.State.{State, Did, Done, then_do}
 use Rattle.endpoint_model.specs.Sending.{sent_answer, sent_if}
+use Rattle.endpoint_model.specs.Admission.{group_at}
 use Rattle.endpoint_model.specs.Introducing.{redirect_of}
 use Rattle.endpoint_model.specs.Effects.{forwarded}
 use Rattle.endpoint_model.proofs.Steps.{joined}
 use Rattle.end_state.proofs.Endings.{made_room}
 use Rattle.end_state.proofs.Giving.{given_done}
-use Rattle.end_chunks.proofs.Introduced.{narrow_tag}
 use Rattle.end_chunks.proofs.introducing.introduce.Goals as goal
-
-pub redirect_answer-answer-requires-clause-tag : goal.redirect_answer-answer-requires-clause-tag
-redirect_answer-answer-requires-clause-tag c = narrow_tag c.args.tag.now c.requires.tag
 
 pub returns-in-Some-clause-ok : goal.returns-in-Some-clause-ok
 returns-in-Some-clause-ok c =
@@ -24,13 +20,11 @@ returns-in-Some-clause-ok c =
     let tag : List ℕ = c.args.tag.now in
     let from : AddressParts = c.args.from.now in
     let first : Did = forwarded s c.args.near (chunk_bytes (FIHello c.args.epd.now (observed from) tag)) in
-    let redirect : Option Answer = redirect_of tag from c.args.row.now in
-    let told : Some c.redirect_answer-answer.result ≡ redirect =
-    ap (λ (a : Answer). Some a) (c.redirect_answer-answer.ensures ∙ ap (λ (l : List AddressParts). redirect_answer tag l from) c.addresses.ensures.addresses)
-    ∙ ap (λ (o : Option (List AddressParts)). redirect_of tag from o) (sym c.in-Some.is) in
+    let redirect : Option Answer = redirect_of tag from c.args.row.now (group_at s c.args.place) in
+    let told : Some c.in-Some.answer ≡ redirect = sym c.in-Some.is ∙ c.redirect_at-redirect.ensures in
     let forwards = given_done first c.forward.new.end c.forward.result c.make_room.new.self c.add_some.new.self
     c.forward.ensures c.add_some.ensures.entries c.add_some.ensures.free c.add_some.ensures.room in
-    let answers = given_done (sent_answer c.forward.new.end c.redirect_answer-answer.result) c.seal_answer.new.self c.seal_answer.result c.add_some.new.self c.add_some-in-Some.new.self
+    let answers = given_done (sent_answer c.forward.new.end c.in-Some.answer) c.seal_answer.new.self c.seal_answer.result c.add_some.new.self c.add_some-in-Some.new.self
     c.seal_answer.ensures c.add_some-in-Some.ensures.entries c.add_some-in-Some.ensures.free c.add_some-in-Some.ensures.room in
     made_room (then_do first (λ t. sent_if t redirect)) c.seal_answer.new.self c.args.out.now c.make_room.new.self c.add_some-in-Some.new.self c.make_room.ensures.entries c.make_room.ensures.free c.make_room.ensures.room
     (joined first (λ t. sent_if t redirect) c.forward.new.end c.seal_answer.new.self c.make_room.new.self c.add_some.new.self c.add_some-in-Some.new.self forwards
