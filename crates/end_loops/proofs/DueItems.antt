@@ -3,7 +3,6 @@ use Rattle.std.proofs.Common.{ℕ, ◌≡◌, List, [], ◌∷◌, Bool, true, f
 use Rattle.std.specs.Option.{option_map}
 use Rattle.std.specs.FinMap.{get}
 use Rattle.rtmfp_base.proofs.Lowest.{first_is_there}
-use Rattle.crypto_profile.specs.Keys.{sign_key_of}
 use Rattle.rtmfp_base.specs.Reasons.{where_true, first_that_stands}
 use Rattle.startup.specs.declared.attempt.Stage.{Stage}
 use Rattle.startup.specs.declared.attempt.Stage.TheVariants.{Hello, Keying}
@@ -12,7 +11,7 @@ use Rattle.startup.specs.declared.aim.Aim.{Aim}
 use Rattle.startup.specs.declared.aim.Aim.TheVariants.{AtPeer, ByName}
 use Rattle.startup.specs.State.{AttemptState, StartupState}
 use Rattle.startup.specs.Attempts.{lowest}
-use Rattle.startup.specs.Due.{due, due_end, due_of, due_sends, due_sends_of, is_due, is_over, repeats, repeat_of, repeat_signed}
+use Rattle.startup.specs.Due.{due, due_end, due_of, due_sends, due_sends_of, is_due, is_over, repeats, repeat_of, repeat_under}
 use Rattle.session_core.specs.declared.stage.SessionDue.{SessionDue}
 use Rattle.session_core.specs.declared.stage.SessionDue.TheVariants.{Over}
 use Rattle.session_core.specs.Closing.{first_due as first_due_in, needs_keepalive}
@@ -49,9 +48,9 @@ over_there s near (Some row) e = refl
 -- ---- what is handed on of the first thing
 
 -- of an attempt, how many datagrams it sends
-sends_signed : (key cert : List ℕ) (near : ℕ) (a : AttemptState) (stage : Stage) → repeats a.candidates stage ≡ sends_of (repeat_signed key cert near a stage)
-sends_signed key cert near a Hello = refl
-sends_signed key cert near a (Keying at cookie) = refl
+sends_again : (cert : List ℕ) (near : ℕ) (a : AttemptState) (stage : Stage) → repeats a.candidates stage ≡ sends_of (repeat_under cert near a stage)
+sends_again cert near a Hello = refl
+sends_again cert near a (Keying at cookie under) = refl
 
 -- an end sends none
 sends_end : (near : ℕ) (aim : Aim) → 0 ≡ sends_of (due_end near aim)
@@ -60,7 +59,7 @@ sends_end near (ByName name) = refl
 
 sends_by : (s : StartupState) (e : ℕ × AttemptState) (b : Bool) → (if b then 0 else repeats e.1.candidates e.1.stage) ≡ sends_of (if b then due_end e.0 e.1.aim else repeat_of s e.0 e.1)
 sends_by s e true = sends_end e.0 e.1.aim
-sends_by s e false = sends_signed (sign_key_of s.secret) s.cert e.0 e.1 e.1.stage
+sends_by s e false = sends_again s.cert e.0 e.1 e.1.stage
 
 sends_found : (s : StartupState) (moment : ℕ) (o : Option (ℕ × AttemptState)) → due_sends_of moment o ≡ option_map sends_of (due_of s moment o)
 sends_found s moment None = refl

@@ -8,7 +8,11 @@ use Rattle.rtmfp_forms.specs.Address.{AddressParts}
 use Rattle.startup.specs.State.{StartupState}
 use Rattle.startup.specs.declared.answer.Due.{Due}
 use Rattle.startup.specs.declared.answer.Due.TheVariants.{Ended as EndDue, Hello as HelloDue, Keying as KeyingDue, Unsought}
+use Rattle.startup.specs.Attempts.{after_end, after_end_by, end_fact}
 use Rattle.startup.specs.Due.{after_due, due_count}
+use Rattle.glare_core.specs.declared.facts.Fact.{Fact}
+use Rattle.glare_core.specs.declared.facts.Why.{Why}
+use Rattle.glare_core.specs.declared.facts.Why.TheVariants.{Unconfirmed as NotConfirmed, Idle as WasIdle}
 use Rattle.startup.proofs.Falling.{falls_when}
 use Rattle.session_core.specs.declared.stage.SessionDue.{SessionDue}
 use Rattle.session_core.specs.declared.stage.SessionDue.TheVariants.{Unconfirmed, Idle, Over, RepeatClose}
@@ -30,6 +34,7 @@ use Rattle.endpoint_model.specs.declared.row_due.RowDue.TheVariants.{Abandon, Da
 use Rattle.endpoint_model.specs.declared.row_due.RowDue.TheVariants as is_row
 use Rattle.endpoint_model.specs.State.{State, Did, Sessions, nothing, with_row, with_startup, with_session}
 use Rattle.endpoint_model.specs.FlowTimes.{data_packed, row_due, row_due_done}
+use Rattle.crypto_profile.specs.Keys.{Keys, startup_keys_of}
 use Rattle.endpoint_model.specs.Sending.{sent_startup, sent_each, last_count}
 use Rattle.endpoint_model.specs.InSessions.{sent_home, sent_home_by, session_due_done}
 use Rattle.endpoint_model.specs.Effects.{due_done, tick_once}
@@ -51,21 +56,21 @@ one_same : (s : State) (b : Bool) (d : Did) → IsSame s d.state → IsSame s (i
 one_same s true d same = record { startup = refl; moment = refl; sessions = refl }
 one_same s false d same = same
 
-startup_same : (s : State) (to : AddressParts) (sid : ℕ) (plain : List ℕ) → IsSame s (sent_startup s to sid plain).state
-startup_same s to sid plain = one_same s (s.sealed == last_count) _ (record { startup = refl; moment = refl; sessions = refl })
+startup_same : (s : State) (generation : ℕ) (keys : Keys) (to : AddressParts) (sid : ℕ) (plain : List ℕ) → IsSame s (sent_startup s generation keys to sid plain).state
+startup_same s generation keys to sid plain = one_same s (s.sealed == last_count) _ (record { startup = refl; moment = refl; sessions = refl })
 
 each_same : (plain : List ℕ) (to : List AddressParts) (s : State) → IsSame s (sent_each s plain to).state
 each_same plain [] s = record { startup = refl; moment = refl; sessions = refl }
 each_same plain (first ∷ rest) s =
-    let one = startup_same s first 0 plain in
-    let more = each_same plain rest (sent_startup s first 0 plain).state in
+    let one = startup_same s s.group.generation (startup_keys_of s.group) first 0 plain in
+    let more = each_same plain rest (sent_startup s s.group.generation (startup_keys_of s.group) first 0 plain).state in
     record { startup = more.startup ∙ one.startup; moment = more.moment ∙ one.moment; sessions = more.sessions ∙ one.sessions }
 
 done_same : (s : State) (due : Due) → IsSame s (due_done s due).state
 done_same s (EndDue fact) = record { startup = refl; moment = refl; sessions = refl }
 done_same s (Unsought near) = record { startup = refl; moment = refl; sessions = refl }
 done_same s (HelloDue spread) = each_same spread.plain spread.to s
-done_same s (KeyingDue answer) = startup_same s answer.to answer.sid answer.plain
+done_same s (KeyingDue answer) = startup_same s answer.generation answer.keys answer.to answer.sid answer.plain
 
 -- ---- sessions
 
@@ -226,9 +231,17 @@ abandon_lighter row moment flow seq is waits =
 
 -- ---- each thing
 
+-- the end of a session leaves the attempts
+ended_count : (moment : ℕ) (s : StartupState) (peer : List ℕ) (why : Why) → due_count moment (after_end s peer why) ≡ due_count moment s
+ended_count moment s peer why = by (end_fact s peer why)
+  where
+    by : (fact : Option Fact) → due_count moment (after_end_by s peer fact) ≡ due_count moment s
+    by None = refl
+    by (Some fact) = refl
+
 end_falls : (s : State) (near : ℕ) (row : Row) (d : SessionDue) → get s.sessions near ≡ Some row → first_due_in row.session s.moment ≡ Some d → things_due (session_due_done s near row d).state < things_due s
-end_falls s near row Unconfirmed there e = row_gone s (session_due_done s near row Unconfirmed).state near row Unconfirmed there e refl refl refl
-end_falls s near row Idle there e = row_gone s (session_due_done s near row Idle).state near row Idle there e refl refl refl
+end_falls s near row Unconfirmed there e = row_gone s (session_due_done s near row Unconfirmed).state near row Unconfirmed there e (ended_count s.moment s.startup row.session.joined.peer NotConfirmed) refl refl
+end_falls s near row Idle there e = row_gone s (session_due_done s near row Idle).state near row Idle there e (ended_count s.moment s.startup row.session.joined.peer WasIdle) refl refl
 end_falls s near row Over there e = row_gone s (session_due_done s near row Over).state near row Over there e refl refl refl
 end_falls s near row RepeatClose there e =
     row_lighter s (session_due_done s near row RepeatClose).state near row there (home_lighter s near s.moment (row_weight s.moment row) (record row { session = after_due_in (Some RepeatClose) s.moment row.session }) _ (repeated_lighter row s.moment e))

@@ -1,7 +1,7 @@
 -- How a sealed part opens at a place.
-use Rattle.std.proofs.Common.{ℕ, ◌≡◌, ◌≤◌, List, ◌++◌, length, take, drop, Bool, true, false, Option, Some, None, Result, Ok, Err, IfSome, if◌then◌else◌, not, sym, ap, refl, ◌∙◌, inl, inr}
+use Rattle.std.proofs.Common.{ℕ, ◌≡◌, ◌≤◌, List, ◌++◌, length, take, drop, Bool, true, false, Option, Some, None, Result, Ok, Err, IfOk, IfSome, if◌then◌else◌, nat_lt, not, sym, ap, refl, ◌∙◌, inl, inr}
 use Rattle.std.proofs.lemmas.Bool.{cases_lt, lt-ltb, le-ltb}
-use Rattle.std.proofs.lemmas.List.{length-take-le, take_at}
+use Rattle.std.proofs.lemmas.List.{drop-drop, length-take-le, take_at}
 use Rattle.std.specs.Str.{bytes_eq}
 use Rattle.std.specs.declared.ops.Range.{Range}
 use Rattle.crypto_profile.specs.Keys.{Keys}
@@ -14,9 +14,14 @@ use Rattle.crypto_profile.specs.Window.{window_answer}
 use Rattle.session_core.specs.declared.hearing.Unheard.{Unheard}
 use Rattle.session_core.specs.Session.{SessionState}
 use Rattle.session_core.specs.Hearing.{answered, count_of, is_new, opened, opens_in, unheard, unheard_by}
+use Rattle.endpoint_model.specs.declared.place.Place.{Place}
 use Rattle.endpoint_model.specs.State.{State}
-use Rattle.endpoint_model.specs.Admission.{heard_by, opened_by, opened_in_startup, startup_keys}
+use Rattle.endpoint_model.specs.Admission.{heard_by, opened_by, opened_datagram, opened_first, opened_in_startup, places_of, sid_at, startup_keys}
 use Rattle.endpoint_model.proofs.Parts.{past_front}
+use Rattle.end_state.specs.NamedContext.{named_id}
+use Rattle.packet_scramble.specs.Datagram.{sid_of}
+use Rattle.rtmfp_base.specs.declared.cause.Cause.{Cause}
+use Rattle.rtmfp_base.specs.declared.cause.Cause.TheVariants.{Short as ShortDatagram, UnknownSession}
 
 -- ---- what opens has 32 bytes before its ciphertext, which stay
 
@@ -48,9 +53,9 @@ pub unrefused : {A : Type 0} (refusal : Option SealFault) (result : Result A Sea
 unrefused None result x is refused = refl
 unrefused (Some fault) result x is refused = absurd (let clash : Ok x ≡ Err fault = sym is ∙ refused in cc)
 
-pub opened_so : (s : State) (generation : ℕ) (keys : Keys) (sid : ℕ) (old new : List ℕ) → keys ≡ startup_keys s generation → open_refusal keys sid old ≡ None → IsOpened keys old new → opened_in_startup s generation sid old ≡ Ok (drop 32 new)
-opened_so s generation keys sid old new are none opened' =
-    sym (ap (λ k. opened_by k old (open_refusal k sid old)) are) ∙ ap (opened_by keys old) none ∙ ap Ok opened'.plain
+pub opened_so : (s : State) (place : Place) (keys : Keys) (sid : ℕ) (old new : List ℕ) → keys ≡ startup_keys s place → sid ≡ sid_at place → open_refusal keys sid old ≡ None → IsOpened keys old new → opened_in_startup s place old ≡ Ok (drop 32 new)
+opened_so s place keys sid old new are under none opened' =
+    sym (ap (λ k. opened_by k old (open_refusal k (sid_at place) old)) are) ∙ sym (ap (λ id. opened_by keys old (open_refusal keys id old)) under) ∙ ap (opened_by keys old) none ∙ ap Ok opened'.plain
 
 -- ---- in a session
 
@@ -97,3 +102,25 @@ heard_in_place session part new is heard =
 
 pub heard_plain : (session : SessionState) (part new : List ℕ) → unheard session part ≡ None → IsOpened session.inward part new → heard_by session part (unheard session part) ≡ Ok (drop 32 new)
 heard_plain session part new none opened' = ap (heard_by session part) none ∙ ap Ok opened'.plain
+
+-- ---- under session ID 0
+
+-- a datagram that names a session ID is long enough, and names that one
+named_so : (datagram : List ℕ) (sid : ℕ) → Some sid ≡ named_id datagram → (nat_lt (length datagram) 36 ≡ false) × (sid ≡ sid_of datagram)
+named_so datagram sid named = by (nat_lt (length datagram) 36) refl named
+  where
+    by : (b : Bool) → nat_lt (length datagram) 36 ≡ b → Some sid ≡ (if b then None else Some (sid_of datagram)) → (nat_lt (length datagram) 36 ≡ false) × (sid ≡ sid_of datagram)
+    by true is e = absurd (cc)
+    by false is e = (is, cc)
+
+-- where its sealed part opens is where it opens
+pub zero_opens : (s : State) (datagram head part new : List ℕ) (sid : ℕ) (result : Result Place Cause) → Some sid ≡ named_id datagram → sid ≡ 0 → datagram ≡ head ++ part → length head ≡ 4 →
+    IfOk result (λ place. opened_first s UnknownSession (places_of s 0) part ≡ Ok (place, drop 32 new)) → IfOk result (λ place. opened_datagram s datagram ≡ Ok (place, drop 36 (head ++ new)))
+zero_opens s datagram head part new sid (Err cause) named zero split four opens = tt
+zero_opens s datagram head part new sid (Ok place) named zero split four opens =
+    let names = named_so datagram sid named in
+    let behind : drop 4 datagram ≡ part = ap (drop 4) split ∙ past_front 4 head part four in
+    let plain : drop 36 (head ++ new) ≡ drop 32 new = sym (drop-drop 32 4 (head ++ new)) ∙ ap (drop 32) (past_front 4 head new four) in
+    ap (λ (b : Bool). if b then Err ShortDatagram else opened_first s UnknownSession (places_of s (sid_of datagram)) (drop 4 datagram)) names.0
+    ∙ (λ i. opened_first s UnknownSession (places_of s ((sym names.1 ∙ zero) i)) (behind i))
+    ∙ opens ∙ ap (λ (l : List ℕ). Ok (place, l)) (sym plain)

@@ -34,7 +34,7 @@ pub record IsRoomy (place : Place) (from : AddressParts) (draws : Draws) (walk :
 -- what a chunk does that is none of flows
 abbrev other_did : State → Place → AddressParts → Draws → Placed → Did
 other_did s place from draws c =
-    if c.kind == 0x38 then initiator_keyed s from draws c.payload else if c.kind == 0x78 then responder_keyed s (sid_at place) from c.payload
+    if c.kind == 0x38 then initiator_keyed s place from draws c.payload else if c.kind == 0x78 then responder_keyed s (sid_at place) from c.payload
     else if is_told_in_session c.kind then told_in_session s (sid_at place) from c else read_done s place from (chunk_reading c.kind c.payload)
 
 -- an answer to a ping that moves nothing
@@ -48,7 +48,7 @@ reply_does s place from draws c quiet =
 redirect_does : (s : State) (place : Place) (from : AddressParts) (draws : Draws) (c : Placed) (tag list : List ℕ) → c.kind ≡ 0x71 → chunk_reading c.kind c.payload ≡ Ok (Redirect tag list) →
     sent_by_spread (redirect_spread s.startup tag list from) ≡ 0 → other_did s place from draws c ≡ nothing s
 redirect_does s place from draws c tag list is reads none =
-    let as_kind : ℕ → Result Chunk ChunkFault → Did = λ k r. if k == 0x38 then initiator_keyed s from draws c.payload else if k == 0x78 then responder_keyed s (sid_at place) from c.payload
+    let as_kind : ℕ → Result Chunk ChunkFault → Did = λ k r. if k == 0x38 then initiator_keyed s place from draws c.payload else if k == 0x78 then responder_keyed s (sid_at place) from c.payload
     else if is_told_in_session k then told_in_session s (sid_at place) from c else read_done s place from r in
     ap (λ r. as_kind c.kind r) reads ∙ ap (λ (k : ℕ). as_kind k (Ok (Redirect tag list))) is
     ∙ idle_redirect s (lowest (has_tag tag) s.startup.attempts) (told_addresses list from) none

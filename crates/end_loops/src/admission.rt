@@ -1,11 +1,14 @@
 //! How a datagram is taken, or refused as a whole (own rules over RFC 7016 section 3.5).
 
-ghost use Rattle.std.specs.Prelude.{◌≡◌, ◌≤◌, IfOk, IfErr, OnOk, Ok, Err, drop, length, take};
+ghost use Rattle.std.specs.Prelude.{◌≡◌, ◌≤◌, ◌==◌, false, IfOk, IfErr, OnErr, OnOk, Ok, Err};
+ghost use Rattle.std.specs.Prelude.{drop, length, take};
 ghost use Rattle.std.specs.FinMap.{get};
 ghost use Rattle.endpoint_model.specs.Admission.{fault_number, has_mode, heard_in, mode_at};
-ghost use Rattle.endpoint_model.specs.Admission.{opened_datagram, opened_in_startup, packet_in};
-ghost use Rattle.endpoint_model.specs.Admission.{peers_mode};
+ghost use Rattle.endpoint_model.specs.Admission.{opened_at, opened_datagram, opened_first};
+ghost use Rattle.endpoint_model.specs.Admission.{opened_in_startup, packet_in, peers_mode};
+ghost use Rattle.endpoint_model.specs.Admission.{places_of, sid_at};
 ghost use Rattle.endpoint_model.specs.Keying.{AreNear};
+ghost use Rattle.rtmfp_base.specs.declared.cause.Cause.TheVariants.{UnknownSession};
 ghost use Rattle.end_loops.specs.Walks.{packet_at};
 
 use crypto_profile::open_in_place;
@@ -16,16 +19,18 @@ use rtmfp_base::Cause;
 use rtmfp_packet::{Mode, Packet, PacketFault, PacketHead, read_packet};
 use session_core::{Role, Unheard};
 
-/// Opens a sealed part in the startup context of a generation, in place.
-fn open_in_startup(end: &EndState, generation: u64, sid: u32, part: &mut [u8]) -> Result<(), Cause>
-    ensures ok { OnOk result (opened_in_startup end.now generation sid part.old
-        ≡ Ok (drop 32 part.new)) }
-    ensures err { IfErr result (λ cause. opened_in_startup end.now generation sid part.old
-        ≡ Err cause) }
+/// Opens a sealed part in startup at a place with this session ID, in place. Where it doesn't open
+/// it stays as it was.
+fn open_in_startup(end: &EndState, place: Place, sid: u32, part: &mut [u8]) -> Result<(), Cause>
+    requires { sid ≡ sid_at place }
+    ensures ok { OnOk result (opened_in_startup end.now place part.old ≡ Ok (drop 32 part.new)) }
+    ensures err { IfErr result (λ cause. opened_in_startup end.now place part.old ≡ Err cause) }
     ensures front { OnOk result (take 32 part.new ≡ take 32 part.old) }
     ensures length { length part.new ≡ length part.old }
+    ensures same { OnErr result (part.new ≡ part.old) }
 {
-    match open_in_place(end.startup_keys(generation), sid, part) {
+    let group = end.group_at(place);
+    match open_in_place(group.get().startup(), sid, part) {
         Ok(_) => Ok(()),
         Err(_) => Err(Cause::BadTag),
     }
@@ -51,6 +56,65 @@ fn open_in_session(end: &EndState, near: u32, part: &mut [u8]) -> Result<(), Cau
     }
 }
 
+/// Opens a sealed part at a place, in place. It takes no number yet.
+fn open_at(end: &EndState, place: Place, part: &mut [u8]) -> Result<(), Cause>
+    ensures ok { OnOk result (opened_at end.now place part.old ≡ Ok (drop 32 part.new)) }
+    ensures err { IfErr result (λ cause. opened_at end.now place part.old ≡ Err cause) }
+    ensures front { OnOk result (take 32 part.new ≡ take 32 part.old) }
+    ensures length { length part.new ≡ length part.old }
+{
+    match place {
+        Place::Startup { .. } => open_in_startup(end, place, 0, part),
+        Place::Attempt { near, .. } => open_in_startup(end, place, near, part),
+        Place::Session(near) => open_in_session(end, near, part),
+    }
+}
+
+/// Opens a sealed part under session ID 0, in place: in the current generation, or else in the next
+/// one, where that is known. It says where it belongs, or why it is refused.
+fn open_under_zero(end: &EndState, part: &mut [u8]) -> Result<Place, Cause>
+    ensures ok { IfOk result (λ place. opened_first end.now UnknownSession
+        (places_of end.now 0) part.old ≡ Ok (place, drop 32 part.new)) }
+    ensures err { IfErr result (λ cause. opened_first end.now UnknownSession
+        (places_of end.now 0) part.old ≡ Err cause) }
+    ensures front { OnOk result (take 32 part.new ≡ take 32 part.old) }
+    ensures length { length part.new ≡ length part.old }
+{
+    let current = end.current_place();
+    let cause = match open_in_startup(end, current, 0, part) {
+        Ok(()) => return Ok(current),
+        Err(cause) => cause,
+    };
+    match end.next_place() {
+        Some(next) => match open_in_startup(end, next, 0, part) {
+            Ok(()) => Ok(next),
+            Err(cause) => Err(cause),
+        },
+        None => Err(cause),
+    }
+}
+
+/// Opens a sealed part in place under another session ID, and says where it belongs, or why it is
+/// refused. A session that is named so is found at once from then on.
+fn open_under(end: &mut EndState, sid: u32, part: &mut [u8]) -> Result<Place, Cause>
+    requires { (sid == 0) ≡ false }
+    ensures ok { IfOk result (λ place. opened_first end.old UnknownSession
+        (places_of end.old sid) part.old ≡ Ok (place, drop 32 part.new)) }
+    ensures err { IfErr result (λ cause. opened_first end.old UnknownSession
+        (places_of end.old sid) part.old ≡ Err cause) }
+    ensures state { end.new ≡ end.old }
+    ensures front { OnOk result (take 32 part.new ≡ take 32 part.old) }
+    ensures length { length part.new ≡ length part.old }
+{
+    let Some(place) = end.look_up(sid) else {
+        return Err(Cause::UnknownSession);
+    };
+    match open_at(end, place, part) {
+        Ok(()) => Ok(place),
+        Err(cause) => Err(cause),
+    }
+}
+
 /// Opens a datagram in place, and says where it belongs, or why it is refused. Nothing of it
 /// counts as taken yet. The session that it names is found at once from then on.
 pub fn open_datagram(end: &mut EndState, datagram: &mut [u8]) -> Result<Place, Cause>
@@ -65,22 +129,10 @@ pub fn open_datagram(end: &mut EndState, datagram: &mut [u8]) -> Result<Place, C
         return Err(Cause::Short);
     };
     let (_, part) = datagram.split_at_mut(SEALED_AT);
-    match end.look_up(sid) {
-        Some(Place::Startup { generation }) => match open_in_startup(end, generation, 0, part) {
-            Ok(()) => Ok(Place::Startup { generation }),
-            Err(cause) => Err(cause),
-        },
-        Some(Place::Attempt { near, generation }) => {
-            match open_in_startup(end, generation, near, part) {
-                Ok(()) => Ok(Place::Attempt { near, generation }),
-                Err(cause) => Err(cause),
-            }
-        }
-        Some(Place::Session(near)) => match open_in_session(end, near, part) {
-            Ok(()) => Ok(Place::Session(near)),
-            Err(cause) => Err(cause),
-        },
-        None => Err(Cause::UnknownSession),
+    if sid == 0 {
+        open_under_zero(end, part)
+    } else {
+        open_under(end, sid, part)
     }
 }
 

@@ -20,7 +20,8 @@ seals_in context None = false
 seals_in context (Some row) = same_context (context_of row.session true) context
 
 -- that of a session's keystream, where it seals in this context and the secret is the group's
+-- current one
 abbrev pub stream_key : State → List ℕ → Context → Option (List ℕ)
 stream_key s secret context =
-    if seals_in context (get s.sessions (sealer_of context)) && bytes_eq s.startup.secret secret
+    if seals_in context (get s.sessions (sealer_of context)) && bytes_eq s.group.secret secret
     then Some (keys_of secret context).enc else None

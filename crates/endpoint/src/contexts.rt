@@ -11,9 +11,9 @@ use crypto_profile::{Context, StreamKey};
 use endpoint_model::Row;
 
 impl Endpoint {
-    /// The context of a datagram's session ID at this end, where the datagram opens in it: startup
-    /// for session ID 0 and that of an attempt or a search, and a session's own, towards this end.
-    /// None exactly where it opens in none.
+    /// The first of the contexts of a datagram's session ID at this end in which the datagram opens:
+    /// startup in a generation that the end knows for session ID 0, startup in that of an attempt or
+    /// a search, and a session's own, towards this end. None exactly where it opens in none.
     ///
     /// A datagram whose number was taken before opens, too. It takes no memory, and changes
     /// nothing.
@@ -30,7 +30,8 @@ impl Endpoint {
     /// Whether a datagram's session ID names this context at this end, whether or not the datagram
     /// opens in it. It names none where the datagram has fewer than 36 bytes.
     ///
-    /// A datagram opens in no other. The tag isn't computed.
+    /// A datagram opens in no other, since an end has one secret of its group. The tag isn't
+    /// computed.
     pub fn names(&self, datagram: &[u8], context: &Context) -> bool
         ensures named { IsTrue result ↔ (named_context self.now datagram.now ≡ Some context.now) }
         ensures opens { result ≡ true → (other : Context) →
@@ -42,8 +43,8 @@ impl Endpoint {
         }
     }
 
-    /// The key of the keystream of a context under this secret, where it is the group's and a
-    /// session of this end seals in the context. It isn't derived.
+    /// The key of the keystream of a context under this secret, where it is the group's in the
+    /// current generation and a session of this end seals in the context. It isn't derived.
     pub fn stream_key(&self, secret: &[u8; 32], context: &Context) -> Option<&StreamKey>
         ensures { option_copied result ≡ stream_key self.now secret.now context.now }
     {

@@ -14,8 +14,9 @@ use std::marker::Model;
 /// One end: what it keeps of its attempts, searches and sessions.
 ///
 /// Contracts see its limits, the largest moment that it was given, how many startup packets it
-/// sealed, what it keeps of attempts, searches and sessions, each by their session IDs, whether it
-/// introduces, and its rows of addresses.
+/// sealed, the group's secret in the current generation and in a next one that is known, what it
+/// keeps of attempts, searches and sessions, each by their session IDs, whether it introduces, and
+/// its rows of addresses.
 #[derive(Drop)]
 pub struct Endpoint {
     pub(crate) end: EndState,
@@ -42,11 +43,13 @@ impl Endpoint {
     ghost use Rattle.endpoint_model.specs.Log.{StandsFor};
     ghost use Rattle.endpoint.specs.Keeps.{keeps};
 
-    /// An end that holds nothing yet. It takes no memory.
+    /// An end that holds nothing yet. Its group's secret is in this generation, which may be any
+    /// (own): the ends of a group have one secret under one number. It takes no memory.
     pub fn new(
         alloc: Global,
         config: Config,
         cert: Certificate,
+        generation: u64,
         secret: [u8; 32],
         cookie_secret: [u8; 32],
     ) -> Endpoint
@@ -55,6 +58,7 @@ impl Endpoint {
             ≡ fresh (record {
               config = config;
               cert = cert;
+              generation = generation;
               secret = secret;
               cookie_secret = cookie_secret;
             }) }
@@ -63,6 +67,7 @@ impl Endpoint {
         ensures stands { StandsFor (record {
           config = config;
           cert = cert;
+          generation = generation;
           secret = secret;
           cookie_secret = cookie_secret;
         }) [] result }
@@ -71,7 +76,7 @@ impl Endpoint {
         are_thirty_two(&secret);
         are_thirty_two(&cookie_secret);
         Endpoint {
-            end: EndState::new(alloc, config, cert, secret, cookie_secret),
+            end: EndState::new(alloc, config, cert, generation, secret, cookie_secret),
         }
     }
 
