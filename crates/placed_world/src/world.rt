@@ -6,7 +6,7 @@ ghost use Rattle.end_places.specs.Seen.{PlacesSeen, no_places};
 ghost use Rattle.end_places.specs.Carrying.{carried_of, after_carry, WasCarried};
 ghost use Rattle.rendezvous_world.specs.Handing.{MessagesGoOver};
 ghost use Rattle.rendezvous_world.specs.History.{history_of};
-ghost use Rattle.rendezvous_world.specs.Seen.{setup_at};
+ghost use Rattle.rendezvous_world.specs.Seen.{group_secrets, setup_at};
 ghost use Rattle.rendezvous_world.specs.Sound.{AreBelow, IsSound};
 ghost use Rattle.rendezvous_world.specs.Faults.{is_missing};
 ghost use Rattle.placed_world.specs.Stepping.{placed, Brings, Does, carried_to, comes_to, placed_fault, RefusedFor, flat, Placed, SteppedFlat, Undone};
@@ -77,7 +77,8 @@ impl PlacedWorld {
             SteppedFlat self.old.world line (flat self.old step.now) self.new.world) }
 
         ensures sound { IsSound self.new.world }
-        ensures agreed { IsAgreed (setup_at self.new.world.ends) (history_of self.new.world) }
+        ensures agreed { IsAgreed group_secrets (setup_at self.new.world.ends)
+            (history_of self.new.world) }
         ensures go_over { MessagesGoOver (setup_at self.new.world.ends)
             (history_of self.new.world) }
     {
@@ -89,7 +90,8 @@ impl PlacedWorld {
     /// Tells what holds of the world at any moment.
     fn keeps(&self)
         ensures sound { IsSound self.now.world }
-        ensures agreed { IsAgreed (setup_at self.now.world.ends) (history_of self.now.world) }
+        ensures agreed { IsAgreed group_secrets (setup_at self.now.world.ends)
+            (history_of self.now.world) }
         ensures go_over { MessagesGoOver (setup_at self.now.world.ends)
             (history_of self.now.world) }
     {

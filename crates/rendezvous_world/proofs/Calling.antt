@@ -29,7 +29,7 @@ use Rattle.rendezvous_world.specs.declared.step.StepFault.TheVariants.{NoEnd, No
 use Rattle.rendezvous_world.specs.Deed.{Opens, Seeks, Closes, Ticks, Deed, Calls, Brings, deed_of, end_of}
 use Rattle.rendezvous_world.specs.Calls.{peer_in}
 use Rattle.rendezvous_world.specs.Entering.{IsSizedDeed}
-use Rattle.rendezvous_world.specs.Seen.{EndSeen, Seen, print_at, setup_at}
+use Rattle.rendezvous_world.specs.Seen.{group_secrets, EndSeen, Seen, print_at, setup_at}
 use Rattle.rendezvous_world.specs.Draws.{two_numbers, draws_of}
 use Rattle.rendezvous_world.specs.Sent.{sent_in}
 use Rattle.rendezvous_world.specs.Datagrams.{datagram_had, datagram_in}
@@ -127,12 +127,12 @@ draws_line print number bytes deed nonces h = inl h
 
 module _ (w : Seen) (is : IsWorld w) where
   honest_datagram : (who : ℕ) (end : EndSeen) (o : Option (List ℕ)) (from : AddressParts) (draws : Draws) → slice_get w.ends who ≡ Some end → is_forged_by w who o ≡ false →
-      IsHonestCall (setup_at w.ends who) (past_at who (history_of w)) (history_of w) (Receive from (bytes_or_none o) draws)
+      IsHonestCall group_secrets (setup_at w.ends who) (past_at who (history_of w)) (history_of w) (Receive from (bytes_or_none o) draws)
   honest_datagram who end o from draws there unforged =
-      subst (λ (setup : Setup). IsHonestCall setup (past_at who (history_of w)) (history_of w) (Receive from (bytes_or_none o) draws)) (sym (setup_is w.ends who end there))
+      subst (λ (setup : Setup). IsHonestCall group_secrets setup (past_at who (history_of w)) (history_of w) (Receive from (bytes_or_none o) draws)) (sym (setup_is w.ends who end there))
       (λ contexts context plain named opens. sent o unforged context
       (opens_noted end.state stands.told stands.noted (bytes_or_none o) stands.state
-      ∙ opens_in_found end.setup (log_of who (history_of w)) stands.told (bytes_or_none o) (is.given who end there).sized (is.calls who) stands.stands contexts context plain named opens))
+      ∙ opens_in_found group_secrets end.setup (log_of who (history_of w)) stands.told (bytes_or_none o) (is.given who end there).known (is.given who end there).sized (is.calls who) stands.stands contexts context plain named opens))
     where
       stands : StandsUpTo w.moment end.setup (log_of who (history_of w)) end.state
       stands = is.stand who end there
@@ -142,7 +142,7 @@ module _ (w : Seen) (is : IsWorld w) where
       sent (Some bytes) unforged context opens = was_sent w.ends w.ends who end bytes w.lines context there unforged opens
 
   honest_deed : (print : List ℕ) (number : ℕ) (end : EndSeen) (deed : Deed) → slice_get w.ends (end_of deed) ≡ Some end → is_forged_in w deed ≡ false →
-      IsHonestCall (setup_at w.ends (end_of deed)) (past_at (end_of deed) (history_of w)) (history_of w) (call_by print number (bytes_or_none (datagram_in (sent_in w.lines) deed)) deed)
+      IsHonestCall group_secrets (setup_at w.ends (end_of deed)) (past_at (end_of deed) (history_of w)) (history_of w) (call_by print number (bytes_or_none (datagram_in (sent_in w.lines) deed)) deed)
   honest_deed print number end (Brings who from source) there unforged = honest_datagram who end (datagram_had (sent_in w.lines) source) from (draws_of number) there unforged
   honest_deed print number end (Calls who (Opens peer list)) there unforged = tt
   honest_deed print number end (Calls who (Seeks name list)) there unforged = tt
@@ -165,7 +165,7 @@ pub record IsNext (w : Seen) (line : JournalLine) (end : EndSeen) (state : State
   pub answer : IsAnswered line
   pub there : slice_get w.ends line.end ≡ Some end
   pub event : StepOf end.state (event_of w.ends line) state
-  pub honest : IsHonestCall (setup_at w.ends line.end) (past_at line.end (history_of w)) (history_of w) (event_of w.ends line).call
+  pub honest : IsHonestCall group_secrets (setup_at w.ends line.end) (past_at line.end (history_of w)) (history_of w) (event_of w.ends line).call
 
 module _ (w : Seen) (line : JournalLine) (end : EndSeen) (state : State) (is : IsWorld w) (next : IsNext w line end state) where
   abbrev later : List EndSeen
@@ -236,8 +236,8 @@ module _ (w : Seen) (line : JournalLine) (end : EndSeen) (state : State) (is : I
       subst (λ (count : ℕ). AllByRecursion (IsLineIn count) (w.lines ++ line ∷ [])) (sym (length-with_state w.ends line.end state))
       (all_more (IsLineIn (length w.ends)) w.lines line is.lines line_in)
 
-  honest_now : IsHonest (setup_at later) (h ∷ history_of w)
-  honest_now = honest_same (setup_at w.ends) (setup_at later) (h ∷ history_of w) (λ who part. setups_stay w.ends line.end state who) (next.honest, is.honest)
+  honest_now : IsHonest group_secrets (setup_at later) (h ∷ history_of w)
+  honest_now = honest_same group_secrets (setup_at w.ends) (setup_at later) (h ∷ history_of w) (λ who part. setups_stay w.ends line.end state who) (next.honest, is.honest)
 
   abbrev nonce : List ℕ
   nonce = two_numbers 0 line.line
@@ -281,7 +281,7 @@ module _ (w : Seen) (line : JournalLine) (end : EndSeen) (state : State) (is : I
     lines = lines_now;
     rise = rise_more w.lines line is.rise next.below;
     answers = all_more IsAnswered w.lines line is.answers next.answer;
-    honest = subst (λ (x : History). IsHonest (setup_at later) x) (sym is_grown) honest_now;
+    honest = subst (λ (x : History). IsHonest group_secrets (setup_at later) x) (sym is_grown) honest_now;
     nonces = subst (λ (x : History). AllDifferent (drawn_in x)) (sym is_grown) fresh_now.0;
     drawn = subst (λ (x : History). (y : List ℕ) → Among y (drawn_in x) → IsOfLine y (w.lines ++ line ∷ [])) (sym is_grown) fresh_now.1;
   }
@@ -314,12 +314,12 @@ called_may w number step line t is below small may called bytes sized =
     subst (λ (x : Seen). IsWorld x) (sym (seen_is t w.moment (with_state w.ends line.end called.state) (w.lines ++ line ∷ []) called.moment called.ends called.lines))
     (grown_is_world w line called.end called.state is next)
   where
-    honest_line : IsLineOf w number step line → IsHonestCall (setup_at w.ends line.end) (past_at line.end (history_of w)) (history_of w) (event_of w.ends line).call
+    honest_line : IsLineOf w number step line → IsHonestCall group_secrets (setup_at w.ends line.end) (past_at line.end (history_of w)) (history_of w) (event_of w.ends line).call
     honest_line of_step =
         let there : slice_get w.ends (called_by step) ≡ Some called.end = subst (λ (k : ℕ). slice_get w.ends k ≡ Some called.end) of_step.end called.is_end in
-        subst (λ (k : ℕ). IsHonestCall (setup_at w.ends k) (past_at k (history_of w)) (history_of w) (event_of w.ends line).call) (sym of_step.end)
-        (subst (λ (s : Step). IsHonestCall (setup_at w.ends (called_by step)) (past_at (called_by step) (history_of w)) (history_of w) (call_of w.ends line.line line.datagram s)) (sym of_step.step)
-        (subst (λ (o : Option (List ℕ)). IsHonestCall (setup_at w.ends (called_by step)) (past_at (called_by step) (history_of w)) (history_of w) (call_of w.ends line.line o step)) (sym of_step.datagram)
+        subst (λ (k : ℕ). IsHonestCall group_secrets (setup_at w.ends k) (past_at k (history_of w)) (history_of w) (event_of w.ends line).call) (sym of_step.end)
+        (subst (λ (s : Step). IsHonestCall group_secrets (setup_at w.ends (called_by step)) (past_at (called_by step) (history_of w)) (history_of w) (call_of w.ends line.line line.datagram s)) (sym of_step.step)
+        (subst (λ (o : Option (List ℕ)). IsHonestCall group_secrets (setup_at w.ends (called_by step)) (past_at (called_by step) (history_of w)) (history_of w) (call_of w.ends line.line o step)) (sym of_step.datagram)
         (honest_deed w is (print_at w.ends (peer_of (deed_of step))) line.line called.end (deed_of step) there may.unforged)))
 
 pub called_is_world : (w : Seen) (number : ℕ) (step : Step) (line : JournalLine) (t : Seen) → IsWorld w → AreBelow w.lines number → number < 2 ^ 32 → step_fault w step ≡ None → Called w number step line t →

@@ -16,7 +16,7 @@ use Rattle.endpoint_laws.specs.History.{History, IsOut, HasOut, WasSent, IsHones
 use Rattle.endpoint_laws.specs.OpensIn.{opens_in, OpensAt}
 use Rattle.endpoint_laws.proofs.Opened.{opens_in_told}
 use Rattle.rendezvous_world.specs.declared.journal.JournalLine.{JournalLine}
-use Rattle.rendezvous_world.specs.Seen.{EndSeen, Seen, setup_at}
+use Rattle.rendezvous_world.specs.Seen.{group_secrets, EndSeen, Seen, setup_at}
 use Rattle.rendezvous_world.specs.Sent.{Sent, sent_among, sent_from, sent_in, with_sent}
 use Rattle.rendezvous_world.specs.History.{happened, after_lines, history_of}
 use Rattle.rendezvous_world.specs.Faults.{is_sent, is_unsent_in}
@@ -87,15 +87,15 @@ module _ (w : Seen) (is : IsWorld w) where
   -- The datagram opens at the end, and none with its bytes was sent in that context: a history in which it comes next isn't honest.
   pub dishonest : (who : ℕ) (end : EndSeen) (bytes : List ℕ) (from : AddressParts) (draws : Draws) → slice_get w.ends who ≡ Some end →
       is_unsent_in (opens_in end.state bytes) bytes (sent_in w.lines) ≡ true →
-      IsHonestCall (setup_at w.ends who) (past_at who (history_of w)) (history_of w) (Receive from bytes draws) → ⊥
+      IsHonestCall group_secrets (setup_at w.ends who) (past_at who (history_of w)) (history_of w) (Receive from bytes draws) → ⊥
   dishonest who end bytes from draws there unsent honest =
       let stands : StandsUpTo w.moment end.setup (log_of who (history_of w)) end.state = is.stand who end there in
       let found = unsent_context bytes (Startup 0) (opens_in end.state bytes) (sent_in w.lines) unsent in
       let opens : opens_in stands.told bytes ≡ Some found.0 = sym (opens_noted end.state stands.told stands.noted bytes stands.state) ∙ found.1 in
-      let at : OpensAt end.setup (past_at who (history_of w)) bytes found.0 =
-      opens_in_told end.setup (log_of who (history_of w)) stands.told bytes (is.given who end there).sized (is.calls who) stands.stands found.0 opens in
-      let ours : IsHonestCall end.setup (past_at who (history_of w)) (history_of w) (Receive from bytes draws) =
-      subst (λ (setup : Setup). IsHonestCall setup (past_at who (history_of w)) (history_of w) (Receive from bytes draws)) (setup_is w.ends who end there) honest in
+      let at : OpensAt group_secrets end.setup (past_at who (history_of w)) bytes found.0 =
+      opens_in_told group_secrets end.setup (log_of who (history_of w)) stands.told bytes (is.given who end there).known (is.given who end there).sized (is.calls who) stands.stands found.0 opens in
+      let ours : IsHonestCall group_secrets end.setup (past_at who (history_of w)) (history_of w) (Receive from bytes draws) =
+      subst (λ (setup : Setup). IsHonestCall group_secrets setup (past_at who (history_of w)) (history_of w) (Receive from bytes draws)) (setup_is w.ends who end there) honest in
       let was : WasSent bytes found.0 (history_of w) = ours at.contexts found.0 at.plain at.named at.opens in
       let none : not (list_any (is_sent bytes found.0) (sent_in w.lines)) ≡ true =
       sym (ap (λ (o : Option Context). is_unsent_in o bytes (sent_in w.lines)) found.1) ∙ unsent in

@@ -19,7 +19,9 @@ use Rattle.rendezvous_world.specs.declared.journal.JournalLine.{JournalLine}
 use Rattle.rendezvous_world.specs.declared.step.Step.TheVariants.{End}
 use Rattle.rendezvous_world.specs.Deed.{Deed, Calls, deed_of}
 use Rattle.rendezvous_world.specs.Calls.{peer_in}
-use Rattle.rendezvous_world.specs.Seen.{EndSeen, Seen, setup_at}
+use Rattle.rtmfp_base.proofs.Maps.{get_inserted}
+use Rattle.std.specs.FinMap.{empty}
+use Rattle.rendezvous_world.specs.Seen.{group_secrets, first_generation, group_secret, EndSeen, Seen, setup_at}
 use Rattle.rendezvous_world.specs.History.{history_of}
 use Rattle.rendezvous_world.specs.Sound.{StandsUpTo}
 use Rattle.rendezvous_world.specs.Stepping.{new_setup, new_end, with_end, with_moment}
@@ -108,7 +110,7 @@ line_in_more few many le line is = record {
 pub new_setup_is : (max_peers max_sessions : ℕ) (cert : List ℕ) → IsCertificate cert → max_sessions ≤ 65536 → IsGiven (new_setup max_peers max_sessions cert)
 new_setup_is max_peers max_sessions cert is most = record {
   sized = record { cert = is; secret = refl; cookie_secret = length-sha256 cert; sessions = most };
-  secret = refl;
+  known = get_inserted empty first_generation group_secret;
 }
 
 module _ (w : Seen) (is : IsWorld w) (new : EndSeen) (given : IsGiven new.setup) (begun : new.state ≡ fresh new.setup) (other_name : NoneHas name_of new.name w.ends) (other_print : NoneHas print_of (own_of new.setup) w.ends) where
@@ -151,8 +153,8 @@ module _ (w : Seen) (is : IsWorld w) (new : EndSeen) (given : IsGiven new.setup)
     lines = lines_now;
     rise = is.rise;
     answers = is.answers;
-    honest = subst (λ (h : History). IsHonest (setup_at (w.ends ++ new ∷ [])) h) (sym same_history)
-        (honest_same (setup_at w.ends) (setup_at (w.ends ++ new ∷ [])) (history_of w) (λ who h. stay who (takes_part who h)) is.honest);
+    honest = subst (λ (h : History). IsHonest group_secrets (setup_at (w.ends ++ new ∷ [])) h) (sym same_history)
+        (honest_same group_secrets (setup_at w.ends) (setup_at (w.ends ++ new ∷ [])) (history_of w) (λ who h. stay who (takes_part who h)) is.honest);
     nonces = subst (λ (h : History). AllDifferent (drawn_in h)) (sym same_history) is.nonces;
     drawn = subst (λ (h : History). (nonce : List ℕ) → Among nonce (drawn_in h) → IsOfLine nonce w.lines) (sym same_history) is.drawn;
   }

@@ -18,7 +18,7 @@ use Rattle.endpoint_laws.specs.Laws.{AreCalls}
 use Rattle.endpoint_laws.specs.Draws.{drawn_in}
 use Rattle.endpoint_laws.specs.History.{History, log_of, IsHonest}
 use Rattle.endpoint.proofs.Extending.{extends}
-use Rattle.rendezvous_world.specs.Seen.{EndSeen, Seen, setup_at}
+use Rattle.rendezvous_world.specs.Seen.{group_secrets, EndSeen, Seen, setup_at}
 use Rattle.rendezvous_world.specs.History.{history_of}
 use Rattle.rendezvous_world.specs.Sound.{StandsUpTo}
 use Rattle.rendezvous_world.specs.Kept.{IsGiven, name_of, print_of, IsLineIn, IsOfLine, IsWorld}
@@ -206,8 +206,8 @@ module _ (w : Seen) (who_noted : ℕ) (end : EndSeen) (is : IsWorld w) (there : 
     lines = subst (λ (count : ℕ). AllByRecursion (IsLineIn count) w.lines) (sym (length-with_state w.ends who_noted noting)) is.lines;
     rise = is.rise;
     answers = is.answers;
-    honest = subst (λ (h : History). IsHonest (setup_at later) h) (sym same_history)
-        (honest_same (setup_at w.ends) (setup_at later) (history_of w) (λ who part. setups_stay w.ends who_noted noting who) is.honest);
+    honest = subst (λ (h : History). IsHonest group_secrets (setup_at later) h) (sym same_history)
+        (honest_same group_secrets (setup_at w.ends) (setup_at later) (history_of w) (λ who part. setups_stay w.ends who_noted noting who) is.honest);
     nonces = subst (λ (h : History). AllDifferent (drawn_in h)) (sym same_history) is.nonces;
     drawn = subst (λ (h : History). (nonce : List ℕ) → Among nonce (drawn_in h) → IsOfLine nonce w.lines) (sym same_history) is.drawn;
   }

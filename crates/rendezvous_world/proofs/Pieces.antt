@@ -11,7 +11,7 @@ use Rattle.rtmfp_text.specs.declared.names.Named.{Named}
 use Rattle.rendezvous_world.specs.declared.end.End.{End as EndKept}
 use Rattle.rendezvous_world.specs.declared.journal.JournalLine.{JournalLine}
 use Rattle.rendezvous_world.specs.declared.step.Step.TheVariants.{End}
-use Rattle.rendezvous_world.specs.Seen.{EndSeen, Seen, group_secret}
+use Rattle.rendezvous_world.specs.Seen.{EndSeen, Seen, first_generation, group_secret}
 use Rattle.rendezvous_world.specs.Sent.{Sent, sent_in}
 use Rattle.rendezvous_world.specs.Keyed.{AreKeys}
 use Rattle.rendezvous_world.specs.Faults.{is_sent, is_unsent_in, is_forged_at, is_bad}
@@ -83,6 +83,7 @@ abbrev pub setup_with : ℕ → ℕ → List ℕ → List ℕ → Setup
 setup_with max_peers max_sessions cert cookie_secret = record {
   config = record { max_peers = max_peers; max_sessions = max_sessions; introduces = false };
   cert = cert;
+  generation = first_generation;
   secret = group_secret;
   cookie_secret = cookie_secret;
 }

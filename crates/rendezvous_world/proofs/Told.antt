@@ -2,6 +2,7 @@
 use Rattle.std.proofs.Common.{◌≡◌, ◌≢◌, ℕ, ◌<◌, ◌≤◌, List, [], ◌∷◌, ◌++◌, Bool, if◌then◌else◌, inl, inr, ◌⊎◌, refl, sym, ap, subst, ◌∙◌, arith}
 use Rattle.std.specs.List.{AllByRecursion}
 use Rattle.endpoint_model.specs.Event.{Setup, own_of, Call, AddRow, Open as OpenCall, Event}
+use Rattle.endpoint_laws.specs.Contexts.{Secrets}
 use Rattle.endpoint_laws.specs.History.{Happened, History, log_of, past_at, IsHonestCall, IsHonest, TakesPart}
 use Rattle.rendezvous_world.specs.declared.journal.JournalLine.{JournalLine}
 use Rattle.rendezvous_world.specs.Deed.{Opens, Redirects, Deed, Calls, deed_of}
@@ -116,9 +117,9 @@ log_absent who (h ∷ earlier) absent = log_other who h earlier (λ is. absent (
 
 -- ---- honest by what its ends were given
 
-pub honest_same : (f g : ℕ → Setup) (history : History) → ((who : ℕ) → TakesPart who history → g who ≡ f who) → IsHonest f history → IsHonest g history
-honest_same f g [] same honest = tt
-honest_same f g (h ∷ earlier) same honest = (
-  subst (λ (setup : Setup). IsHonestCall setup (past_at h.who earlier) earlier h.event.call) (sym (same h.who (inl refl))) honest.0,
-  honest_same f g earlier (λ who later. same who (inr later)) honest.1,
+pub honest_same : (secrets : Secrets) (f g : ℕ → Setup) (history : History) → ((who : ℕ) → TakesPart who history → g who ≡ f who) → IsHonest secrets f history → IsHonest secrets g history
+honest_same secrets f g [] same honest = tt
+honest_same secrets f g (h ∷ earlier) same honest = (
+  subst (λ (setup : Setup). IsHonestCall secrets setup (past_at h.who earlier) earlier h.event.call) (sym (same h.who (inl refl))) honest.0,
+  honest_same secrets f g earlier (λ who later. same who (inr later)) honest.1,
 )

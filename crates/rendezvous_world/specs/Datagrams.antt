@@ -6,8 +6,7 @@ use Rattle.packet_scramble.specs.Datagram.{datagram}
 use Rattle.rendezvous_world.specs.Deed.{Source, Delivered, Turned, Injected, Sealed, Deed, Brings, deed_of}
 use Rattle.rendezvous_world.specs.Sent.{Sent}
 use Rattle.rendezvous_world.specs.declared.step.Step.{Step}
-use Rattle.rendezvous_world.specs.Seen.{group_secret}
-use Rattle.endpoint_model.specs.State.{current_generation}
+use Rattle.rendezvous_world.specs.Seen.{first_generation, group_secret}
 
 -- the first of a list, the second and so on, counted from 1
 abbrev pub nth : {A : Type 0} → List A → ℕ → Option A
@@ -32,7 +31,7 @@ forged_number = replicate 16 0xff
 -- a plain packet, sealed for startup under session ID 0
 abbrev pub forged : List ℕ → List ℕ
 forged plain = datagram 0
-    (sealed_in group_secret (Startup current_generation) 0 forged_number plain)
+    (sealed_in group_secret (Startup first_generation) 0 forged_number plain)
 
 -- a datagram that is had so, where these were sent before; none where it isn't there
 abbrev pub datagram_had : List Sent → Source → Option (List ℕ)

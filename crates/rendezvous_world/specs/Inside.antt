@@ -7,7 +7,7 @@ use Rattle.endpoint_model.specs.Event.{own_of}
 use Rattle.rendezvous_world.specs.declared.end.End.{End}
 use Rattle.rendezvous_world.specs.declared.sent.Letter.{Letter}
 use Rattle.rendezvous_world.specs.declared.journal.JournalLine.{JournalLine}
-use Rattle.rendezvous_world.specs.Seen.{EndSeen, Seen, group_secret}
+use Rattle.rendezvous_world.specs.Seen.{EndSeen, Seen, first_generation, group_secret}
 use Rattle.rendezvous_world.specs.Kept.{IsWorld}
 use Rattle.rendezvous_world.specs.Keyed.{AreKeys}
 use Rattle.rendezvous_world.specs.Sent.{Sent, sent_among, sent_in}
@@ -18,6 +18,7 @@ end_seen end = record {
   setup = record {
     config = end.config;
     cert = end.cert;
+    generation = first_generation;
     secret = group_secret;
     cookie_secret = sha256 end.cert;
   };

@@ -5,6 +5,7 @@ use Rattle.glare_core.specs.Steps.{Among}
 use Rattle.glare_core.specs.Told.{AllDifferent}
 use Rattle.endpoint_model.specs.Event.{Setup, own_of}
 use Rattle.endpoint_laws.specs.Laws.{IsSetup, AreCalls}
+use Rattle.endpoint_laws.specs.Contexts.{Knows}
 use Rattle.endpoint_laws.specs.Draws.{drawn_in}
 use Rattle.endpoint_laws.specs.History.{log_of, IsHonest}
 use Rattle.rendezvous_world.specs.declared.journal.JournalLine.{JournalLine}
@@ -12,15 +13,15 @@ use Rattle.rendezvous_world.specs.declared.step.Step.{Step}
 use Rattle.rendezvous_world.specs.Deed.{Deed, Calls, deed_of}
 use Rattle.rendezvous_world.specs.Calls.{peer_in}
 use Rattle.rendezvous_world.specs.Draws.{two_numbers}
-use Rattle.rendezvous_world.specs.Seen.{EndSeen, Seen, group_secret, setup_at}
+use Rattle.rendezvous_world.specs.Seen.{EndSeen, Seen, group_secrets, setup_at}
 use Rattle.rendezvous_world.specs.History.{history_of}
 use Rattle.rendezvous_world.specs.Stepping.{IsAnswered}
 use Rattle.rendezvous_world.specs.Sound.{StandsUpTo}
 
--- What an end was given has its sizes, and its secret is that of the group.
+-- What an end was given has its sizes, and its secret is that of the group for its generation.
 pub record IsGiven (setup : Setup) : Type 0 where
   pub sized : IsSetup setup
-  pub secret : setup.secret ≡ group_secret
+  pub known : Knows group_secrets setup
 
 -- Ends with the same of these bytes are the same end.
 abbrev pub AreApart : (EndSeen → List ℕ) → List EndSeen → Type 0
@@ -81,7 +82,7 @@ pub record IsWorld (w : Seen) : Type 0 where
   pub rise : Rise w.lines
   -- each line tells what its step can answer
   pub answers : AllByRecursion IsAnswered w.lines
-  pub honest : IsHonest (setup_at w.ends) (history_of w)
+  pub honest : IsHonest group_secrets (setup_at w.ends) (history_of w)
   -- the nonces that calls drew are those of lines, none of which gave two
   pub nonces : AllDifferent (drawn_in (history_of w))
   pub drawn : (nonce : List ℕ) → Among nonce (drawn_in (history_of w)) → IsOfLine nonce w.lines

@@ -12,7 +12,7 @@ use Rattle.rendezvous_world.specs.declared.step.Step.{Step}
 use Rattle.rendezvous_world.specs.Deed.{Deed, NewEnd, Calls, deed_of}
 use Rattle.rendezvous_world.specs.Calls.{IsSizedCall}
 use Rattle.rendezvous_world.specs.Entering.{IsSizedDeed}
-use Rattle.rendezvous_world.specs.Seen.{EndSeen, Seen, setup_at}
+use Rattle.rendezvous_world.specs.Seen.{group_secrets, EndSeen, Seen, setup_at}
 use Rattle.rendezvous_world.specs.Sent.{sent_in}
 use Rattle.rendezvous_world.specs.Datagrams.{datagram_in}
 use Rattle.rendezvous_world.specs.History.{bytes_or_none, history_of}
@@ -30,7 +30,8 @@ EveryWorldIsSound = (w : Seen) → IsWorld w → IsSound w
 -- And its history is agreed: at each moment, what its ends stated of their sessions with each other
 -- fits together.
 abbrev pub EveryWorldIsAgreed : Type 0
-EveryWorldIsAgreed = (w : Seen) → IsWorld w → IsAgreed (setup_at w.ends) (history_of w)
+EveryWorldIsAgreed = (w : Seen) → IsWorld w →
+    IsAgreed group_secrets (setup_at w.ends) (history_of w)
 
 -- And the messages of its flows go over: whole, none twice, and in queueing order where a flow is in
 -- that, skipping only abandoned ones.
@@ -52,7 +53,7 @@ EveryForgedDatagramIsDishonest =
     (w : Seen) (who : ℕ) (end : EndSeen) (bytes : List ℕ) (from : AddressParts) (draws : Draws) →
     IsWorld w → slice_get w.ends who ≡ Some end →
     is_forged_at w.ends who bytes (sent_in w.lines) ≡ true →
-    IsHonestCall (setup_at w.ends who) (past_at who (history_of w)) (history_of w)
+    IsHonestCall group_secrets (setup_at w.ends who) (past_at who (history_of w)) (history_of w)
     (Receive from bytes draws) → ⊥
 
 -- ---- a whole run

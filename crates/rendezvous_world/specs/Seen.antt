@@ -1,10 +1,12 @@
 -- What a world is: its moment, its ends by their numbers, and the lines of its journal, the oldest
 -- first.
 use Rattle.std.specs.Prelude.{ℕ, false, zero, suc, List, [], ◌∷◌, replicate, Option, Some, None, refl}
+use Rattle.std.specs.FinMap.{insert, empty}
 use Rattle.std.specs.Coded.{Coded, code_by, coded×, coded_ℕ, coded_list}
 use Rattle.endpoint_model.specs.declared.config.Config.{Config}
 use Rattle.endpoint_model.specs.Event.{Setup, own_of}
 use Rattle.endpoint_model.specs.State.{State}
+use Rattle.endpoint_laws.specs.Contexts.{Secrets}
 use Rattle.rendezvous_world.specs.declared.journal.JournalLine.{JournalLine}
 
 pub record EndSeen : Type 0 where
@@ -19,15 +21,23 @@ pub record Seen : Type 0 where
   pub ends : List EndSeen
   pub lines : List JournalLine
 
--- the secret of the group of every end
+-- the number of the generation with which every end begins, and the secret of its group in that
+abbrev pub first_generation : ℕ
+first_generation = 0
+
 abbrev pub group_secret : List ℕ
 group_secret = replicate 32 0
+
+-- the secrets of the group, by their generations
+abbrev pub group_secrets : Secrets
+group_secrets = insert empty first_generation group_secret
 
 -- what an end of nobody would be given
 abbrev pub nobody : Setup
 nobody = record {
   config = record { max_peers = 0; max_sessions = 0; introduces = false };
   cert = [];
+  generation = first_generation;
   secret = group_secret;
   cookie_secret = [];
 }
@@ -52,11 +62,17 @@ state_at (end ∷ ends) (suc who) = state_at ends who
 
 abbrev pub setup_code : Coded Config → Coded Setup
 setup_code config =
-    code_by (Config × (List ℕ × (List ℕ × List ℕ)))
-    (coded× config (coded× (coded_list coded_ℕ)
-    (coded× (coded_list coded_ℕ) (coded_list coded_ℕ))))
-    (λ s. (s.config, (s.cert, (s.secret, s.cookie_secret))))
-    (λ p. record { config = p.0; cert = p.1.0; secret = p.1.1.0; cookie_secret = p.1.1.1 })
+    code_by (Config × (List ℕ × (ℕ × (List ℕ × List ℕ))))
+    (coded× config (coded× (coded_list coded_ℕ) (coded× coded_ℕ
+    (coded× (coded_list coded_ℕ) (coded_list coded_ℕ)))))
+    (λ s. (s.config, (s.cert, (s.generation, (s.secret, s.cookie_secret)))))
+    (λ p. record {
+      config = p.0;
+      cert = p.1.0;
+      generation = p.1.1.0;
+      secret = p.1.1.1.0;
+      cookie_secret = p.1.1.1.1;
+    })
     (λ _. refl)
 
 abbrev pub end_code : Coded Config → Coded State → Coded EndSeen

@@ -7,7 +7,7 @@ use Rattle.endpoint_model.specs.State.{State, at_moment}
 use Rattle.endpoint_model.specs.Log.{StandsFor}
 use Rattle.endpoint_laws.specs.History.{log_of, AreLawful, IsHonest, IsFresh}
 use Rattle.rendezvous_world.specs.declared.journal.JournalLine.{JournalLine}
-use Rattle.rendezvous_world.specs.Seen.{EndSeen, Seen, setup_at}
+use Rattle.rendezvous_world.specs.Seen.{group_secrets, EndSeen, Seen, setup_at}
 use Rattle.rendezvous_world.specs.History.{history_of}
 use Rattle.rendezvous_world.specs.Stepping.{IsAnswered}
 
@@ -31,8 +31,8 @@ pub record IsSound (w : Seen) : Type 0 where
   -- each end stands for its own log, but that it may have noted a moment which has passed
   pub stand : (who : ℕ) (end : EndSeen) → slice_get w.ends who ≡ Some end →
       StandsUpTo w.moment end.setup (log_of who (history_of w)) end.state
-  pub lawful : AreLawful (setup_at w.ends) (history_of w)
-  pub honest : IsHonest (setup_at w.ends) (history_of w)
+  pub lawful : AreLawful group_secrets (setup_at w.ends) (history_of w)
+  pub honest : IsHonest group_secrets (setup_at w.ends) (history_of w)
   pub fresh : IsFresh (setup_at w.ends) (history_of w)
   -- each line tells what its step can answer; none was refused for want of memory
   pub answers : AllByRecursion IsAnswered w.lines

@@ -8,7 +8,7 @@ use Rattle.rendezvous_world.specs.declared.journal.JournalLine.{JournalLine}
 use Rattle.rendezvous_world.specs.declared.journal.Refused.{Refused}
 use Rattle.endpoint_model.specs.declared.answers.Stopped.{Stopped as Stop}
 use Rattle.rendezvous_world.specs.declared.step.Step.{Step}
-use Rattle.rendezvous_world.specs.Seen.{EndSeen, Seen, group_secret, print_at}
+use Rattle.rendezvous_world.specs.Seen.{EndSeen, Seen, first_generation, group_secret, print_at}
 use Rattle.rendezvous_world.specs.Sent.{sent_in}
 use Rattle.rendezvous_world.specs.Datagrams.{datagram_of}
 use Rattle.rendezvous_world.specs.Deed.{Deed, NewEnd, NewMoment, Calls, Brings, deed_of, end_of}
@@ -20,6 +20,7 @@ abbrev pub new_setup : ℕ → ℕ → List ℕ → Setup
 new_setup max_peers max_sessions cert = record {
   config = record { max_peers = max_peers; max_sessions = max_sessions; introduces = false };
   cert = cert;
+  generation = first_generation;
   secret = group_secret;
   cookie_secret = sha256 cert;
 }

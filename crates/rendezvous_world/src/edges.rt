@@ -28,11 +28,12 @@ pub fn random_values()
     ensures word { (draws_of 258).word ≡ 258 }
 {}
 
-/// A new end is given the group's secret of 32 zero bytes, and its fingerprint as the secret of its
-/// cookies.
+/// A new end is given the group's secret of 32 zero bytes, which is that of generation 0, and its
+/// fingerprint as the secret of its cookies.
 pub fn secrets()
     ensures group { group_secret ≡ 0 ∷ 0 ∷ 0 ∷ 0 ∷ 0 ∷ 0 ∷ 0 ∷ 0 ∷ 0 ∷ 0 ∷ 0 ∷ 0 ∷ 0 ∷ 0 ∷ 0 ∷ 0 ∷ 0
         ∷ 0 ∷ 0 ∷ 0 ∷ 0 ∷ 0 ∷ 0 ∷ 0 ∷ 0 ∷ 0 ∷ 0 ∷ 0 ∷ 0 ∷ 0 ∷ 0 ∷ 0 ∷ [] }
+    ensures generation { (new_setup 3 4 (7 ∷ [])).generation ≡ 0 }
     ensures of_the_group { (new_setup 3 4 (7 ∷ [])).secret ≡ group_secret }
     ensures of_cookies { (new_setup 3 4 (7 ∷ [])).cookie_secret ≡ sha256 (7 ∷ []) }
     ensures most_peers { (new_setup 3 4 (7 ∷ [])).config.max_peers ≡ 3 }

@@ -4,8 +4,8 @@ use endpoint::{Config, Endpoint};
 use identity::Certificate;
 use rtmfp_text::Name;
 
-/// An end: its name, what it was given, and the endpoint. The secret of its group is 32 zeros, and
-/// that of its cookies is its fingerprint.
+/// An end: its name, what it was given, and the endpoint. The secret of its group is 32 zeros
+/// in generation 0, and that of its cookies is its fingerprint.
 #[derive(Drop)]
 pub struct End {
     pub(crate) name: Name,

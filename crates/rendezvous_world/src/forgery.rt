@@ -3,9 +3,8 @@
 ghost use Rattle.std.specs.Prelude.{◌≡◌, ◌+◌, length};
 ghost use Rattle.std.specs.List.{list_any};
 ghost use Rattle.crypto_profile.specs.Keys.{keys_of};
-ghost use Rattle.endpoint_model.specs.State.{current_generation};
 ghost use Rattle.rendezvous_world.specs.Datagrams.{forged, nth};
-ghost use Rattle.rendezvous_world.specs.Seen.{group_secret};
+ghost use Rattle.rendezvous_world.specs.Seen.{first_generation, group_secret};
 ghost use Rattle.rendezvous_world.specs.Faults.{is_sent};
 ghost use Rattle.rendezvous_world.specs.Inside.{starts_after};
 ghost use Rattle.rendezvous_world.specs.Keyed.{AreKeys, is_one_sent, key_of};
@@ -19,7 +18,10 @@ use crypto_profile::{CIPHERED_AT, Context, Keys, seal_into};
 use endpoint::Entry;
 use packet_scramble::{SEALED_AT, scramble};
 
-/// The secret of the group of every end.
+/// The number of the generation with which every end begins.
+pub(crate) const FIRST_GENERATION: u64 = 0;
+
+/// The secret of the group of every end, in that generation.
 pub(crate) const GROUP_SECRET: [u8; 32] = [0; 32];
 
 /// The bytes of a datagram before its plain packet.
@@ -169,9 +171,12 @@ impl World {
 
 /// The keys of the packets that nobody sent.
 fn forgers_keys() -> Keys
-    ensures { result ≡ keys_of group_secret (Context.Startup current_generation) }
+    ensures { result ≡ keys_of group_secret (Context.Startup first_generation) }
 {
-    Keys::of(&GROUP_SECRET, &Context::Startup { generation: 0 })
+    let context = Context::Startup {
+        generation: FIRST_GENERATION,
+    };
+    Keys::of(&GROUP_SECRET, &context)
 }
 
 /// Fills a buffer, which is as long as the datagram, with one of this plain packet that nobody

@@ -14,7 +14,7 @@ ghost use Rattle.rtmfp_text.specs.Names.{is_like as is_like_named};
 
 use crate::end::End;
 use crate::entering::put;
-use crate::forgery::GROUP_SECRET;
+use crate::forgery::{FIRST_GENERATION, GROUP_SECRET};
 use crate::step::{Step, StepFault};
 use crate::world::World;
 use endpoint::{Config, Endpoint};
@@ -110,7 +110,14 @@ impl World {
                 name: name.again(),
                 config,
                 cert: *cert,
-                endpoint: Endpoint::new(self.alloc, config, *cert, GROUP_SECRET, print),
+                endpoint: Endpoint::new(
+                    self.alloc,
+                    config,
+                    *cert,
+                    FIRST_GENERATION,
+                    GROUP_SECRET,
+                    print,
+                ),
             },
         );
         Ok(())

@@ -2,7 +2,7 @@
 
 ghost use Rattle.std.specs.Prelude.{◌≡◌, map, option_copied};
 ghost use Rattle.rendezvous_world.specs.Inside.{end_seen};
-ghost use Rattle.rendezvous_world.specs.Seen.{state_at};
+ghost use Rattle.rendezvous_world.specs.Seen.{group_secrets, state_at};
 
 use crate::end::End;
 use crate::journal::Journal;
@@ -111,7 +111,7 @@ impl World {
         // The history of the journal is lawful, honest and fresh, hence agreed, and the messages of
         // its flows go over.
         ensures sound { IsSound self.new }
-        ensures agreed { IsAgreed (setup_at self.new.ends) (history_of self.new) }
+        ensures agreed { IsAgreed group_secrets (setup_at self.new.ends) (history_of self.new) }
         ensures go_over { MessagesGoOver (setup_at self.new.ends) (history_of self.new) }
     {
         let result = self.take_step(line, step);
@@ -122,7 +122,7 @@ impl World {
     /// Tells what holds at any moment.
     fn keeps(&self)
         ensures sound { IsSound self.now }
-        ensures agreed { IsAgreed (setup_at self.now.ends) (history_of self.now) }
+        ensures agreed { IsAgreed group_secrets (setup_at self.now.ends) (history_of self.now) }
         ensures go_over { MessagesGoOver (setup_at self.now.ends) (history_of self.now) }
     {
         // This is read for the prover alone, which finds here what holds of every world.
@@ -153,7 +153,7 @@ impl World {
     pub fn journal(&self) -> &Journal
         ensures lines { result.now ≡ self.now.lines }
         ensures sound { IsSound self.now }
-        ensures agreed { IsAgreed (setup_at self.now.ends) (history_of self.now) }
+        ensures agreed { IsAgreed group_secrets (setup_at self.now.ends) (history_of self.now) }
         ensures go_over { MessagesGoOver (setup_at self.now.ends) (history_of self.now) }
     {
         self.keeps();

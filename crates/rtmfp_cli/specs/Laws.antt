@@ -14,7 +14,7 @@ use Rattle.rendezvous_world.specs.Inside.{count_in}
 use Rattle.rendezvous_world.specs.Same.{AreSameWorlds}
 use Rattle.rendezvous_world.specs.declared.step.Step.{Step}
 use Rattle.rendezvous_world.specs.Laws.{empty_world}
-use Rattle.rendezvous_world.specs.Seen.{Seen, setup_at}
+use Rattle.rendezvous_world.specs.Seen.{group_secrets, Seen, setup_at}
 use Rattle.placed_world.specs.Stepping.{SteppedFlat}
 use Rattle.placed_world.specs.Seen.{PlacedSeen}
 use Rattle.placed_world.specs.declared.step.LostLine.{LostLine}
@@ -45,7 +45,8 @@ EveryRunHolds = (lines : List (List ℕ)) (left : Doing) (text : List ℕ) →
 -- sessions with each other, and each attempt that opened has one session at its responder.
 abbrev pub EveryRunIsAgreed : Type 0
 EveryRunIsAgreed = (lines : List (List ℕ)) (w : PlacedSeen) (text : List ℕ) →
-    Runs 1 playing lines (Playing w) text → IsAgreed (setup_at w.world.ends) (history_of w.world)
+    Runs 1 playing lines (Playing w) text →
+    IsAgreed group_secrets (setup_at w.world.ends) (history_of w.world)
 
 -- A flow in queueing order has handed over what was queued on it whole, none twice, in the order of
 -- queueing, and skipping only abandoned messages; one in arrival order whole, and none twice.

@@ -100,8 +100,8 @@ ran_of v n block s t u first log x opened y is begins same one two sized_one siz
       state = u;
       run = record { opened = opened; first = first; later = log; turn_zero = zero; others = others; whole = refl };
       stands = stands;
-      lawful =
-          every_log_is_lawful (setup_of v (next_block x.blocks)) (first ++ log) u (subst (λ (k : Setup). IsSetup k) setup is) (calls_sized first log sized_one sized_two) stands;
+      lawful = λ secrets knows.
+          every_log_is_lawful secrets (setup_of v (next_block x.blocks)) (first ++ log) u knows (subst (λ (k : Setup). IsSetup k) setup is) (calls_sized first log sized_one sized_two) stands;
     }
 
 -- the first draw and the bind, and then what leaves this

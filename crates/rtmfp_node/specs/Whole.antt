@@ -5,6 +5,7 @@ use Rattle.endpoint_model.specs.declared.config.Config.{Config}
 use Rattle.endpoint_model.specs.Event.{Setup, Event}
 use Rattle.endpoint_model.specs.State.{State, fresh}
 use Rattle.endpoint_model.specs.Log.{StandsFor}
+use Rattle.endpoint_laws.specs.Contexts.{Secrets, Knows}
 use Rattle.endpoint_laws.specs.Lawful.{IsLawful}
 use Rattle.rtmfp_report.specs.EntryText.{sent_after}
 use Rattle.rtmfp_words.specs.Node.{Serving}
@@ -25,24 +26,28 @@ instance_in (Some bytes) block = bytes
 abbrev pub config_of : Serving → Config
 config_of v = record { max_peers = 65536; max_sessions = 4096; introduces = v.introduce }
 
--- The certificate and the cookie secret come of the first block.
+-- The certificate and the cookie secret come of the first block. The words have the group's secret,
+-- which is that of its first generation.
 abbrev pub setup_of : Serving → List ℕ → Setup
 setup_of v block = record {
   config = config_of v;
   cert = instance_in v.instance block ++ v.name;
+  generation = 0;
   secret = v.group;
   cookie_secret = take 32 (drop 16 block);
 }
 
 -- ---- runs
 
--- A run of so many turns, with a log that the end stands for in the end, and that is lawful.
+-- A run of so many turns, with a log that the end stands for in the end, and that is lawful for
+-- whatever secrets of a group among which the end's is.
 pub record Ran (v : Serving) (turns : ℕ) (before after : Told) : Type 0 where
   pub log : List Event
   pub state : State
   pub run : Run v turns before after log
   pub stands : StandsFor (setup_of v (next_block before.blocks)) log state
-  pub lawful : IsLawful (setup_of v (next_block before.blocks)) log
+  pub lawful : (secrets : Secrets) → Knows secrets (setup_of v (next_block before.blocks)) →
+      IsLawful secrets (setup_of v (next_block before.blocks)) log
 
 -- How a run ends before turn 0 is done. A random source that fails has failed at the first draw, and
 -- then all is as it was, or at that of an opening, after the bind. A bind that fails comes after the

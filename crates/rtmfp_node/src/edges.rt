@@ -49,8 +49,8 @@ pub fn a_block_has_its_parts()
 {}
 
 /// The first block begins the certificate, unless the words do, and the name stands behind it; its
-/// bytes 16 to 47 are the cookie secret. The group's secret is that of the words. A node knows
-/// 65,536 peers and has 4,096 attempts and sessions at most.
+/// bytes 16 to 47 are the cookie secret. The group's secret is that of the words, in generation 0. A
+/// node knows 65,536 peers and has 4,096 attempts and sessions at most.
 pub fn an_end_is_made_of_the_first_block()
     ensures drawn { (v : Serving) → setup_of (record v {
       group = codes "0123456789+/abcdefghijklmnopqrst";
@@ -61,6 +61,7 @@ pub fn an_end_is_made_of_the_first_block()
         ≡ record {
           config = record { max_peers = 65536; max_sessions = 4096; introduces = true };
           cert = codes "ABCDEFGHIJKLMNOPnode";
+          generation = 0;
           secret = codes "0123456789+/abcdefghijklmnopqrst";
           cookie_secret = codes "QRSTUVWXYZabcdefghijklmnopqrstuv";
         } }
@@ -73,6 +74,7 @@ pub fn an_end_is_made_of_the_first_block()
         ≡ record {
           config = record { max_peers = 65536; max_sessions = 4096; introduces = false };
           cert = codes "fedcba9876543210node";
+          generation = 0;
           secret = codes "0123456789+/abcdefghijklmnopqrst";
           cookie_secret = codes "QRSTUVWXYZabcdefghijklmnopqrstuv";
         } }

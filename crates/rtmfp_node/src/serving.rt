@@ -29,6 +29,9 @@ const MAX_PEERS: u32 = 65_536;
 /// The most attempts and sessions of a node at a time (own).
 const MAX_SESSIONS: u32 = 4_096;
 
+/// The number of the generation of the group's secret with which a node begins (own).
+const FIRST_GENERATION: u64 = 0;
+
 /// How many entries an outbox has room for from the beginning. The chunks of a datagram are fewer,
 /// so one that is only refused asks for no memory.
 const ROOM: u32 = 1_024;
@@ -169,7 +172,14 @@ fn node_of(alloc: Global, words: &ServeWords, block: &[u8; 64]) -> Result<Node, 
     let secret = secret_of(&words.group);
     let cookie_secret = cookie_secret_of(block);
     Ok(Node {
-        end: Endpoint::new(alloc, config, certificate, secret, cookie_secret),
+        end: Endpoint::new(
+            alloc,
+            config,
+            certificate,
+            FIRST_GENERATION,
+            secret,
+            cookie_secret,
+        ),
         heard,
         out,
         notes: Notes::new(alloc, &secret),

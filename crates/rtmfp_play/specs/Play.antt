@@ -28,7 +28,7 @@ use Rattle.rendezvous_world.specs.declared.journal.JournalLine.{JournalLine}
 use Rattle.rendezvous_world.specs.declared.journal.Refused.{Refused}
 use Rattle.rendezvous_world.specs.declared.journal.Refused.TheVariants.{Open as OpenRefused, Seek as SeekRefused, Call as CallRefused, Row as RowRefused}
 use Rattle.endpoint_laws.specs.Agreed.{IsAgreed}
-use Rattle.rendezvous_world.specs.Seen.{Seen, group_secret, setup_at}
+use Rattle.rendezvous_world.specs.Seen.{group_secrets, Seen, group_secret, setup_at}
 use Rattle.rendezvous_world.specs.Handing.{MessagesGoOver}
 use Rattle.rendezvous_world.specs.Laws.{empty_world}
 use Rattle.rendezvous_world.specs.History.{history_of}
@@ -168,7 +168,7 @@ report_since w t = told_next (names_of t) (length (sent_in w.lines))
 -- flows go over.
 pub record HistoryHolds (w : Seen) : Type 0 where
   pub sound : IsSound w
-  pub agreed : IsAgreed (setup_at w.ends) (history_of w)
+  pub agreed : IsAgreed group_secrets (setup_at w.ends) (history_of w)
   pub go_over : MessagesGoOver (setup_at w.ends) (history_of w)
 
 -- the step that a line says among the ends and translators that are there

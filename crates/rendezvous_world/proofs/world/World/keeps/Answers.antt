@@ -1,6 +1,6 @@
 use Rattle.std.proofs.Common.{subst}
 use Rattle.endpoint_laws.specs.Agreed.{IsAgreed}
-use Rattle.rendezvous_world.specs.Seen.{Seen, setup_at}
+use Rattle.rendezvous_world.specs.Seen.{group_secrets, Seen, setup_at}
 use Rattle.rendezvous_world.specs.Handing.{MessagesGoOver}
 use Rattle.rendezvous_world.specs.History.{history_of}
 use Rattle.rendezvous_world.specs.Sound.{IsSound}
@@ -18,7 +18,7 @@ returns-clause-sound c =
 pub returns-clause-agreed : goal.returns-clause-agreed
 returns-clause-agreed c =
     let i = c.self.inside in
-    subst (λ (w : Seen). IsAgreed (setup_at w.ends) (history_of w)) c.self.view_is (agreed (world_seen i.moment i.ends.items i.journal) c.self.invariant.world)
+    subst (λ (w : Seen). IsAgreed group_secrets (setup_at w.ends) (history_of w)) c.self.view_is (agreed (world_seen i.moment i.ends.items i.journal) c.self.invariant.world)
 
 pub returns-clause-go_over : goal.returns-clause-go_over
 returns-clause-go_over c =
