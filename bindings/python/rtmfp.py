@@ -77,7 +77,7 @@ _NUMBER, _NEAR, _PLACES, _DRAWS, _WRITTEN = C.POINTER(C.c_uint64), C.POINTER(C.c
 CALLS = {
     "version": (_U32, []),
     "fingerprint": (_I32, [_BYTES, _SIZE, _WRITTEN]),
-    "new": (_I32, [_END, C.POINTER(Config), _BYTES, _SIZE, _BYTES, _BYTES]),
+    "new": (_I32, [_END, C.POINTER(Config), _BYTES, _SIZE, _U64, _BYTES, _BYTES]),
     "free": (None, [_END]),
     "open": (_I32, [_END, _BYTES, _PLACES, _SIZE, _U64, _DRAWS, _NUMBER]),
     "seek": (_I32, [_END, _BYTES, _SIZE, _PLACES, _SIZE, _U64, _DRAWS, _NEAR]),
@@ -157,11 +157,11 @@ def _places(places):
 class End:
     """One end."""
 
-    def __init__(self, certificate, group, cookies=None, max_peers=64, max_sessions=64, introduces=False):
+    def __init__(self, certificate, group, cookies=None, max_peers=64, max_sessions=64, introduces=False, generation=0):
         self._handle = _Handle()
         config = Config(max_peers, max_sessions, introduces)
         secret = _thirty_two(cookies or os.urandom(32))
-        self._do("new", C.byref(config), bytes(certificate), len(certificate), _thirty_two(group), secret)
+        self._do("new", C.byref(config), bytes(certificate), len(certificate), generation, _thirty_two(group), secret)
 
     def _call(self, name, *words):
         return getattr(library(), "rtmfp_" + name)(C.byref(self._handle), *words)

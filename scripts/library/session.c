@@ -93,7 +93,7 @@ static void begin(struct side *it, uint8_t number, const char *name) {
     it->place.port = number;
     certificate[0] = number;
     memcpy(certificate + 16, name, strlen(name));
-    do answer = rtmfp_new(&it->end, &config, certificate, 16 + strlen(name), group, group);
+    do answer = rtmfp_new(&it->end, &config, certificate, 16 + strlen(name), 7, group, group);
     while (answer == RTMFP_E_MEMORY);
     expect(answer == RTMFP_OK, rtmfp_answer_text(answer));
 }

@@ -63,14 +63,15 @@ is_config c = nat_le 1 c.max_peers && (nat_le c.max_peers 1048576
     && (nat_le 1 c.max_sessions && nat_le c.max_sessions 65536))
 
 -- what an end is made of
-abbrev pub setup_of : CConfig → List ℕ → List ℕ → List ℕ → Setup
-setup_of c certificate group cookies = record {
+abbrev pub setup_of : CConfig → List ℕ → ℕ → List ℕ → List ℕ → Setup
+setup_of c certificate generation group cookies = record {
   config = record {
     max_peers = c.max_peers;
     max_sessions = c.max_sessions;
     introduces = not (nat_eq c.introduces 0);
   };
   cert = certificate;
+  generation = generation;
   secret = group;
   cookie_secret = cookies;
 }

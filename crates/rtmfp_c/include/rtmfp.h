@@ -6,7 +6,7 @@
  * say. A loop looks like this:
  *
  *     rtmfp_end end = RTMFP_END_INIT;
- *     rtmfp_new(&end, &config, certificate, sizeof certificate, group, cookie_secret);
+ *     rtmfp_new(&end, &config, certificate, sizeof certificate, 0, group, cookie_secret);
  *     for (;;) {
  *         poll(socket, 20 ms);
  *         while (a datagram is there)                    // at most RTMFP_MAX_DATAGRAM bytes
@@ -57,7 +57,7 @@ extern "C" {
 
 /* The version of this header: 0x00MMmmpp. A library of another major number (while that is 0, of
  * another minor number) isn't to be used with it. */
-#define RTMFP_VERSION 0x000200u
+#define RTMFP_VERSION 0x000300u
 uint32_t rtmfp_version(void);
 
 #define RTMFP_MAX_DATAGRAM 2048u   /* the most bytes that rtmfp_receive takes */
@@ -232,10 +232,11 @@ static inline const char *rtmfp_cause_name(uint32_t code) {
 int32_t rtmfp_fingerprint(const uint8_t *certificate, size_t len, uint8_t print[32]);
 
 /* Makes an end in a handle that holds none. `group` is the secret that all ends of the group have,
- * `cookies` one that this end alone has. The first that stands: RTMFP_E_FULL, RTMFP_E_CONFIG,
- * RTMFP_E_CERTIFICATE, RTMFP_E_MEMORY. */
+ * `generation` the number of that secret in the group's succession of secrets, about which they agree
+ * too (0 in a group that never had another one); `cookies` is a secret that this end alone has. The
+ * first that stands: RTMFP_E_FULL, RTMFP_E_CONFIG, RTMFP_E_CERTIFICATE, RTMFP_E_MEMORY. */
 int32_t rtmfp_new(rtmfp_end *end, const rtmfp_config *config, const uint8_t *certificate, size_t len,
-                  const uint8_t group[32], const uint8_t cookies[32]);
+                  uint64_t generation, const uint8_t group[32], const uint8_t cookies[32]);
 
 /* Frees the end, if the handle holds one; the handle is then empty. Nothing goes out: close the
  * sessions first, if the peers are to know. Secrets aren't wiped from the memory. */

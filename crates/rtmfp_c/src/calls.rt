@@ -29,9 +29,9 @@ const FIRST_ROOM: u32 = 8;
 /// The version of the interface.
 #[unsafe(no_mangle)]
 pub extern "C" fn rtmfp_version() -> u32
-    ensures { result ≡ 0x200 }
+    ensures { result ≡ 0x300 }
 {
-    0x00_02_00
+    0x00_03_00
 }
 
 /// Writes the fingerprint of a certificate.
@@ -51,13 +51,15 @@ pub extern "C" fn rtmfp_fingerprint(certificate: &[u8], print: &mut [u8; 32]) ->
     }
 }
 
-/// Makes an end in a handle that holds none.
+/// Makes an end in a handle that holds none, with the group's secret in the generation of this
+/// number.
 #[unsafe(no_mangle)]
 pub extern "C" fn rtmfp_new(
     alloc: Global,
     handle: &mut Handle,
     config: &CConfig,
     certificate: &[u8],
+    generation: u64,
     group: &[u8; 32],
     cookies: &[u8; 32],
 ) -> i32
@@ -65,7 +67,8 @@ pub extern "C" fn rtmfp_new(
         (λ code. Tells code result handle.old handle.new) }
     ensures made { IfNone (new_refusal handle.old config.now certificate.now)
         (Tells numbers.no_memory result handle.old handle.new ⊎
-        Begins (setup_of config.now certificate.now group.now cookies.now) result handle.new) }
+        Begins (setup_of config.now certificate.now generation group.now cookies.now) result
+        handle.new) }
 {
     if is_live(handle) {
         return FULL;
@@ -76,7 +79,7 @@ pub extern "C" fn rtmfp_new(
     let Ok(certificate) = Certificate::read(certificate) else {
         return CERTIFICATE;
     };
-    match new_node(alloc, config, certificate, group, cookies) {
+    match new_node(alloc, config, certificate, generation, group, cookies) {
         Some(node) => {
             put(handle, node);
             OK
@@ -90,12 +93,13 @@ fn new_node(
     alloc: Global,
     config: &CConfig,
     certificate: Certificate,
+    generation: u64,
     group: &[u8; 32],
     cookies: &[u8; 32],
 ) -> Option<Box<Node>>
     requires { config.now.max_sessions ≤ 65536 }
     ensures { IfSome result (λ node.
-        IsFresh (setup_of config.now certificate group.now cookies.now) node.value) }
+        IsFresh (setup_of config.now certificate generation group.now cookies.now) node.value) }
 {
     let config = Config {
         max_peers: config.max_peers,
@@ -105,7 +109,7 @@ fn new_node(
     let Ok(out) = Outbox::new(alloc, FIRST_ROOM) else {
         return None;
     };
-    let end = Endpoint::new(alloc, config, certificate, *group, *cookies);
+    let end = Endpoint::new(alloc, config, certificate, generation, *group, *cookies);
     match Box::new(alloc, Node { end, out }) {
         Ok(node) => Some(node),
         Err(_) => None,

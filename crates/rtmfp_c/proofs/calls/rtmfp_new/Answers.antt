@@ -23,5 +23,5 @@ returns-in-Some-clause-made c =
       node = c.in-Some.node.value;
       code_is = refl;
       holds = c.put.ensures;
-      fresh = subst (λ (b : List ℕ). IsFresh (setup_of c.args.config.now b c.args.group.now c.args.cookies.now) c.in-Some.node.value) same c.in-Some.ensures;
+      fresh = subst (λ (b : List ℕ). IsFresh (setup_of c.args.config.now b c.args.generation c.args.group.now c.args.cookies.now) c.in-Some.node.value) same c.in-Some.ensures;
     }))
