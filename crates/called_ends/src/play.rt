@@ -14,8 +14,10 @@ use rtmfp_text::{Directory, Name, Named, Text};
 use std::alloc::Global;
 use std::test::Fail;
 
-/// The group's secret.
+/// The group's secret, and the number of its generation.
 const SECRET: [u8; 32] = [0; 32];
+
+const GENERATION: u64 = 0;
 
 /// How often a call is made at most.
 const TRIES: u32 = 3;
@@ -118,7 +120,7 @@ impl Play {
             max_sessions: sessions.min(65_536),
             introduces: false,
         };
-        let end = Endpoint::new(self.alloc, config, cert, SECRET, print);
+        let end = Endpoint::new(self.alloc, config, cert, GENERATION, SECRET, print);
         let named = Named {
             print,
             name: name.again(),

@@ -11,7 +11,10 @@ use rtmfp_forms::Address;
 use std::alloc::{AllocError, Global};
 use std::test::Fail;
 
+/// The group's secret, and the number of its generation.
 pub(crate) const GROUP: [u8; 32] = [7; 32];
+
+pub(crate) const GENERATION: u64 = 0;
 
 pub(crate) const ANSWERER: &[u8] = b"0123456789abcdefanswerer";
 
@@ -30,7 +33,7 @@ fn end(
         introduces,
     };
     let cert = Certificate::read(cert)?;
-    Ok(Endpoint::new(alloc, config, cert, GROUP, [9; 32]))
+    Ok(Endpoint::new(alloc, config, cert, GENERATION, GROUP, [9; 32]))
 }
 
 /// The end that is called so: the caller, the answerer, or one with such a name.
@@ -204,7 +207,7 @@ fn to_initiator(alloc: Global) -> Result<Context, Fail> {
 
 fn in_session(alloc: Global, to_responder: bool) -> Result<Context, Fail> {
     Ok(Context::Session {
-        generation: 0,
+        generation: GENERATION,
         ni: draws(3).nonce,
         nr: draws(6).nonce,
         fp_i: epd_of(alloc, "caller")?.print,
@@ -536,7 +539,9 @@ fn made(alloc: Global, row: &str, index: usize) -> Result<Vec<u8>, Fail> {
     }
     sealed(
         alloc,
-        &Context::Startup { generation: 0 },
+        &Context::Startup {
+            generation: GENERATION,
+        },
         value,
         1,
         plain.as_slice(),

@@ -1,6 +1,6 @@
 //! An end as a library, in the lines that README shows.
 
-use crate::by_hand::{ANSWERER, CALLER, GROUP, draws};
+use crate::by_hand::{ANSWERER, CALLER, GENERATION, GROUP, draws};
 use endpoint::{Config, Endpoint, Entry, Outbox};
 use identity::{CertFault, Certificate, Epd};
 use rtmfp_forms::Address;
@@ -26,7 +26,7 @@ fn caller(alloc: Global) -> Result<Endpoint, CertFault> {
         introduces: false,
     };
     let certificate = Certificate::read(CALLER)?;
-    Ok(Endpoint::new(alloc, config, certificate, GROUP, [9; 32]))
+    Ok(Endpoint::new(alloc, config, certificate, GENERATION, GROUP, [9; 32]))
 }
 
 /// An attempt is opened.

@@ -34,11 +34,20 @@ pub(crate) const CALLER: &[u8] = b"0123456789abcdefcaller";
 
 const TAG: [u8; 16] = [5; 16];
 
+/// The generation in which all is sent.
+pub(crate) const GENERATION: u64 = 7;
+
+/// The secret of the group in it. Its bytes are known to no proof, as none should go through what is
+/// made of them.
+pub(crate) fn secret() -> [u8; 32] {
+    [7; 32]
+}
+
 pub(crate) fn end_of(alloc: Global, cert: &[u8]) -> Result<Startup, CertFault>
     ensures { IfOk result (λ end. get end.attempts 6 ≡ None) }
 {
     let cert = Certificate::read(cert)?;
-    Ok(Startup::new(alloc, cert, [7; 32], [9; 32], 4))
+    Ok(Startup::new(alloc, cert, [9; 32], 4))
 }
 
 pub(crate) fn address(last: u8) -> Address {
@@ -66,7 +75,9 @@ pub(crate) fn called(caller: &mut Startup) -> Result<Outgoing, Fail>
 /// The answer to a hello.
 pub(crate) fn answered(end: &Startup, hello: &Outgoing) -> Result<Answer, Fail> {
     match read_chunk(0x30, payload_of(hello)) {
-        Ok(ChunkView::IHello { epd, tag }) => Ok(end.hello(epd, tag, &address(1), 0)?),
+        Ok(ChunkView::IHello { epd, tag }) => {
+            Ok(end.hello(epd, tag, &address(1), 0, GENERATION, &secret())?)
+        }
         _ => Err(Fail::from("no hello")),
     }
 }
@@ -75,7 +86,8 @@ pub(crate) fn answered(end: &Startup, hello: &Outgoing) -> Result<Answer, Fail> 
 pub(crate) fn keyed_to(end: &mut Startup, answer: &Outgoing) -> Result<Answer, Fail> {
     match read_chunk(0x70, payload_of(answer)) {
         Ok(ChunkView::RHello { tag, cookie, cert }) => {
-            match end.responder_hello(tag, cookie, cert, &address(2), 10) {
+            let from = address(2);
+            match end.responder_hello(tag, cookie, cert, &from, 10, GENERATION, &secret()) {
                 Ok((_, answer)) => Ok(answer),
                 Err(_) => Err(Fail::from("no keying")),
             }
@@ -84,9 +96,15 @@ pub(crate) fn keyed_to(end: &mut Startup, answer: &Outgoing) -> Result<Answer, F
     }
 }
 
-/// What a keying gets, and what became of it.
-fn taken(end: &mut Startup, payload: &[u8], last: u8) -> Result<(Answer, &'static str), Fail> {
-    match end.initiator_keying(payload, &address(last), 20, 9, [4; 16], None) {
+/// What a keying gets that came in a generation, and what became of it.
+fn taken(
+    end: &mut Startup,
+    payload: &[u8],
+    last: u8,
+    generation: u64,
+) -> Result<(Answer, &'static str), Fail> {
+    let from = address(last);
+    match end.initiator_keying(payload, &from, 20, 9, [4; 16], None, generation, &secret()) {
         Ok(Keyed::Birth { answer, .. }) => Ok((answer, "born")),
         Ok(Keyed::Again(answer)) => Ok((answer, "again")),
         Ok(Keyed::Change(answer)) => Ok((answer, "change")),
@@ -112,17 +130,25 @@ fn calls(
     Ok(keying)
 }
 
-/// The answer to a keying, and whether it bears a session once.
+/// Whether two answers are the same packet under the same keys, in the generation of the first.
+fn are_alike(first: &Answer, again: &Answer) -> bool {
+    let sealed = first.generation == GENERATION && again.generation == GENERATION;
+    let keys = again.keys.enc() == first.keys.enc() && again.keys.mac() == first.keys.mac();
+    sealed && keys && again.plain.bytes() == first.plain.bytes()
+}
+
+/// The answer to a keying, and whether it bears a session once; its repeat comes in another
+/// generation.
 fn bears(
     alloc: Global,
     answerer: &mut Startup,
     keying: &Outgoing,
     lines: &mut String,
 ) -> Result<(Answer, bool), Fail> {
-    let (first, born) = taken(answerer, payload_of(keying), 1)?;
+    let (first, born) = taken(answerer, payload_of(keying), 1, GENERATION)?;
     put(alloc, "rikeying", first.plain.bytes(), lines)?;
-    let (again, same) = taken(answerer, payload_of(keying), 1)?;
-    let alike = again.plain.bytes() == first.plain.bytes();
+    let (again, same) = taken(answerer, payload_of(keying), 1, 9)?;
+    let alike = are_alike(&first, &again);
     Ok((again, born == "born" && same == "again" && alike))
 }
 
@@ -133,15 +159,21 @@ fn changes(
     keying: &Outgoing,
     lines: &mut String,
 ) -> Result<bool, Fail> {
-    let (change, moved) = taken(answerer, payload_of(keying), 2)?;
+    let (change, moved) = taken(answerer, payload_of(keying), 2, GENERATION)?;
     put(alloc, "cookiechange", change.plain.bytes(), lines)?;
     Ok(moved == "change")
 }
 
 /// Whether an answer opens the caller's session once.
 fn opens_once(caller: &mut Startup, answer: &Outgoing) -> bool {
-    let opens = caller.responder_keying(6, payload_of(answer)).is_ok();
-    opens && caller.responder_keying(6, payload_of(answer)).is_err()
+    let payload = payload_of(answer);
+    let opens = caller
+        .responder_keying(6, payload, GENERATION, &secret())
+        .is_ok();
+    opens
+        && caller
+            .responder_keying(6, payload, GENERATION, &secret())
+            .is_err()
 }
 
 /// The packets of a handshake, and whether they bear a session once and open it once.
@@ -159,14 +191,24 @@ fn handshake(alloc: Global) -> Result<(String, bool), Fail> {
 /// Whether what has no form stands where it does among longer spellings.
 fn has_no_form(alloc: Global, end: &Startup) -> Result<bool, Fail> {
     let wrong = bytes_of(alloc, LONG_LENGTHS, "iikeying-no-certificate")?;
-    let cause = end.refuses(0, 0x38, wrong.as_slice(), &address(1), 20, None);
+    let payload = wrong.as_slice();
+    let cause = end.refuses(
+        0,
+        0x38,
+        payload,
+        &address(1),
+        20,
+        None,
+        GENERATION,
+        &secret(),
+    );
     Ok(cause == Some(Cause::Malformed(39)))
 }
 
 /// Whether longer spellings are taken.
 fn is_born(alloc: Global, end: &mut Startup) -> Result<bool, Fail> {
     let long = bytes_of(alloc, LONG_LENGTHS, "iikeying-long-lengths")?;
-    let (_, became) = taken(end, long.as_slice(), 1)?;
+    let (_, became) = taken(end, long.as_slice(), 1, GENERATION)?;
     Ok(became == "born")
 }
 

@@ -5,7 +5,9 @@
 ghost use Rattle.std.specs.Prelude.{◌≡◌, None};
 ghost use Rattle.std.specs.FinMap.{get};
 
-use crate::keying::{ANSWERER, CALLER, address, answered, called, end_of, keyed_to};
+use crate::keying::{
+    ANSWERER, CALLER, GENERATION, address, answered, called, end_of, keyed_to, secret,
+};
 use startup::Startup;
 use std::alloc::Global;
 use std::test::Fail;
@@ -74,7 +76,17 @@ fn refusal(alloc: Global, end: &Startup, row: &str) -> Result<String, Fail> {
     let (kind, payload) = chunk.as_slice().split_first().ok_or("a type")?;
     let from = address((number(row, 1) % 256) as u8);
     let moment = u64::from(number(row, 2));
-    let cause = end.refuses(number(row, 0), *kind, payload, &from, moment, None);
+    let sid = number(row, 0);
+    let cause = end.refuses(
+        sid,
+        *kind,
+        payload,
+        &from,
+        moment,
+        None,
+        GENERATION,
+        &secret(),
+    );
     Ok(format!(in alloc; "{cause:?}")?)
 }
 

@@ -51,7 +51,7 @@ pub(crate) fn begun(
         Role::Initiator => 2,
         Role::Responder => 1,
     };
-    Session::new(joined, &print, role, address(last), &secret, moment)
+    Session::new(joined, &print, role, address(last), 0, &secret, moment)
 }
 
 fn initiator() -> Session {

@@ -5,7 +5,10 @@ use crypto_profile::{Context, Keys, hmac, seal_in_place, sign_key};
 use packet_scramble::{SEALED_AT, scramble};
 use std::alloc::AllocError;
 
+/// The group's secret, and the number of its generation.
 pub const GROUP: [u8; 32] = [7; 32];
+
+pub const GENERATION: u64 = 0;
 
 pub const COOKIE_SECRET: [u8; 32] = [9; 32];
 
@@ -62,7 +65,9 @@ fn seal(context: &Context, sid: u32, count: u64, datagram: &mut [u8]) {
 fn seal_startup(number: u32, bytes: &mut Vec<u8>) {
     let datagram = bytes.as_mut_slice();
     seal(
-        &Context::Startup { generation: 0 },
+        &Context::Startup {
+            generation: GENERATION,
+        },
         0,
         u64::from(number),
         datagram,
@@ -77,7 +82,7 @@ fn session(number: u32) -> Context {
     let fp_i = print_of(number);
     let fp_r = print_of(0);
     Context::Session {
-        generation: 0,
+        generation: GENERATION,
         ni: nonce,
         nr: nonce,
         fp_i,

@@ -1,7 +1,7 @@
 //! An end, and its calls timed.
 
 use crate::timing::calls::{Call, Kind, cert_of, draws, place_of, word_of};
-use crate::timing::datagrams::{COOKIE_SECRET, GROUP};
+use crate::timing::datagrams::{COOKIE_SECRET, GENERATION, GROUP};
 use endpoint::{Config, Endpoint, Entry, MessageOptions, Outbox};
 use identity::{Certificate, ServiceName};
 use std::alloc::Global;
@@ -154,7 +154,7 @@ fn end_of(alloc: Global, cert: Certificate, secret: [u8; 32], cookie_secret: [u8
         max_sessions: 65_536,
         introduces: false,
     };
-    Endpoint::new(alloc, config, cert, secret, cookie_secret)
+    Endpoint::new(alloc, config, cert, GENERATION, secret, cookie_secret)
 }
 
 /// How many of these entries are discards.
