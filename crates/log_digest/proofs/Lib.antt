@@ -1,0 +1,10 @@
+pub mod Stated
+pub mod Orderly
+pub mod Beside
+pub mod Here
+pub mod Whole
+pub mod Digesting
+pub mod Stamps
+pub mod Once
+pub mod Hears
+pub mod Coming

@@ -1,0 +1,9 @@
+pub mod Spots
+pub mod Changes
+pub mod Kept
+pub mod Digest
+pub mod Nonces
+pub mod Numbers
+pub mod Edges
+pub mod Hearing
+pub mod Laws
