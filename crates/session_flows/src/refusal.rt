@@ -5,12 +5,13 @@ use thiserror::Error;
 
 /// Why a call is refused: one on a session's flows, or another of an end that has no refusal of its
 /// own. Where several causes stand, the answer is the first of them in this order. All is as before.
+/// The flows of a session answer none of those about attempts, sessions and generations.
 #[derive(Clone, Copy, Debug, PartialEq, Eq, Error)]
 pub enum CallRefusal {
-    /// No held attempt has this number. The flows of a session never answer it.
+    /// No held attempt has this number.
     #[error("no attempt has this number")]
     NoAttempt,
-    /// No held session has this session ID. The flows of a session never answer it.
+    /// No held session has this session ID.
     #[error("no session has this session ID")]
     NoSession,
     /// The session opened no such flow.
@@ -31,6 +32,18 @@ pub enum CallRefusal {
     /// The flow was finished before.
     #[error("the flow is finished")]
     Finished,
+    /// The next generation of the group's secret is known already; its number (own).
+    #[error("the next generation is known already: {0}")]
+    NextKnown(u64),
+    /// The current generation has the last number, 2^64 - 1, so that none follows it (own).
+    #[error("no generation follows the last number")]
+    GenerationsSpent,
+    /// The secret is the current one (own).
+    #[error("the secret is the current one")]
+    SameSecret,
+    /// The next generation isn't known (own).
+    #[error("the next generation isn't known")]
+    NoNext,
     #[error("out of memory")]
     Memory,
 }
