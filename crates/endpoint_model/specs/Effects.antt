@@ -47,7 +47,7 @@ use Rattle.endpoint_model.specs.declared.answers.SeekRefusal.TheVariants.{Candid
 use Rattle.session_flows.specs.declared.refusal.CallRefusal.{CallRefusal}
 use Rattle.session_flows.specs.declared.refusal.CallRefusal.TheVariants.{NoAttempt}
 use Rattle.endpoint_model.specs.State.{State, Sessions, Did, nothing, after_entries, then_do, fact_entries, with_startup, with_sessions, new_row, free_from, full}
-use Rattle.endpoint_model.specs.Sending.{sent_answer, sent_if, sent_spread, sent_in_session}
+use Rattle.endpoint_model.specs.Sending.{is_spent, sent_answer, sent_if, sent_spread, sent_in_session}
 use Rattle.endpoint_model.specs.Introducing.{forwarded_to, redirected_to, redirect_of}
 use Rattle.endpoint_model.specs.InSessions.{sent_home, told_in_session, tested, asks_at, answers_by}
 use Rattle.endpoint_model.specs.FlowTimes.{row_due, due_row, row_due_done}
@@ -253,9 +253,11 @@ responder_keyed s near from payload =
 -- ---- hellos, redirects, changes of cookies, and pings
 
 -- Of these a responder's hello alone states something: where it answers a search, an attempt
--- starts.
+-- starts. Where no count of a startup packet is left, so that no keying can go out, it states
+-- nothing and leaves all as it was.
 abbrev pub read_fact : State → Result Chunk ChunkFault → Option Fact
-read_fact s (Ok (RHello tag cookie cert)) = rhello_fact s.startup tag cert
+read_fact s (Ok (RHello tag cookie cert)) =
+    if is_spent s then None else rhello_fact s.startup tag cert
 read_fact s read = None
 
 -- How such a chunk is answered: not at all; by a startup packet, if there is one to send, or by
@@ -304,7 +306,8 @@ hello_reply s epd tag from g =
 -- what it leaves before it is answered
 abbrev pub read_left : State → Place → AddressParts → Result Chunk ChunkFault → State
 read_left s place from (Ok (RHello tag cookie cert)) =
-    with_startup s (after_rhello s.startup tag cookie cert from s.moment (group_at s place))
+    if is_spent s then s
+    else with_startup s (after_rhello s.startup tag cookie cert from s.moment (group_at s place))
 read_left s place from (Ok (Redirect tag list)) =
     with_startup s (after_redirect s.startup tag list from s.moment)
 read_left s place from (Ok (CookieChange old new)) =

@@ -1,6 +1,6 @@
 -- What an end is given at its beginning, its calls with their arguments and answers, and what they
 -- added.
-use Rattle.std.specs.Prelude.{ℕ, List, Option, Some, None, max}
+use Rattle.std.specs.Prelude.{ℕ, Bool, true, false, List, Option, Some, None, max}
 use Rattle.sha2.specs.Sha256.{sha256}
 use Rattle.rtmfp_forms.specs.Address.{AddressParts}
 use Rattle.crypto_profile.specs.declared.group.GroupSecret.{GroupSecret}
@@ -32,7 +32,8 @@ abbrev pub first_group : Setup → GroupSecret
 first_group setup = record { generation = setup.generation; secret = setup.secret }
 
 -- A call; an open names its peer by the fingerprint, a seek by the name, and one on flows its
--- session by the session ID.
+-- session by the session ID. A learn tells the secret of the group's next generation, to which an
+-- advance goes over.
 pub data Call : Type 0 where
   Open : (peer : List ℕ) → (candidates : List AddressParts) → (draws : Draws) → Call
   Seek : (name : List ℕ) → (candidates : List AddressParts) → (draws : Draws) → Call
@@ -41,6 +42,8 @@ pub data Call : Type 0 where
   Close : (near : ℕ) → Call
   AddRow : (print : List ℕ) → (addresses : List AddressParts) → Call
   Introduce : Call
+  Learn : (secret : List ℕ) → Call
+  Advance : Call
   OnFlows : (near : ℕ) → (call : FlowCall) → Call
   Receive : (from : AddressParts) → (datagram : List ℕ) → (draws : Draws) → Call
   Tick : (draws : Draws) → Call
@@ -84,6 +87,14 @@ abbrev pub close_in : Call → Option ℕ
 close_in (Close near) = Some near
 close_in call = None
 
+abbrev pub learn_in : Call → Option (List ℕ)
+learn_in (Learn secret) = Some secret
+learn_in call = None
+
+abbrev pub is_advance : Call → Bool
+is_advance Advance = true
+is_advance call = false
+
 abbrev pub receive_in : Call → Option ReceiveCall
 receive_in (Receive from datagram draws) =
     Some (record { from = from; datagram = datagram; draws = draws })
@@ -93,11 +104,12 @@ abbrev pub tick_in : Call → Option Draws
 tick_in (Tick draws) = Some draws
 tick_in call = None
 
--- what a call answered
+-- what a call answered; a learn and an advance tell the number of the generation
 pub data Answer : Type 0 where
   Began : (n : ℕ) → Answer
   Searching : (near : ℕ) → Answer
   Done : Answer
+  Succeeds : (generation : ℕ) → Answer
   NotOpened : (refusal : OpenRefusal) → Answer
   NotSought : (refusal : SeekRefusal) → Answer
   Refused : (refusal : CallRefusal) → Answer

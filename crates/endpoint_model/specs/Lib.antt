@@ -4,6 +4,7 @@ pub mod FlowCall
 pub mod Event
 pub mod Keying
 pub mod State
+pub mod Succession
 pub mod Sending
 pub mod InSessions
 pub mod OnFlows

@@ -16,12 +16,13 @@ use Rattle.endpoint_model.specs.declared.answers.Stopped.{Stopped as Stop}
 use Rattle.introducer.specs.declared.refusal.RowRefusal.{RowRefusal}
 use Rattle.introducer.specs.declared.refusal.RowRefusal.TheVariants.{Memory as NoMemoryForRow}
 use Rattle.introducer.specs.Directory.{row_refusal}
-use Rattle.endpoint_model.specs.Event.{Setup, Call, Open, Seek, Unseek, Cancel, Close, AddRow, Introduce, OnFlows, Receive, Tick, Answer, Began, Searching, Done, NotOpened, NotSought, Refused, NotAdded, Stopped, OutOfMemory, Event}
+use Rattle.endpoint_model.specs.Event.{Setup, Call, Open, Seek, Unseek, Cancel, Close, AddRow, Introduce, Learn, Advance, OnFlows, Receive, Tick, Answer, Began, Searching, Done, Succeeds, NotOpened, NotSought, Refused, NotAdded, Stopped, OutOfMemory, Event}
 use Rattle.endpoint_model.specs.Added.{Added}
 use Rattle.endpoint_model.specs.State.{State, Did, Does, nothing, fresh, at_moment, free_from, Done as DoneIn}
 use Rattle.endpoint_model.specs.Admission.{Admission, Rejected, Admitted, admission, confirms, confirming}
 use Rattle.endpoint_model.specs.Keying.{chunks_of}
 use Rattle.endpoint_model.specs.Introducing.{with_redirect, introducing}
+use Rattle.endpoint_model.specs.Succession.{learn_refusal, learning, advance_refusal, advancing}
 use Rattle.endpoint_model.specs.InSessions.{held_row, closing, asks_at}
 use Rattle.endpoint_model.specs.FlowCall.{FlowCall}
 use Rattle.endpoint_model.specs.OnFlows.{call_refusal, flow_called}
@@ -130,6 +131,14 @@ Answers s (AddRow print addresses) (NotAdded refusal) entries t =
     (refusal ≡ not_added (row_refusal s.redirects print (length addresses))) ×
     Does (nothing s) t [] entries
 Answers s Introduce Done entries t = Does (nothing (introducing s)) t [] entries
+Answers s (Learn secret) (Succeeds generation) entries t = (learn_refusal s secret ≡ None) ×
+    (generation ≡ s.group.generation + 1) × Does (learning s secret) t [] entries
+Answers s (Learn secret) (Refused refusal) entries t =
+    (refusal ≡ not_called (learn_refusal s secret)) × Does (nothing s) t [] entries
+Answers s Advance (Succeeds generation) entries t = (advance_refusal s ≡ None) ×
+    (generation ≡ t.group.generation) × Does (advancing s) t [] entries
+Answers s Advance (Refused refusal) entries t = (refusal ≡ not_called (advance_refusal s)) ×
+    Does (nothing s) t [] entries
 Answers s (OnFlows near call) Done entries t = (call_refusal s near call ≡ None) ×
     Does (flow_called s near call) t [] entries
 Answers s (OnFlows near call) (Refused refusal) entries t =
@@ -224,6 +233,17 @@ row_event print addresses result = silent_event (AddRow print addresses) (answer
 
 abbrev pub introduce_event : Event
 introduce_event = silent_event Introduce Done
+
+abbrev pub answer_of_succession : Result ℕ CallRefusal → Answer
+answer_of_succession (Ok generation) = Succeeds generation
+answer_of_succession (Err refusal) = Refused refusal
+
+abbrev pub learn_event : List ℕ → Result ℕ CallRefusal → List Entry → List Entry → Event
+learn_event secret result before after =
+    event 0 (Learn secret) (answer_of_succession result) before after
+
+abbrev pub advance_event : Result ℕ CallRefusal → List Entry → List Entry → Event
+advance_event result before after = event 0 Advance (answer_of_succession result) before after
 
 abbrev pub answer_of_receive : Result (Unit {0}) Stop → Answer
 answer_of_receive (Ok done) = Done

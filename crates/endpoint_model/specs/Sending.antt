@@ -1,5 +1,5 @@
 -- Datagrams that go out.
-use Rattle.std.specs.Prelude.{ℕ, ◌+◌, ◌-◌, ◌^◌, ◌==◌, true, if◌then◌else◌, List, [], ◌∷◌, ◌++◌, take, Option, Some, None}
+use Rattle.std.specs.Prelude.{ℕ, ◌+◌, ◌-◌, ◌^◌, ◌==◌, Bool, true, if◌then◌else◌, List, [], ◌∷◌, ◌++◌, take, Option, Some, None}
 use Rattle.std.specs.Int.{w64, to_be_bytes}
 use Rattle.rtmfp_forms.specs.Address.{AddressParts}
 use Rattle.rtmfp_packet.specs.Head.{head_bytes}
@@ -31,9 +31,13 @@ abbrev pub startup_datagram : State → Keys → ℕ → List ℕ → List ℕ
 startup_datagram s keys sid plain = datagram sid
     (sealed keys sid (startup_number s.startup.ledger.own (s.sealed + 1)) plain)
 
+-- no count of a startup packet is left
+abbrev pub is_spent : State → Bool
+is_spent s = s.sealed == last_count
+
 abbrev pub sent_startup : State → ℕ → Keys → AddressParts → ℕ → List ℕ → Did
 sent_startup s generation keys to sid plain =
-    if s.sealed == last_count then nothing s
+    if is_spent s then nothing s
     else record {
       state = with_sealed s (s.sealed + 1);
       entries = Out to (startup_datagram s keys sid plain) (Startup generation) ∷ [];

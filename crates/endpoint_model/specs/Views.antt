@@ -1,13 +1,13 @@
 -- What an entry has for those who ask of one thing alone: a fact, a datagram, a session that is
--- over, or a search that begins or is over. Whoever asks by these isn't touched by entries of other
--- kinds.
+-- over, a search that begins or is over, or a generation that was learnt or became current. Whoever
+-- asks by these isn't touched by entries of other kinds.
 use Rattle.std.specs.Prelude.{ℕ, List, Option, Some, None}
 use Rattle.rtmfp_forms.specs.Address.{AddressParts}
 use Rattle.crypto_profile.specs.declared.keys.Context.{Context}
 use Rattle.glare_core.specs.declared.facts.Fact.{Fact}
 use Rattle.glare_core.specs.declared.facts.Why.{Why}
 use Rattle.endpoint_model.specs.declared.entry.Entry.{Entry}
-use Rattle.endpoint_model.specs.declared.entry.Entry.TheVariants.{Fact as FactEntry, Closed, Sought, Unsought, Out}
+use Rattle.endpoint_model.specs.declared.entry.Entry.TheVariants.{Fact as FactEntry, Closed, Sought, Unsought, Learnt, Advanced, Out}
 
 -- the fact that an entry is
 abbrev pub fact_in : Entry → Option Fact
@@ -49,3 +49,13 @@ pub record EndedSearch : Type 0 where
 abbrev pub unsought_in : Entry → Option EndedSearch
 unsought_in (Unsought near why) = Some (record { near = near; why = why })
 unsought_in entry = None
+
+-- the number of the generation whose secret was learnt
+abbrev pub learnt_in : Entry → Option ℕ
+learnt_in (Learnt generation) = Some generation
+learnt_in entry = None
+
+-- the number of the generation that became the current one
+abbrev pub advanced_in : Entry → Option ℕ
+advanced_in (Advanced generation) = Some generation
+advanced_in entry = None

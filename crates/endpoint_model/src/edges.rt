@@ -5,7 +5,7 @@
 ghost use Rattle.std.specs.Prelude.{◌≡◌, ◌∷◌, ◌++◌, ◌+◌, ◌-◌, ◌^◌, ℕ, List, [], false, true, Some, None, Ok, Err};
 ghost use Rattle.std.specs.Prelude.{replicate};
 ghost use Rattle.rtmfp_forms.specs.Address.{AddressParts};
-ghost use Rattle.rtmfp_chunks.specs.Chunk.{FIHello};
+ghost use Rattle.rtmfp_chunks.specs.Chunk.{FIHello, RHello};
 ghost use Rattle.rtmfp_chunks.specs.Writing.{chunk_bytes};
 ghost use Rattle.crypto_profile.specs.declared.group.GroupSecret.{GroupSecret};
 ghost use Rattle.crypto_profile.specs.declared.keys.Context.TheVariants.{Startup as StartupContext};
@@ -19,6 +19,7 @@ ghost use Rattle.glare_core.specs.declared.facts.Joined.{Joined};
 ghost use Rattle.glare_core.specs.Ledger.{held_with};
 ghost use Rattle.startup.specs.declared.answer.Answer.{Answer};
 ghost use Rattle.startup.specs.declared.attempt.Stage.TheVariants.{Hello, Keying};
+ghost use Rattle.startup.specs.Attempts.{after_rhello, rhello_fact};
 ghost use Rattle.startup.specs.State.{AttemptState};
 ghost use Rattle.rtmfp_packet.specs.Walk.{Placed};
 ghost use Rattle.rtmfp_data_chunks.specs.Reader.{data_reading};
@@ -29,7 +30,10 @@ ghost use Rattle.startup.specs.Redirects.{redirect_answer};
 ghost use Rattle.session_core.specs.Session.{SessionState};
 ghost use Rattle.endpoint_model.specs.declared.answers.OpenRefusal.TheVariants.{Candidates};
 ghost use Rattle.endpoint_model.specs.declared.answers.SeekRefusal.TheVariants as seek;
-ghost use Rattle.endpoint_model.specs.declared.entry.Entry.TheVariants.{Out};
+ghost use Rattle.session_flows.specs.declared.refusal.CallRefusal.TheVariants.{GenerationsSpent};
+ghost use Rattle.session_flows.specs.declared.refusal.CallRefusal.TheVariants.{NextKnown, NoNext};
+ghost use Rattle.session_flows.specs.declared.refusal.CallRefusal.TheVariants.{SameSecret};
+ghost use Rattle.endpoint_model.specs.declared.entry.Entry.TheVariants.{Advanced, Learnt, Out};
 ghost use Rattle.endpoint_model.specs.declared.place.Place.{Place};
 ghost use Rattle.endpoint_model.specs.declared.place.Place.TheVariants.{Attempt, Startup};
 ghost use Rattle.endpoint_model.specs.declared.walk.Walk.{Walk};
@@ -38,14 +42,17 @@ ghost use Rattle.endpoint_model.specs.Admission.{places_of};
 ghost use Rattle.endpoint_model.specs.Causes.{chunk_cause};
 ghost use Rattle.endpoint_model.specs.FlowChunks.{data_fault, is_of_flows};
 ghost use Rattle.endpoint_model.specs.Effects.{Introduction, candidates_refusal, introduction};
-ghost use Rattle.endpoint_model.specs.Effects.{no_place, places_refusal, replied};
+ghost use Rattle.endpoint_model.specs.Effects.{no_place, places_refusal, read_fact, read_left};
+ghost use Rattle.endpoint_model.specs.Effects.{replied};
 ghost use Rattle.endpoint_model.specs.InSessions.{sent_home};
 ghost use Rattle.endpoint_model.specs.Introducing.{forwarded_to, hello_cause, introducing};
 ghost use Rattle.endpoint_model.specs.Introducing.{kept_id, redirect_of, redirected_to};
 ghost use Rattle.endpoint_model.specs.Sending.{sent_answer, sent_by, sent_each, sent_startup};
 ghost use Rattle.endpoint_model.specs.Sending.{startup_datagram, startup_number};
-ghost use Rattle.endpoint_model.specs.State.{State, is_free, new_row, next_id, nothing, then_do};
-ghost use Rattle.endpoint_model.specs.State.{with_sealed};
+ghost use Rattle.endpoint_model.specs.State.{State, is_free, new_row, next_id, nothing};
+ghost use Rattle.endpoint_model.specs.State.{then_do, with_sealed, with_startup};
+ghost use Rattle.endpoint_model.specs.Succession.{advance_refusal, advancing, learn_refusal};
+ghost use Rattle.endpoint_model.specs.Succession.{learning};
 
 /// A startup packet's number is the first 8 bytes of the fingerprint and the packet's count, of
 /// which 2^64 - 1 is the last: then nothing goes out any more.
@@ -197,4 +204,68 @@ pub fn an_answer_goes_out_in_its_own_generation()
         startup_datagram s (startup_keys_of g) sid plain ≡ datagram sid
         (sealed_in g.secret (StartupContext g.generation) sid
         (startup_number s.startup.ledger.own (s.sealed + 1)) plain) }
+{}
+
+/// A secret isn't learnt where a next one is known, then where the current generation is the last
+/// one, 2^64 - 1, and then where it is the current secret. The next generation has the number after
+/// the current one.
+pub fn a_learn_is_refused_in_this_order()
+    ensures known { (s : State) (secret : List ℕ) (next : GroupSecret) →
+        learn_refusal (record s {
+          group = record { generation = 2 ^ 64 - 1; secret = secret };
+          next = Some next;
+        }) secret ≡ Some (NextKnown next.generation) }
+    ensures spent { (s : State) → learn_refusal (record s {
+      group = record { generation = 2 ^ 64 - 1; secret = replicate 32 7 };
+      next = None;
+    }) (replicate 32 7) ≡ Some GenerationsSpent }
+    ensures same { (s : State) → learn_refusal (record s {
+      group = record { generation = 2 ^ 64 - 2; secret = replicate 32 7 };
+      next = None;
+    }) (replicate 32 7) ≡ Some SameSecret }
+    ensures none { (s : State) → learn_refusal (record s {
+      group = record { generation = 2 ^ 64 - 2; secret = replicate 32 7 };
+      next = None;
+    }) (replicate 31 7 ++ 8 ∷ []) ≡ None }
+    ensures learnt { (s : State) (current secret : List ℕ) →
+        learning (record s { group = record { generation = 7; secret = current } }) secret
+        ≡ record {
+          state = record s {
+            group = record { generation = 7; secret = current };
+            next = Some (record { generation = 8; secret = secret });
+          };
+          entries = Learnt 8 ∷ [];
+        } }
+{}
+
+/// An end goes over to the next generation where one is known: that is the current one then, and
+/// none is known after it.
+pub fn an_end_goes_over_to_the_next_generation()
+    ensures none { (s : State) → advance_refusal (record s { next = None }) ≡ Some NoNext }
+    ensures known { (s : State) (next : GroupSecret) →
+        advance_refusal (record s { next = Some next }) ≡ None }
+    ensures over { (s : State) (next : GroupSecret) → advancing (record s { next = Some next })
+        ≡ record {
+          state = record s { group = next; next = None };
+          entries = Advanced next.generation ∷ [];
+        } }
+{}
+
+/// A responder's hello that comes once no count of a startup packet is left, so that no keying can
+/// go out, states nothing and leaves all as it was. With one left it isn't so.
+pub fn a_hello_changes_nothing_once_no_count_is_left()
+    ensures left { (s : State) (place : Place) (from : AddressParts) (tag cookie cert : List ℕ) →
+        read_left (with_sealed s (2 ^ 64 - 1)) place from (Ok (RHello tag cookie cert))
+        ≡ with_sealed s (2 ^ 64 - 1) }
+    ensures fact { (s : State) (tag cookie cert : List ℕ) →
+        read_fact (with_sealed s (2 ^ 64 - 1)) (Ok (RHello tag cookie cert)) ≡ None }
+    ensures last_left { (s : State) (generation : ℕ) (from : AddressParts)
+        (tag cookie cert : List ℕ) →
+        read_left (with_sealed s (2 ^ 64 - 2)) (Startup generation) from
+        (Ok (RHello tag cookie cert)) ≡ with_startup (with_sealed s (2 ^ 64 - 2))
+        (after_rhello s.startup tag cookie cert from s.moment
+        (known_group generation s.next s.group)) }
+    ensures last_fact { (s : State) (tag cookie cert : List ℕ) →
+        read_fact (with_sealed s (2 ^ 64 - 2)) (Ok (RHello tag cookie cert))
+        ≡ rhello_fact s.startup tag cert }
 {}

@@ -37,6 +37,16 @@ pub enum Entry {
         /// The new address.
         to: Address,
     },
+    /// The secret of the next generation of the group was learnt (own).
+    Learnt {
+        /// Its number.
+        generation: u64,
+    },
+    /// The next generation of the group's secret became the current one (own).
+    Advanced {
+        /// Its number.
+        generation: u64,
+    },
     /// A flow was opened in a session.
     FlowOpened {
         /// The session's ID at this end.
