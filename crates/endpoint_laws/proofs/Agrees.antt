@@ -18,15 +18,18 @@ use Rattle.session_core.specs.declared.stage.Role.{Role}
 use Rattle.session_core.specs.declared.stage.Role.TheVariants.{Initiator, Responder}
 use Rattle.session_core.specs.declared.stage.Stage.{Stage}
 use Rattle.session_core.specs.declared.stage.Stage.TheVariants.{Opening, Open, NearClose, FarLinger, Closed}
-use Rattle.session_core.specs.Session.{SessionState, IsKeyed}
+use Rattle.session_core.specs.Session.{SessionState}
 use Rattle.session_core.specs.Closing.{is_held}
 use Rattle.endpoint_model.specs.declared.row.Row.{Row}
 use Rattle.endpoint_model.specs.Event.{Setup, own_of}
-use Rattle.endpoint_laws.specs.Past.{Stamped, Search, facts_of, ids_in_use, IsClosing, IsSearch, WasDone, Past}
+use Rattle.endpoint_laws.specs.Past.{Stamped, Search, facts_of, ids_in_use, IsClosing, IsSearch, WasDone, Past, current_of, next_of}
 use Rattle.endpoint_model.specs.State.{State, is_used}
 use Rattle.endpoint_laws.proofs.Matching.{Found, of_peer, of_some, Matches, Ids}
-use Rattle.endpoint_laws.proofs.Tied.{Tied, search_of, WasStartedAs, IsKeptIn, AreBy, StageFits, IsClosed, IsClosedThing, thing_of, held_of, found_in}
-use Rattle.endpoint_laws.specs.Groups.{HasOneGroup}
+use Rattle.endpoint_laws.proofs.Tied.{Tied, search_of, WasStartedAs, IsKeptIn, AreBy, StageFits, IsClosed, IsClosedThing, thing_of, held_of, found_in, HasKeys}
+use Rattle.endpoint_laws.specs.Contexts.{Secrets, BegunUnder}
+use Rattle.endpoint_laws.specs.Groups.{number_in}
+use Rattle.endpoint_laws.proofs.Kin.{HoldsSecrets}
+use Rattle.endpoint_laws.proofs.Begun.{born_thing, KeepsBegun}
 
 -- what an attempt is, with its peer; a search is nothing that is held
 abbrev pub found_as : ℕ → List ℕ → Aim → Found
@@ -42,19 +45,21 @@ abbrev pub thing_at : State → ℕ → Found
 thing_at s near = combined near (get s.startup.attempts near) (get s.sessions near)
 
 -- The session under this session ID is one of this end.
-pub record IsOurs (setup : Setup) (past : Past) (near : ℕ) (session : SessionState) : Type 0 where
+pub record IsOurs (secrets : Secrets) (setup : Setup) (past : Past) (near : ℕ) (session : SessionState) : Type 0 where
   pub id : session.joined.near ≡ near
   pub own : session.own ≡ own_of setup
-  pub keyed : IsKeyed setup.secret session
-  pub generation : session.generation ≡ setup.generation
+  pub known : HasKeys secrets session
+  pub begun : BegunUnder secrets setup (born_thing session.role session.joined) session.generation past
   pub stage : StageFits session.role session.stage
   pub closed : is_held session.stage ≡ false → IsClosed past near session
 
--- what was given at the beginning
-pub record IsGiven (setup : Setup) (s : State) : Type 0 where
+-- what was given at the beginning, and the secrets of the group
+pub record IsGiven (secrets : Secrets) (setup : Setup) (past : Past) (s : State) : Type 0 where
   pub config : s.config ≡ setup.config
   pub cert : s.startup.cert ≡ setup.cert
-  pub one : HasOneGroup setup s
+  pub holds : HoldsSecrets secrets s
+  pub current : s.group.generation ≡ current_of setup past
+  pub next : number_in s.next ≡ next_of past
   pub cookie_secret : s.startup.cookie_secret ≡ setup.cookie_secret
   pub own : s.startup.ledger.own ≡ own_of setup
   pub max_peers : s.startup.ledger.max_peers ≡ setup.config.max_peers
@@ -76,10 +81,10 @@ ClosesAt past near o = (thing : Held) (at : ℕ) → IsClosing near thing at pas
 abbrev pub SearchesAt : Past → ℕ → Option AttemptState → Type 0
 SearchesAt past near o = (which : Search) (at : ℕ) → IsSearch near which at past → IsKeptIn o which at
 
-pub record Agrees (setup : Setup) (past : Past) (s : State) : Type 0 where
-  pub given : IsGiven setup s
+pub record Agrees (secrets : Secrets) (setup : Setup) (past : Past) (s : State) : Type 0 where
+  pub given : IsGiven secrets setup past s
   pub matches : Matches (thing_at s) (held_with s.startup.ledger)
-  pub ours : (near : ℕ) (row : Row) → get s.sessions near ≡ Some row → IsOurs setup past near row.session
+  pub ours : (near : ℕ) (row : Row) → get s.sessions near ≡ Some row → IsOurs secrets setup past near row.session
   pub closing : (near : ℕ) → ClosesAt past near (get s.sessions near)
   pub apart : (near : ℕ) (a : AttemptState) → get s.startup.attempts near ≡ Some a → get s.sessions near ≡ None
   pub started : (near : ℕ) (a : AttemptState) → get s.startup.attempts near ≡ Some a → WasStarted past near a
@@ -189,11 +194,13 @@ held_of_found : (s : State) → Matches (thing_at s) (held_with s.startup.ledger
 held_of_found s matches near ni (AtPeer peer n) found = (matches.found near peer (OpeningHeld n near ni) found).0
 held_of_found s matches near ni (ByName name) found = tt
 
-pub tied_of : (setup : Setup) (past : Past) (s : State) → Agrees setup past s → StandsFor 0 s.startup.ledger (facts_of past) → count (facts_of past) < 2 ^ 64 → Tied setup past s
-tied_of setup past s a account few = record {
+pub tied_of : (secrets : Secrets) (setup : Setup) (past : Past) (s : State) → Agrees secrets setup past s → StandsFor 0 s.startup.ledger (facts_of past) → count (facts_of past) < 2 ^ 64 → Tied secrets setup past s
+tied_of secrets setup past s a account few = record {
   config = a.given.config;
   cert = a.given.cert;
-  one = a.given.one;
+  holds = a.given.holds;
+  current = a.given.current;
+  next = a.given.next;
   cookie_secret = a.given.cookie_secret;
   own = a.given.own;
   max_peers = a.given.max_peers;
@@ -210,8 +217,8 @@ tied_of setup past s a account few = record {
       record {
         id = ours.id;
         own = ours.own;
-        keyed = ours.keyed;
-        generation = ours.generation;
+        known = ours.known;
+        begun = ours.begun;
         stage = ours.stage;
         thing = λ held.
             (a.matches.found near row.session.joined.peer (thing_of row.session.role row.session.stage row.session.joined) (found_of_session s near row (no_attempt s near row (a.apart near) e) e held)).0;
@@ -233,17 +240,17 @@ tied_of setup past s a account few = record {
   few = few;
 }
 
-found_is : (setup : Setup) (past : Past) (s : State) → Tied setup past s → (near : ℕ) (oa : Option AttemptState) (os : Option Row) →
+found_is : (secrets : Secrets) (setup : Setup) (past : Past) (s : State) → Tied secrets setup past s → (near : ℕ) (oa : Option AttemptState) (os : Option Row) →
     get s.startup.attempts near ≡ oa → get s.sessions near ≡ os → (p : List ℕ) (h : Held) → combined near oa os ≡ Some (p, h) →
     (held_with s.startup.ledger p ≡ Some h) × (near_of h ≡ near)
-found_is setup past s t near (Some a) os ea es p h e = by a.aim (t.sound.held near a ea) e
+found_is secrets setup past s t near (Some a) os ea es p h e = by a.aim (t.sound.held near a ea) e
   where
     by : (aim : Aim) → IsHeldAs s.startup.ledger near a.ni aim → found_as near a.ni aim ≡ Some (p, h) → (held_with s.startup.ledger p ≡ Some h) × (near_of h ≡ near)
     by (AtPeer q n) is e =
         let same : (q, OpeningHeld n near a.ni) ≡ (p, h) = cc in
         (subst (λ (x : List ℕ × Held). (held_with s.startup.ledger x.0 ≡ Some x.1) × (near_of x.1 ≡ near)) same (is, refl))
     by (ByName name) is e = absurd (cc)
-found_is setup past s t near None os ea es p h e =
+found_is secrets setup past s t near None os ea es p h e =
     let found = found_row os p h e in
     let row : Row = found.0 in
     let is = t.sessions near row (es ∙ found.1) in
@@ -251,9 +258,9 @@ found_is setup past s t near None os ea es p h e =
     ap (held_with s.startup.ledger) (sym found.2.peer) ∙ is.thing found.2.held ∙ ap (λ (x : Held). Some x) found.2.thing in
     (held, ap near_of (sym found.2.thing) ∙ near_of_session row.session.role row.session.stage row.session.joined ∙ is.id)
 
-attempt_there : (setup : Setup) (past : Past) (s : State) → Tied setup past s → (peer : List ℕ) (n near : ℕ) (ni : List ℕ) → held_with s.startup.ledger peer ≡ Some (OpeningHeld n near ni) →
+attempt_there : (secrets : Secrets) (setup : Setup) (past : Past) (s : State) → Tied secrets setup past s → (peer : List ℕ) (n near : ℕ) (ni : List ℕ) → held_with s.startup.ledger peer ≡ Some (OpeningHeld n near ni) →
     thing_at s near ≡ Some (peer, OpeningHeld n near ni)
-attempt_there setup past s t peer n near ni e = go (get s.startup.attempts near) refl (t.sound.there peer n near ni e)
+attempt_there secrets setup past s t peer n near ni e = go (get s.startup.attempts near) refl (t.sound.there peer n near ni e)
   where
     by_aim : (a : AttemptState) (aim : Aim) → a.aim ≡ aim → get s.startup.attempts near ≡ Some a → peer_of_aim aim ≡ Some peer → thing_at s near ≡ Some (peer, OpeningHeld n near ni)
     by_aim a (AtPeer q m) aims is at =
@@ -267,28 +274,28 @@ attempt_there setup past s t peer n near ni e = go (get s.startup.attempts near)
     go None is at = absurd (cc)
     go (Some a) is at = by_aim a a.aim refl is at
 
-session_there : (setup : Setup) (past : Past) (s : State) → Tied setup past s → (peer : List ℕ) (thing : Held) → held_with s.startup.ledger peer ≡ Some thing → IsSession thing →
+session_there : (secrets : Secrets) (setup : Setup) (past : Past) (s : State) → Tied secrets setup past s → (peer : List ℕ) (thing : Held) → held_with s.startup.ledger peer ≡ Some thing → IsSession thing →
     thing_at s (near_of thing) ≡ Some (peer, thing)
-session_there setup past s t peer thing e sess =
+session_there secrets setup past s t peer thing e sess =
     let found = t.there peer thing e sess in
     let row = found_row (get s.sessions (near_of thing)) peer thing found in
     ap (λ (o : Option AttemptState). combined (near_of thing) o (get s.sessions (near_of thing))) (no_attempt s (near_of thing) row.0 (t.apart (near_of thing)) row.1) ∙ found
 
-held_there : (setup : Setup) (past : Past) (s : State) → Tied setup past s → (peer : List ℕ) (thing : Held) → held_with s.startup.ledger peer ≡ Some thing →
+held_there : (secrets : Secrets) (setup : Setup) (past : Past) (s : State) → Tied secrets setup past s → (peer : List ℕ) (thing : Held) → held_with s.startup.ledger peer ≡ Some thing →
     thing_at s (near_of thing) ≡ Some (peer, thing)
-held_there setup past s t peer (OpeningHeld n near ni) e = attempt_there setup past s t peer n near ni e
-held_there setup past s t peer (HalfOpen j) e = session_there setup past s t peer (HalfOpen j) e tt
-held_there setup past s t peer (KeptAsResponder j) e = session_there setup past s t peer (KeptAsResponder j) e tt
-held_there setup past s t peer (KeptAsInitiator j) e = session_there setup past s t peer (KeptAsInitiator j) e tt
+held_there secrets setup past s t peer (OpeningHeld n near ni) e = attempt_there secrets setup past s t peer n near ni e
+held_there secrets setup past s t peer (HalfOpen j) e = session_there secrets setup past s t peer (HalfOpen j) e tt
+held_there secrets setup past s t peer (KeptAsResponder j) e = session_there secrets setup past s t peer (KeptAsResponder j) e tt
+held_there secrets setup past s t peer (KeptAsInitiator j) e = session_there secrets setup past s t peer (KeptAsInitiator j) e tt
 
-pub agrees_of : (setup : Setup) (past : Past) (s : State) → Tied setup past s → Agrees setup past s
-agrees_of setup past s t = record {
-  given = record { config = t.config; cert = t.cert; one = t.one; cookie_secret = t.cookie_secret; own = t.own; max_peers = t.max_peers };
+pub agrees_of : (secrets : Secrets) (setup : Setup) (past : Past) (s : State) → Tied secrets setup past s → Agrees secrets setup past s
+agrees_of secrets setup past s t = record {
+  given = record { config = t.config; cert = t.cert; holds = t.holds; current = t.current; next = t.next; cookie_secret = t.cookie_secret; own = t.own; max_peers = t.max_peers };
   matches = record {
-    found = λ near p h e. found_is setup past s t near (get s.startup.attempts near) (get s.sessions near) refl refl p h e;
-    there = held_there setup past s t;
+    found = λ near p h e. found_is secrets setup past s t near (get s.startup.attempts near) (get s.sessions near) refl refl p h e;
+    there = held_there secrets setup past s t;
   };
-  ours = λ near row e. let is = t.sessions near row e in record { id = is.id; own = is.own; keyed = is.keyed; generation = is.generation; stage = is.stage; closed = is.closed };
+  ours = λ near row e. let is = t.sessions near row e in record { id = is.id; own = is.own; known = is.known; begun = is.begun; stage = is.stage; closed = is.closed };
   closing = t.closing;
   apart = t.apart;
   started = t.started;
@@ -305,8 +312,8 @@ clash : (b : Bool) → b ≡ true → b ≡ false → ⊥
 clash b p q = let e : true ≡ false = sym p ∙ q in cc
 
 -- under the session ID of what is held nothing closes
-pub none_closes : (setup : Setup) (past : Past) (s : State) → Agrees setup past s → (near : ℕ) (p : List ℕ) (h : Held) → thing_at s near ≡ Some (p, h) → (thing : Held) (at : ℕ) → IsClosing near thing at past → ⊥
-none_closes setup past s a near p h is thing at c = by (get s.startup.attempts near) refl (get s.sessions near) refl (a.closing near thing at c)
+pub none_closes : (secrets : Secrets) (setup : Setup) (past : Past) (s : State) → Agrees secrets setup past s → (near : ℕ) (p : List ℕ) (h : Held) → thing_at s near ≡ Some (p, h) → (thing : Held) (at : ℕ) → IsClosing near thing at past → ⊥
+none_closes secrets setup past s a near p h is thing at c = by (get s.startup.attempts near) refl (get s.sessions near) refl (a.closing near thing at c)
   where
     in_session : (o : Option Row) → found_in o ≡ Some (p, h) → IsClosedThing o thing → ⊥
     in_session None e closed = closed
@@ -323,8 +330,8 @@ none_kept : (near : ℕ) (oa : Option AttemptState) (os : Option Row) (p : List 
 none_kept near None os p h e which at kept = kept
 none_kept near (Some a) os p h e which at kept = let clash : ◌≡◌ {A = Found} None (Some (p, h)) = sym (ap (found_as near a.ni) kept.0) ∙ e in cc
 
-pub none_searches : (setup : Setup) (past : Past) (s : State) → Agrees setup past s → (near : ℕ) (p : List ℕ) (h : Held) → thing_at s near ≡ Some (p, h) → (which : Search) (at : ℕ) → IsSearch near which at past → ⊥
-none_searches setup past s a near p h is which at there = none_kept near (get s.startup.attempts near) (get s.sessions near) p h is which at (a.searching near which at there)
+pub none_searches : (secrets : Secrets) (setup : Setup) (past : Past) (s : State) → Agrees secrets setup past s → (near : ℕ) (p : List ℕ) (h : Held) → thing_at s near ≡ Some (p, h) → (which : Search) (at : ℕ) → IsSearch near which at past → ⊥
+none_searches secrets setup past s a near p h is which at there = none_kept near (get s.startup.attempts near) (get s.sessions near) p h is which at (a.searching near which at there)
 
 -- ---- one thing changes
 
@@ -335,20 +342,21 @@ pub record IsAt (near : ℕ) (oa : Option AttemptState) (os : Option Row) (s t :
   pub attempts : (q : ℕ) → (q ≡ near → ⊥) → get t.startup.attempts q ≡ get s.startup.attempts q
   pub sessions : (q : ℕ) → (q ≡ near → ⊥) → get t.sessions q ≡ get s.sessions q
 
--- More was done, that begins and ends no closing and no search but under one session ID.
+-- More was done, that begins and ends no closing and no search, and begins no session, but under one session ID.
 pub record GoesOnBeside (near : ℕ) (past now : Past) : Type 0 where
   pub done : (x : Stamped) → WasDone x past → WasDone x now
   pub closing : (q : ℕ) → (q ≡ near → ⊥) → (thing : Held) (at : ℕ) → IsClosing q thing at past → IsClosing q thing at now
   pub back : (q : ℕ) → (q ≡ near → ⊥) → (thing : Held) (at : ℕ) → IsClosing q thing at now → IsClosing q thing at past
   pub sought : (q : ℕ) → (q ≡ near → ⊥) → (which : Search) (at : ℕ) → IsSearch q which at past → IsSearch q which at now
   pub before : (q : ℕ) → (q ≡ near → ⊥) → (which : Search) (at : ℕ) → IsSearch q which at now → IsSearch q which at past
+  pub begun : (q : ℕ) → (q ≡ near → ⊥) → KeepsBegun q past now
 
 -- an attempt or a session of this end, and not both
-abbrev pub Fits : Setup → Past → ℕ → Option AttemptState → Option Row → Type 0
-Fits setup past near None None = Unit {0}
-Fits setup past near None (Some row) = IsOurs setup past near row.session
-Fits setup past near (Some a) None = WasStarted past near a × FitsStage a.aim a.stage
-Fits setup past near (Some a) (Some row) = ⊥
+abbrev pub Fits : Secrets → Setup → Past → ℕ → Option AttemptState → Option Row → Type 0
+Fits secrets setup past near None None = Unit {0}
+Fits secrets setup past near None (Some row) = IsOurs secrets setup past near row.session
+Fits secrets setup past near (Some a) None = WasStarted past near a × FitsStage a.aim a.stage
+Fits secrets setup past near (Some a) (Some row) = ⊥
 
 pub thing_elsewhere : (near : ℕ) (oa : Option AttemptState) (os : Option Row) (s t : State) → IsAt near oa os s t → (q : ℕ) → (q ≡ near → ⊥) → thing_at t q ≡ thing_at s q
 thing_elsewhere near oa os s t at q other =
@@ -365,31 +373,38 @@ pub used_here : (near : ℕ) (oa : Option AttemptState) (os : Option Row) (s t :
 used_here near oa os s t at =
     ap (λ (o : Option AttemptState). is_some o || is_some (get t.sessions near)) at.attempt ∙ ap (λ (o : Option Row). is_some oa || is_some o) at.session
 
-fits_session : (setup : Setup) (past : Past) (near : ℕ) (oa : Option AttemptState) (os : Option Row) (row : Row) → Fits setup past near oa os → os ≡ Some row → IsOurs setup past near row.session
-fits_session setup past near oa None row f e = absurd (cc)
-fits_session setup past near None (Some x) row f e = let same : x ≡ row = cc in subst (λ (r : Row). IsOurs setup past near r.session) same f
-fits_session setup past near (Some a) (Some x) row f e = absurd f
+fits_session : (secrets : Secrets) (setup : Setup) (past : Past) (near : ℕ) (oa : Option AttemptState) (os : Option Row) (row : Row) → Fits secrets setup past near oa os → os ≡ Some row → IsOurs secrets setup past near row.session
+fits_session secrets setup past near oa None row f e = absurd (cc)
+fits_session secrets setup past near None (Some x) row f e = let same : x ≡ row = cc in subst (λ (r : Row). IsOurs secrets setup past near r.session) same f
+fits_session secrets setup past near (Some a) (Some x) row f e = absurd f
 
-fits_attempt : (setup : Setup) (past : Past) (near : ℕ) (oa : Option AttemptState) (os : Option Row) (a : AttemptState) → Fits setup past near oa os → oa ≡ Some a → (os ≡ None) × WasStarted past near a × FitsStage a.aim a.stage
-fits_attempt setup past near None os a f e = absurd (cc)
-fits_attempt setup past near (Some x) None a f e = let same : x ≡ a = cc in (refl, subst (WasStarted past near) same f.0, subst (λ (b : AttemptState). FitsStage b.aim b.stage) same f.1)
-fits_attempt setup past near (Some x) (Some row) a f e = absurd f
+fits_attempt : (secrets : Secrets) (setup : Setup) (past : Past) (near : ℕ) (oa : Option AttemptState) (os : Option Row) (a : AttemptState) → Fits secrets setup past near oa os → oa ≡ Some a → (os ≡ None) × WasStarted past near a × FitsStage a.aim a.stage
+fits_attempt secrets setup past near None os a f e = absurd (cc)
+fits_attempt secrets setup past near (Some x) None a f e = let same : x ≡ a = cc in (refl, subst (WasStarted past near) same f.0, subst (λ (b : AttemptState). FitsStage b.aim b.stage) same f.1)
+fits_attempt secrets setup past near (Some x) (Some row) a f e = absurd f
 
 -- what closes elsewhere goes on
 closed_on : (past now : Past) (near q : ℕ) (session : SessionState) → GoesOnBeside near past now → (q ≡ near → ⊥) → IsClosed past q session → IsClosed now q session
 closed_on past now near q session more other c = record { thing = c.thing; at = c.at; was = c.was; closing = more.closing q other c.thing c.at c.closing; since = c.since }
 
-pub agrees_changed : (setup : Setup) (past now : Past) (s t : State) (near : ℕ) (oa : Option AttemptState) (os : Option Row) → Agrees setup past s → IsGiven setup t → IsAt near oa os s t →
-    Matches (thing_at t) (held_with t.startup.ledger) → Fits setup now near oa os → GoesOnBeside near past now → ClosesAt now near os → SearchesAt now near oa →
-    Ids setup.config.max_sessions (ids_in_use now) t → AreBy t.moment now → row_count t.startup.ledger ≤ setup.config.max_peers → Agrees setup now t
-agrees_changed setup past now s t near oa os a given at matches fits more closes sought ids by_now rows = record {
+pub agrees_changed : (secrets : Secrets) (setup : Setup) (past now : Past) (s t : State) (near : ℕ) (oa : Option AttemptState) (os : Option Row) → Agrees secrets setup past s → IsGiven secrets setup now t → IsAt near oa os s t →
+    Matches (thing_at t) (held_with t.startup.ledger) → Fits secrets setup now near oa os → GoesOnBeside near past now → ClosesAt now near os → SearchesAt now near oa →
+    Ids setup.config.max_sessions (ids_in_use now) t → AreBy t.moment now → row_count t.startup.ledger ≤ setup.config.max_peers → Agrees secrets setup now t
+agrees_changed secrets setup past now s t near oa os a given at matches fits more closes sought ids by_now rows = record {
   given = given;
   matches = matches;
   ours = λ q row e. elim (same_or_not q near) [
-    | inl is ↦ subst (λ (k : ℕ). IsOurs setup now k row.session) (sym is.0) (fits_session setup now near oa os row fits (sym at.session ∙ ap (get t.sessions) (sym is.0) ∙ e))
+    | inl is ↦ subst (λ (k : ℕ). IsOurs secrets setup now k row.session) (sym is.0) (fits_session secrets setup now near oa os row fits (sym at.session ∙ ap (get t.sessions) (sym is.0) ∙ e))
     | inr is ↦
         let before = a.ours q row (sym (at.sessions q is.0) ∙ e) in
-        record { id = before.id; own = before.own; keyed = before.keyed; generation = before.generation; stage = before.stage; closed = λ c. closed_on past now near q row.session more is.0 (before.closed c) }
+        record {
+          id = before.id;
+          own = before.own;
+          known = before.known;
+          begun = more.begun q is.0 secrets setup row.session.role row.session.joined before.id row.session.generation before.begun;
+          stage = before.stage;
+          closed = λ c. closed_on past now near q row.session more is.0 (before.closed c);
+        }
   ];
   closing = λ q thing m c. elim (same_or_not q near) [
     | inl is ↦
@@ -397,12 +412,12 @@ agrees_changed setup past now s t near oa os a given at matches fits more closes
     | inr is ↦ subst (λ (o : Option Row). IsClosedThing o thing) (sym (at.sessions q is.0)) (a.closing q thing m (more.back q is.0 thing m c))
   ];
   apart = λ q b e. elim (same_or_not q near) [
-    | inl is ↦ ap (get t.sessions) is.0 ∙ at.session ∙ (fits_attempt setup now near oa os b fits (sym at.attempt ∙ ap (get t.startup.attempts) (sym is.0) ∙ e)).0
+    | inl is ↦ ap (get t.sessions) is.0 ∙ at.session ∙ (fits_attempt secrets setup now near oa os b fits (sym at.attempt ∙ ap (get t.startup.attempts) (sym is.0) ∙ e)).0
     | inr is ↦ at.sessions q is.0 ∙ a.apart q b (sym (at.attempts q is.0) ∙ e)
   ];
   started = λ q b e. elim (same_or_not q near) [
     | inl is ↦
-        subst (λ (k : ℕ). WasStarted now k b) (sym is.0) (fits_attempt setup now near oa os b fits (sym at.attempt ∙ ap (get t.startup.attempts) (sym is.0) ∙ e)).1
+        subst (λ (k : ℕ). WasStarted now k b) (sym is.0) (fits_attempt secrets setup now near oa os b fits (sym at.attempt ∙ ap (get t.startup.attempts) (sym is.0) ∙ e)).1
     | inr is ↦ started_still past now q b b.aim more.done (λ which m. more.sought q is.0 which m) (a.started q b (sym (at.attempts q is.0) ∙ e))
   ];
   searching = λ q which m there. elim (same_or_not q near) [
@@ -411,7 +426,7 @@ agrees_changed setup past now s t near oa os a given at matches fits more closes
     | inr is ↦ subst (λ (o : Option AttemptState). IsKeptIn o which m) (sym (at.attempts q is.0)) (a.searching q which m (more.before q is.0 which m there))
   ];
   stages = λ q b e. elim (same_or_not q near) [
-    | inl is ↦ (fits_attempt setup now near oa os b fits (sym at.attempt ∙ ap (get t.startup.attempts) (sym is.0) ∙ e)).2
+    | inl is ↦ (fits_attempt secrets setup now near oa os b fits (sym at.attempt ∙ ap (get t.startup.attempts) (sym is.0) ∙ e)).2
     | inr is ↦ a.stages q b (sym (at.attempts q is.0) ∙ e)
   ];
   ids = ids;

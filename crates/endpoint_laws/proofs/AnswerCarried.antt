@@ -28,7 +28,6 @@ use Rattle.endpoint_laws.specs.Lawful.{AnswersAttempt}
 use Rattle.endpoint_laws.specs.Complete.{at_initiator}
 use Rattle.endpoint_laws.proofs.Bytes.{hmac_is}
 use Rattle.endpoint_laws.proofs.OutPackets.{one_whole, startup_head, startup_reads}
-use Rattle.endpoint_laws.proofs.Knowing.{own_secrets, own_known}
 use Rattle.std.specs.FinMap.{get}
 
 -- ---- a sealed part opens under the session ID that it goes out under
@@ -68,19 +67,19 @@ opens_again secrets secret generation sid number plain known small size =
 
 -- ---- the keying of a session
 
-pub keying_answers : (setup : Setup) (j : Joined) (number : List ℕ) → j.far < 2 ^ 32 → j.near < 2 ^ 32 → length j.ni ≤ 16 → length j.nr ≤ 16 → length number ≡ 16 → j.k < 2 ^ 64 →
-    AnswersAttempt (own_secrets setup) setup.generation (at_initiator (own_of setup) j) (datagram j.far (sealed_in setup.secret (Startup setup.generation) j.far number (rikeying_packet setup.secret j.near j.nr j.k (own_of setup) j.ni)))
+pub keying_answers : (secrets : Secrets) (setup : Setup) (generation : ℕ) (secret : List ℕ) → get secrets generation ≡ Some secret → (j : Joined) (number : List ℕ) → j.far < 2 ^ 32 → j.near < 2 ^ 32 → length j.ni ≤ 16 → length j.nr ≤ 16 → length number ≡ 16 → j.k < 2 ^ 64 →
+    AnswersAttempt secrets generation (at_initiator (own_of setup) j) (datagram j.far (sealed_in secret (Startup generation) j.far number (rikeying_packet secret j.near j.nr j.k (own_of setup) j.ni)))
 unfolding rikeying_signed opens_again
-keying_answers setup j number far near ni nr size few =
+keying_answers secrets setup generation secret known j number far near ni nr size few =
     let own : List ℕ = own_of setup in
     let part : List ℕ = responder_part j.nr j.k own j.ni in
     let before : List ℕ = payload_bytes (RIKeying j.near part []) in
-    let sign : List ℕ = hmac (sign_key_of setup.secret) before in
+    let sign : List ℕ = hmac (sign_key_of secret) before in
     let chunk : Chunk = RIKeying j.near part sign in
     let payload : List ℕ = payload_bytes chunk in
     let part_len : length part ≤ 80 =
     omega (arith, length-append (j.nr ++ to_be_bytes w64 j.k ++ own) j.ni, length-append (j.nr ++ to_be_bytes w64 j.k) own, length-append j.nr (to_be_bytes w64 j.k), length-sha256 setup.cert, ni, nr) in
-    let sign_len : length sign ≤ 32 = omega (arith, length-hmac (sign_key_of setup.secret) before) in
+    let sign_len : length sign ≤ 32 = omega (arith, length-hmac (sign_key_of secret) before) in
     let short : length payload < 2 ^ 16 = omega (arith, startup_length chunk, rikeying_length j.near part sign part_len sign_len) in
     let fits : PartsFit (parts_of chunk) = (near, (omega (arith, part_len), tt)) in
     let counted : List ℕ = field_bytes (Counted part) in
@@ -88,7 +87,7 @@ keying_answers setup j number far near ni nr size few =
     let whole : payload ≡ before ++ sign = sym (append_assoc id (counted ++ []) sign ∙ ap (λ xs. id ++ xs) (append_assoc counted [] sign)) in
     record {
       packet = one_whole startup_head (0x03 ∷ []) 0x78 payload;
-      reads = record { plain = startup_packet chunk; opens = opens_again (own_secrets setup) setup.secret setup.generation j.far number (startup_packet chunk) (own_known setup) far size; reads = startup_reads chunk short };
+      reads = record { plain = startup_packet chunk; opens = opens_again secrets secret generation j.far number (startup_packet chunk) known far size; reads = startup_reads chunk short };
       chunk = record { kind = 0x78; at = 1; payload = payload };
       among = inl refl;
       sign = sign;

@@ -30,9 +30,12 @@ use Rattle.rtmfp_chunks.specs.Writing.{chunk_bytes}
 use Rattle.endpoint_model.specs.declared.row.Row.{Row}
 use Rattle.endpoint_model.specs.declared.config.Draws.{Draws}
 use Rattle.endpoint_model.specs.declared.entry.Entry.TheVariants.{Fact as FactEntry}
-use Rattle.endpoint_model.specs.Event.{Setup, Receive, own_of, first_group}
+use Rattle.endpoint_model.specs.declared.place.Place.TheVariants.{Attempt as AttemptPlace}
+use Rattle.endpoint_model.specs.Event.{Setup, Receive, own_of}
+use Rattle.endpoint_laws.specs.Contexts.{Secrets, EventOpenedIn}
+use Rattle.endpoint_laws.specs.Groups.{HasSecret}
 use Rattle.endpoint_laws.specs.Past.{Past, stamped, facts_of, ids_in_use}
-use Rattle.endpoint_model.specs.Keying.{IsSigned, IsAmong, chunks_of, responder_part}
+use Rattle.endpoint_model.specs.Keying.{IsAmong, chunks_of, responder_part}
 use Rattle.endpoint_laws.specs.Lawful.{AnswersAttempt}
 use Rattle.endpoint_model.specs.State.{State, new_row, Did, is_used, with_startup, with_row}
 use Rattle.endpoint_model.specs.Sending.{sent_in_session}
@@ -48,12 +51,12 @@ use Rattle.endpoint_laws.proofs.Going.{Goes, goes_then, goes_sends}
 use Rattle.endpoint_laws.proofs.Ending.{some_entry}
 use Rattle.endpoint_laws.proofs.Spelled.{responder_signed}
 use Rattle.endpoint_laws.proofs.Says.{responder_says}
-use Rattle.endpoint_laws.proofs.Admitting.{IsRead}
+use Rattle.endpoint_laws.proofs.Admitting.{CameAtAttempt}
 use Rattle.endpoint_model.specs.Admission.{attempt_group}
 use Rattle.crypto_profile.specs.declared.keys.Context.TheVariants.{Startup as StartupContext}
 use Rattle.crypto_profile.specs.declared.group.GroupSecret.{GroupSecret}
-use Rattle.endpoint_laws.proofs.Kin.{one_still, attempt_is_one, kin_without}
-use Rattle.endpoint_laws.proofs.Knowing.{own_secrets, own_signed}
+use Rattle.endpoint_laws.proofs.Kin.{holds_still, group_known, kin_without}
+use Rattle.endpoint_laws.proofs.Knowing.{signed_known}
 
 -- What a responder's keying is that isn't discarded: it reads, is signed, and is of the attempt under this session ID.
 pub record OpensAttempt (s : State) (near : ℕ) (payload : List ℕ) : Type 0 where
@@ -75,7 +78,8 @@ first_or false b e = absurd (cc)
 moved_one : (a b c d : ℕ) → a ≡ c - 1 → 0 < c → b ≡ d + 1 → a + b ≡ c + d
 moved_one a b c d p some q = omega arith
 
-module _ (setup : Setup) (from : AddressParts) (datagram : List ℕ) (draws : Draws) (packet : Whole) (past : Past) (s : State) (tied : Tied setup past s) (near : ℕ) (c : Placed) (opens : OpensAttempt s near c.payload) where
+module _ (secrets : Secrets) (setup : Setup) (from : AddressParts) (datagram : List ℕ) (draws : Draws) (packet : Whole) (past : Past) (s : State) (tied : Tied secrets setup past s) (near generation : ℕ)
+    (came : CameAtAttempt secrets setup past s datagram near generation packet) (c : Placed) (opens : OpensAttempt s near c.payload) where
   abbrev a : AttemptState
   a = opens.a
 
@@ -91,8 +95,12 @@ module _ (setup : Setup) (from : AddressParts) (datagram : List ℕ) (draws : Dr
   abbrev t : State
   t = with_row (with_startup s (after_opening s.startup near (Opened j))) near new
 
-  one : group ≡ first_group setup
-  one = attempt_is_one setup s tied.one near
+  known : HasSecret secrets group
+  known = group_known secrets s tied.holds (AttemptPlace near generation)
+
+  -- which is that of the generation in which the datagram opened
+  same_number : group.generation ≡ generation
+  same_number = ap (λ (o : Option AttemptState). (attempt_group s.group o).generation) opens.there ∙ came.group opens.a opens.there
 
   abbrev now : Past
   now = stamped s.moment (FactEntry (Opened j)) ∷ past
@@ -103,9 +111,9 @@ module _ (setup : Setup) (from : AddressParts) (datagram : List ℕ) (draws : Dr
   abbrev gave : Option Held → Type 0
   gave o = Gave s.startup.ledger (option_to_list (opened_fact o opens.peer j.nr j.far j.k)) (noted_if s.startup.ledger (opened_fact o opens.peer j.nr j.far j.k))
 
-  opened_tied : Tied setup now t
+  opened_tied : Tied secrets setup now t
   opened_tied =
-      let g = agrees_of setup past s tied in
+      let g = agrees_of secrets setup past s tied in
       let no_session : get s.sessions near ≡ None = tied.apart near a opens.there in
       let was = found_of_peer s near a opens.peer opens.n opens.there opens.aims in
       let at : IsAt near None (Some new) s t = record {
@@ -120,15 +128,15 @@ module _ (setup : Setup) (from : AddressParts) (datagram : List ℕ) (draws : Dr
             ∙ sym (first_or (is_some (get s.startup.attempts near)) (is_some (get s.sessions near)) (ap (λ (o : Option AttemptState). is_some o) opens.there)) ∙ ap (is_used s) (sym e.0)
         | inr e ↦ used_elsewhere near None (Some new) s t at q e.0
       ] in
-      tied_of setup now t
-      (agrees_changed setup past now s t near None (Some new) g
-      (record { config = g.given.config; cert = g.given.cert; one = one_still setup (with_startup s (after_opening s.startup near (Opened j))) t ((kin_without s near (Some (Opened j))).one setup g.given.one) refl refl refl; cookie_secret = g.given.cookie_secret; own = g.given.own; max_peers = g.given.max_peers }) at
+      tied_of secrets setup now t
+      (agrees_changed secrets setup past now s t near None (Some new) g
+      (record { config = g.given.config; cert = g.given.cert; holds = holds_still secrets (with_startup s (after_opening s.startup near (Opened j))) t ((kin_without s near (Some (Opened j))).holds secrets g.given.holds) refl refl refl; current = g.given.current; next = g.given.next; cookie_secret = g.given.cookie_secret; own = g.given.own; max_peers = g.given.max_peers }) at
       (noted_matches s t (Opened j) near None (Some new) g.matches at refl (was ∙ sym (ap (of_peer opens.peer) held_is))
       (sym (ap (λ o. of_peer opens.peer (opened_held j o)) held_is))
       (λ h e. let same : Some (KeptAsInitiator j) ≡ Some h = sym (ap (opened_held j) held_is) ∙ e in let thing : KeptAsInitiator j ≡ h = cc in ap near_of (sym thing)))
-      (record { id = refl; own = tied.own; keyed = keyed_begun (ap (λ (x : GroupSecret). x.secret) one) group.generation j s.startup.ledger.own Initiator from s.moment; generation = ap (λ (x : GroupSecret). x.generation) one; stage = tt; closed = λ e. absurd (cc) })
-      (beside_fact near s.moment past (Opened j) tt) (still_none setup past s g near opens.peer (Opening opens.n near a.ni) was s.moment (Opened j) tt (Some new))
-      (still_unsought past near s.moment (Opened j) (none_searches setup past s g near opens.peer (Opening opens.n near a.ni) was) None)
+      (record { id = refl; own = tied.own; known = record { secret = group.secret; known = known; keyed = keyed_begun refl group.generation j s.startup.ledger.own Initiator from s.moment }; begun = inl (refl, subst (EventOpenedIn secrets setup past) (sym same_number) came.came.event); stage = tt; closed = λ e. absurd (cc) })
+      (beside_fact near s.moment past (Opened j) refl) (still_none secrets setup past s g near opens.peer (Opening opens.n near a.ni) was s.moment (Opened j) tt (Some new))
+      (still_unsought past near s.moment (Opened j) (none_searches secrets setup past s g near opens.peer (Opening opens.n near a.ni) was) None)
       (ids_same setup.config.max_sessions (ids_in_use past) s t g.ids all_used
       (moved_one (len (remove s.startup.attempts near)) (len (insert s.sessions near new)) (len s.startup.attempts) (len s.sessions)
       (len_less s.startup.attempts near a opens.there) (some_entry s.startup.attempts near a opens.there) (len_new s.sessions near new no_session)))
@@ -136,14 +144,14 @@ module _ (setup : Setup) (from : AddressParts) (datagram : List ℕ) (draws : Dr
       (rows_after_known s.startup.ledger (Opened j) setup.config.max_peers (knows_held s.startup.ledger opens.peer (Opening opens.n near a.ni) held_is) tied.rows))
       ((subst gave held_is (gave_opened s.startup.ledger opens.peer j.nr j.far j.k)) 0 (facts_of past) tied.account) (omega (arith, tied.few))
 
-  answers : IsRead setup near datagram packet → IsAmong c (chunks_of packet) → c.kind ≡ 0x78 → AnswersAttempt (own_secrets setup) setup.generation j datagram
-  answers read among kind =
+  answers : IsAmong c (chunks_of packet) → c.kind ≡ 0x78 → AnswersAttempt secrets generation j datagram
+  answers among kind =
       let keying : ResponderKeying = opens.keying in
-      let says = responder_says c.payload keying (read.bytes c among) opens.reads in
+      let says = responder_says c.payload keying (came.came.read.bytes c among) opens.reads in
       let signed = responder_signed group.secret c.payload keying.near (responder_part keying.part.nr keying.part.k keying.part.responder keying.part.ni) keying.sign says.spells opens.signed in
       record {
         packet = packet;
-        reads = read.reads;
+        reads = came.came.read.reads;
         chunk = c;
         among = among;
         sign = keying.sign;
@@ -152,19 +160,19 @@ module _ (setup : Setup) (from : AddressParts) (datagram : List ℕ) (draws : Dr
             (subst (λ n. Spells (RIKeying j.far (responder_part j.nr j.k j.peer n) keying.sign) 0x78 c.payload) opens.ni
             (subst (λ r. Spells (RIKeying j.far (responder_part j.nr j.k r keying.part.ni) keying.sign) 0x78 c.payload) opens.responder says.spells));
         number = says.number;
-        signed = own_signed setup (StartupContext setup.generation) refl near datagram read.reads.plain read.reads.opens c.payload keying.sign (subst (λ (x : GroupSecret). IsSigned x.secret c.payload keying.sign) one signed);
+        signed = signed_known secrets (StartupContext generation) group.secret (ap (get secrets) (sym same_number) ∙ known) near datagram came.came.read.reads.plain came.came.read.reads.opens c.payload keying.sign signed;
       }
 
   told : opened s.startup near c.payload ≡ Some (Opened j)
   told = ap (λ (o : Option AttemptState). opened_reading near o (responder_keying_in c.payload)) opens.there ∙ ap (opened_reading near (Some a)) opens.reads ∙ ap (opened_as near opens.keying opens.a.ni) opens.aims
 
-  pub goes_responder : IsRead setup near datagram packet → IsAmong c (chunks_of packet) → c.kind ≡ 0x78 → Goes setup (Receive from datagram draws) past s (responder_keyed s near from c.payload)
-  goes_responder read among kind =
+  pub goes_responder : IsAmong c (chunks_of packet) → c.kind ≡ 0x78 → Goes secrets setup (Receive from datagram draws) past s (responder_keyed s near from c.payload)
+  goes_responder among kind =
       let first : Did = record { state = t; entries = FactEntry (Opened j) ∷ [] } in
-      let goes : Goes setup (Receive from datagram draws) past s first = record {
-        meets = (((stands_of (own_of setup) t.startup.ledger (Opened j) (facts_of past) opened_tied.own opened_tied.account, answers read among kind), tt), tt);
+      let goes : Goes secrets setup (Receive from datagram draws) past s first = record {
+        meets = (((stands_of (own_of setup) t.startup.ledger (Opened j) (facts_of past) opened_tied.own opened_tied.account, (generation, came.came.before, answers among kind)), tt), tt);
         tied = opened_tied;
         moment = refl;
       } in
-      subst (λ o. Goes setup (Receive from datagram draws) past s (opening_done s near from group o)) (sym told)
-      (goes_then setup (Receive from datagram draws) past s first (λ u. sent_in_session u near from (chunk_bytes (Ping []))) goes (in_session_made (goes_sends setup (Receive from datagram draws)) t near from (chunk_bytes (Ping [])) tt now opened_tied))
+      subst (λ o. Goes secrets setup (Receive from datagram draws) past s (opening_done s near from group o)) (sym told)
+      (goes_then secrets setup (Receive from datagram draws) past s first (λ u. sent_in_session u near from (chunk_bytes (Ping []))) goes (in_session_made (goes_sends secrets setup (Receive from datagram draws)) t near from (chunk_bytes (Ping [])) tt now opened_tied))

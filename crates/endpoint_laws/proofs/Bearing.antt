@@ -36,9 +36,10 @@ use Rattle.startup_packets.specs.Packets.{is_signed}
 use Rattle.startup_packets.specs.Readings.{InitiatorKeying, initiator_keying_in}
 use Rattle.startup.specs.Attempts.{is_own}
 use Rattle.startup.specs.Keyings.{keying_of, heard_cause, named_cause, cookie_cause, repeated_session}
-use Rattle.endpoint_model.specs.Event.{Setup, own_of, first_group}
+use Rattle.endpoint_model.specs.Event.{Setup, own_of}
+use Rattle.endpoint_laws.specs.Contexts.{Secrets, OpensFirst, startup_contexts}
 use Rattle.endpoint_laws.specs.Past.{Past, facts_of}
-use Rattle.endpoint_model.specs.Keying.{IsFirst, IsSigned, chunks_of, initiator_part, IsAmong}
+use Rattle.endpoint_model.specs.Keying.{IsFirst, chunks_of, initiator_part, IsAmong}
 use Rattle.endpoint_laws.specs.Admissible.{Admissible, Offer}
 use Rattle.endpoint_laws.specs.Laws.{AreBytes}
 use Rattle.endpoint_model.specs.State.{State, full}
@@ -48,9 +49,10 @@ use Rattle.endpoint_laws.proofs.Spelled.{initiator_signed}
 use Rattle.endpoint_laws.proofs.Starting.{room_left, row_left}
 use Rattle.endpoint_laws.proofs.Tied.{Tied}
 use Rattle.endpoint_laws.proofs.Admitting.{IsRead}
+use Rattle.std.specs.FinMap.{get}
 use Rattle.crypto_profile.specs.declared.keys.Context.TheVariants.{Startup as StartupContext}
 use Rattle.crypto_profile.specs.declared.group.GroupSecret.{GroupSecret}
-use Rattle.endpoint_laws.proofs.Knowing.{own_secrets, own_signed}
+use Rattle.endpoint_laws.proofs.Knowing.{signed_known}
 
 -- ---- small facts
 
@@ -207,10 +209,10 @@ prevailed own peer (KeptAsInitiator j) other e is = absurd is
 abbrev pub offer_of : InitiatorKeying → Offer
 offer_of keying = record { peer = sha256 keying.cert; n = keying.part.n; ni = keying.part.ni; far = keying.near }
 
-pub admissible : (setup : Setup) (past : Past) (s : State) (from : AddressParts) (datagram : List ℕ) (packet : Whole) (c : Placed) (keying : InitiatorKeying) (group : GroupSecret) → group ≡ first_group setup → Tied setup past s →
-    IsRead setup 0 datagram packet → packet.head.mode ≡ StartupMode → IsAmong c (chunks_of packet) → IsFirst c (chunks_of packet) → c.kind ≡ 0x38 → IsHeard s group from c.payload keying →
-    cookie_test s.startup.cookie_secret keying.cookie from s.moment ≡ Current → IsNamed s keying → MayBear s (keying_of keying) → Admissible (own_secrets setup) setup past s.moment from datagram (offer_of keying)
-admissible setup past s from datagram packet c keying group one tied read mode among first kind heard current named may =
+pub admissible : (secrets : Secrets) (setup : Setup) (past : Past) (s : State) (from : AddressParts) (datagram : List ℕ) (packet : Whole) (c : Placed) (keying : InitiatorKeying) (group : GroupSecret) (generation : ℕ) → get secrets generation ≡ Some group.secret → Tied secrets setup past s →
+    (read : IsRead secrets generation 0 datagram packet) → OpensFirst secrets (startup_contexts setup past) 0 datagram (StartupContext generation) read.reads.plain → packet.head.mode ≡ StartupMode → IsAmong c (chunks_of packet) → IsFirst c (chunks_of packet) → c.kind ≡ 0x38 → IsHeard s group from c.payload keying →
+    cookie_test s.startup.cookie_secret keying.cookie from s.moment ≡ Current → IsNamed s keying → MayBear s (keying_of keying) → Admissible secrets setup past s.moment from datagram (offer_of keying)
+admissible secrets setup past s from datagram packet c keying group generation known tied read opens mode among first kind heard current named may =
     let facts : List Fact = facts_of past in
     let peer : List ℕ = sha256 keying.cert in
     let says = initiator_says c.payload keying (read.bytes c among) heard.reads in
@@ -221,7 +223,9 @@ admissible setup past s from datagram packet c keying group one tied read mode a
     let signed = initiator_signed group.secret c.payload keying.near keying.cookie keying.cert (initiator_part keying.part.ni keying.part.n keying.part.responder) keying.sign says.spells heard.signed in
     record {
       packet = packet;
+      generation = generation;
       reads = read.reads;
+      opens = opens;
       mode = mode;
       chunk = c;
       first = first;
@@ -236,7 +240,7 @@ admissible setup past s from datagram packet c keying group one tied read mode a
       far = says.some;
       is_cert = good_certificate keying.cert says.good;
       peer = refl;
-      signed = own_signed setup (StartupContext setup.generation) refl 0 datagram read.reads.plain read.reads.opens c.payload keying.sign (subst (λ (x : GroupSecret). IsSigned x.secret c.payload keying.sign) one signed);
+      signed = signed_known secrets (StartupContext generation) group.secret known 0 datagram read.reads.plain read.reads.opens c.payload keying.sign signed;
       narrow = narrow_is (length keying.cookie) heard.narrow;
       current = subst (λ x. IsAnswer x keying.cookie from s.moment Current) tied.cookie_secret
           (subst (IsAnswer s.startup.cookie_secret keying.cookie from s.moment) current (test_is_right s.startup.cookie_secret keying.cookie from s.moment (to_bytes keying.cookie says.cookie_are)));
@@ -244,9 +248,9 @@ admissible setup past s from datagram packet c keying group one tied read mode a
       above = subst (λ n. n < keying.part.n) (reads_floor 0 s.startup.ledger facts tied.account peer) may.above;
       prevails = λ thing is attempt.
           prevailed (own_of setup) peer thing other (subst (λ o. glare_of o peer (Some thing) ≡ None) tied.own (subst (λ o. glare_of s.startup.ledger.own peer o ≡ None) (held_is ∙ is) may.glare)) attempt;
-      row = elim (row_left setup past s peer tied may.row) [
+      row = elim (row_left secrets setup past s peer tied may.row) [
         | inl known ↦ inl (sym (reads_knows 0 s.startup.ledger facts tied.account peer) ∙ known)
         | inr less ↦ inr (subst (λ n. n < setup.config.max_peers) (reads_rows 0 s.startup.ledger facts tied.account) less)
       ];
-      place = λ none. subst (λ n. n < setup.config.max_sessions) tied.count (room_left setup past s tied (may.place (held_is ∙ none)));
+      place = λ none. subst (λ n. n < setup.config.max_sessions) tied.count (room_left secrets setup past s tied (may.place (held_is ∙ none)));
     }

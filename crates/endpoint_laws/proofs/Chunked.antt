@@ -27,6 +27,7 @@ use Rattle.endpoint_model.specs.declared.config.Draws.{Draws}
 use Rattle.endpoint_model.specs.declared.place.Place.{Place}
 use Rattle.endpoint_model.specs.declared.place.Place.TheVariants.{Startup, Attempt, Session}
 use Rattle.endpoint_model.specs.Event.{Setup, Call, Receive}
+use Rattle.endpoint_laws.specs.Contexts.{Secrets}
 use Rattle.endpoint_laws.specs.Past.{Past}
 use Rattle.endpoint_model.specs.Keying.{IsAmong, IsFirst, chunks_of}
 use Rattle.endpoint_model.specs.State.{State, full}
@@ -42,8 +43,9 @@ use Rattle.endpoint_laws.proofs.ByKind.{told_kinds, not_false, chunk_by_kind}
 use Rattle.endpoint_laws.proofs.Going.{Goes, goes_discarded}
 use Rattle.endpoint_laws.proofs.Made.{by_hello, not_in_session, not_in_attempt}
 use Rattle.endpoint_laws.proofs.Spelled.{hello_kind}
+use Rattle.endpoint_model.specs.Sending.{is_spent}
 use Rattle.endpoint_laws.proofs.Searching.{hello_goes}
-use Rattle.endpoint_laws.proofs.Replies.{goes_read, goes_other}
+use Rattle.endpoint_laws.proofs.Replies.{goes_read, goes_spent, goes_other}
 use Rattle.endpoint_laws.proofs.FlowChunks.{goes_flow_taken}
 use Rattle.endpoint_laws.proofs.Passing.{PassedAt}
 use Rattle.endpoint_laws.proofs.SessionChunks.{goes_told}
@@ -152,60 +154,60 @@ pub either_way : (b : Bool) → (b ≡ true) ⊎ (b ≡ false)
 either_way true = inl refl
 either_way false = inr refl
 
-module _ (setup : Setup) (from : AddressParts) (datagram : List ℕ) (draws : Draws) (most : setup.config.max_sessions ≤ 65536) (small : draws.word < 2 ^ 32) (packet : Whole) where
+module _ (secrets : Secrets) (setup : Setup) (from : AddressParts) (datagram : List ℕ) (draws : Draws) (most : setup.config.max_sessions ≤ 65536) (small : draws.word < 2 ^ 32) (packet : Whole) where
   abbrev call : Call
   call = Receive from datagram draws
 
-  initiator_goes : (s : State) (past : Past) (place : Place) (walk : Walk) (c : Placed) → Tied setup past s → Came setup datagram place packet → IsAmong c (chunks_of packet) → (walk.keyed ≡ false → c.kind ≡ 0x38 → IsFirst c (chunks_of packet)) →
-      c.kind ≡ 0x38 → takes place 0x38 ≡ true → initiator_keying_cause s place walk from c.payload ≡ None → fault_in (initiator_keying_in c.payload) ≡ None → Goes setup call past s (initiator_keyed s place from draws c.payload)
+  initiator_goes : (s : State) (past : Past) (place : Place) (walk : Walk) (c : Placed) → Tied secrets setup past s → Came secrets setup past s datagram place packet → IsAmong c (chunks_of packet) → (walk.keyed ≡ false → c.kind ≡ 0x38 → IsFirst c (chunks_of packet)) →
+      c.kind ≡ 0x38 → takes place 0x38 ≡ true → initiator_keying_cause s place walk from c.payload ≡ None → fault_in (initiator_keying_in c.payload) ≡ None → Goes secrets setup call past s (initiator_keyed s place from draws c.payload)
   initiator_goes s past (Startup generation) walk c tied came among first kind taken none formed =
       let reads = read_ok (initiator_keying_in c.payload) formed in
       let both = keyed_none s (Startup generation) walk from c.payload none in
-      goes_initiator setup from datagram draws most small past s tied reads.0 generation packet c came.0 came.1 among (first both.0 kind) kind (heard_of s (group_at s (Startup generation)) from c.payload reads.0 reads.1 both.1)
+      goes_initiator secrets setup from datagram draws most small past s tied reads.0 generation came.group came.came.event packet c came.came.read came.opens came.mode among (first both.0 kind) kind (heard_of s (group_at s (Startup generation)) from c.payload reads.0 reads.1 both.1)
   initiator_goes s past (Attempt near generation) walk c tied came among first kind taken none formed = absurd (cc)
   initiator_goes s past (Session near) walk c tied came among first kind taken none formed = absurd (cc)
 
-  responder_goes : (s : State) (past : Past) (place : Place) (c : Placed) → Tied setup past s → Came setup datagram place packet → IsAmong c (chunks_of packet) →
-      c.kind ≡ 0x78 → takes place 0x78 ≡ true → responder_keying_cause s place c.payload ≡ None → fault_in (responder_keying_in c.payload) ≡ None → Goes setup call past s (responder_keyed s (sid_at place) from c.payload)
+  responder_goes : (s : State) (past : Past) (place : Place) (c : Placed) → Tied secrets setup past s → Came secrets setup past s datagram place packet → IsAmong c (chunks_of packet) →
+      c.kind ≡ 0x78 → takes place 0x78 ≡ true → responder_keying_cause s place c.payload ≡ None → fault_in (responder_keying_in c.payload) ≡ None → Goes secrets setup call past s (responder_keyed s (sid_at place) from c.payload)
   responder_goes s past (Startup generation) c tied came among kind taken none formed = absurd (cc)
   responder_goes s past (Attempt near generation) c tied came among kind taken none formed =
       let reads = read_ok (responder_keying_in c.payload) formed in
-      goes_responder setup from datagram draws packet past s tied near c (opening_of s near generation c.payload reads.0 reads.1 none) came among kind
+      goes_responder secrets setup from datagram draws packet past s tied near generation came c (opening_of s near generation c.payload reads.0 reads.1 none) among kind
   responder_goes s past (Session near) c tied came among kind taken none formed = absurd (cc)
 
-  told_goes : (s : State) (past : Past) (place : Place) (c : Placed) → Tied setup past s → PassedAt past place datagram packet s → IsAmong c (chunks_of packet) → is_told_in_session c.kind ≡ true →
-      takes place c.kind ≡ true → has_state_for s place c.kind ≡ true → Goes setup call past s (told_in_session s (sid_at place) from c)
+  told_goes : (s : State) (past : Past) (place : Place) (c : Placed) → Tied secrets setup past s → PassedAt past place datagram packet s → IsAmong c (chunks_of packet) → is_told_in_session c.kind ≡ true →
+      takes place c.kind ≡ true → has_state_for s place c.kind ≡ true → Goes secrets setup call past s (told_in_session s (sid_at place) from c)
   told_goes s past (Startup generation) c tied passed among told taken has = absurd (not_at_startup c.kind (told_kinds c.kind told) taken)
   told_goes s past (Attempt near generation) c tied passed among told taken has = absurd (not_at_attempt near c.kind (told_kinds c.kind told) taken)
-  told_goes s past (Session near) c tied passed among told taken has = goes_told setup from datagram draws packet past s tied near passed c among has
+  told_goes s past (Session near) c tied passed among told taken has = goes_told secrets setup from datagram draws packet past s tied near passed c among has
 
   good_cert : (cert : List ℕ) (at : ℕ) → where_true (is_some (certificate_fault cert)) (Malformed at) ≡ None → is_some (certificate_fault cert) ≡ false
   good_cert cert at none = test_fails (is_some (certificate_fault cert)) (Malformed at) none
 
-  hello_at : (s : State) (past : Past) (place : Place) (c : Placed) → Tied setup past s → Came setup datagram place packet → IsAmong c (chunks_of packet) → (tag cookie cert : List ℕ) → chunk_reading c.kind c.payload ≡ Ok (RHello tag cookie cert) →
-      takes place c.kind ≡ true → read_fault (length c.payload) (Ok (RHello tag cookie cert)) ≡ None → read_cause s place from (Ok (RHello tag cookie cert)) ≡ None → Goes setup call past s (read_done s place from (Ok (RHello tag cookie cert)))
+  hello_at : (s : State) (past : Past) (place : Place) (c : Placed) → Tied secrets setup past s → Came secrets setup past s datagram place packet → IsAmong c (chunks_of packet) → (tag cookie cert : List ℕ) → chunk_reading c.kind c.payload ≡ Ok (RHello tag cookie cert) →
+      takes place c.kind ≡ true → read_fault (length c.payload) (Ok (RHello tag cookie cert)) ≡ None → read_cause s place from (Ok (RHello tag cookie cert)) ≡ None → Goes secrets setup call past s (read_done s place from (Ok (RHello tag cookie cert)))
   hello_at s past (Startup generation) c tied came among tag cookie cert is taken formed none =
       let o = lowest (has_tag tag) s.startup.attempts in
       let all = all_none (wide tag ∷ wide cookie ∷ hello_cause_at s.startup o cert ∷ []) none in
-      goes_read setup call s (Startup generation) from (Ok (RHello tag cookie cert))
-      (λ p t. hello_goes setup from datagram draws packet c came.0 among p s t (Startup generation) tag cookie cert is (good_cert cert _ formed) o refl all.1.1.0) past tied
+      goes_read secrets setup call past s (Startup generation) from (Ok (RHello tag cookie cert)) (goes_spent secrets setup call past s (Startup generation) from tag cookie cert tied (is_spent s) refl
+      (λ unspent. hello_goes secrets setup from datagram draws packet c generation among past came.came s tied (Startup generation) tag cookie cert is (good_cert cert _ formed) o refl all.1.1.0))
   hello_at s past (Attempt near generation) c tied came among tag cookie cert is taken formed none = absurd (not_in_attempt near generation c.kind (hello_kind c.kind c.payload tag cookie cert is) taken)
   hello_at s past (Session near) c tied came among tag cookie cert is taken formed none = absurd (not_in_session near c.kind (hello_kind c.kind c.payload tag cookie cert is) taken)
 
-  read_goes : (s : State) (past : Past) (place : Place) (c : Placed) → Tied setup past s → Came setup datagram place packet → IsAmong c (chunks_of packet) → (read : Result Chunk ChunkFault) → chunk_reading c.kind c.payload ≡ read →
-      takes place c.kind ≡ true → read_fault (length c.payload) read ≡ None → read_cause s place from read ≡ None → Goes setup call past s (read_done s place from read)
+  read_goes : (s : State) (past : Past) (place : Place) (c : Placed) → Tied secrets setup past s → Came secrets setup past s datagram place packet → IsAmong c (chunks_of packet) → (read : Result Chunk ChunkFault) → chunk_reading c.kind c.payload ≡ read →
+      takes place c.kind ≡ true → read_fault (length c.payload) read ≡ None → read_cause s place from read ≡ None → Goes secrets setup call past s (read_done s place from read)
   read_goes s past place c tied came among =
-      by_hello (λ read. chunk_reading c.kind c.payload ≡ read → takes place c.kind ≡ true → read_fault (length c.payload) read ≡ None → read_cause s place from read ≡ None → Goes setup call past s (read_done s place from read))
+      by_hello (λ read. chunk_reading c.kind c.payload ≡ read → takes place c.kind ≡ true → read_fault (length c.payload) read ≡ None → read_cause s place from read ≡ None → Goes secrets setup call past s (read_done s place from read))
       (λ tag cookie cert is taken formed none. hello_at s past place c tied came among tag cookie cert is taken formed none)
-      (λ read other is taken formed none. goes_read setup call s place from read (goes_other setup call s place from read other) past tied)
+      (λ read other is taken formed none. goes_read secrets setup call past s place from read (goes_other secrets setup call s place from read other past tied))
 
-  pub chunk_goes : (s : State) (past : Past) (place : Place) (walk : Walk) (c : Placed) → Tied setup past s → Came setup datagram place packet → PassedAt past place datagram packet s → IsAmong c (chunks_of packet) → (walk.keyed ≡ false → c.kind ≡ 0x38 → IsFirst c (chunks_of packet)) →
-      Goes setup call past s (chunk_did place from draws walk s c)
-  chunk_goes s past place walk c tied came passed among first = chunk_by_kind (λ d. Goes setup call past s d) place from draws walk s c (record {
-    discarded = λ cause. goes_discarded setup call s c.at cause past tied;
+  pub chunk_goes : (s : State) (past : Past) (place : Place) (walk : Walk) (c : Placed) → Tied secrets setup past s → Came secrets setup past s datagram place packet → PassedAt past place datagram packet s → IsAmong c (chunks_of packet) → (walk.keyed ≡ false → c.kind ≡ 0x38 → IsFirst c (chunks_of packet)) →
+      Goes secrets setup call past s (chunk_did place from draws walk s c)
+  chunk_goes s past place walk c tied came passed among first = chunk_by_kind (λ d. Goes secrets setup call past s d) place from draws walk s c (record {
+    discarded = λ cause. goes_discarded secrets setup call s c.at cause past tied;
     initiator = λ kind taken none formed. initiator_goes s past place walk c tied came among first kind taken none formed;
     responder = λ kind taken none formed. responder_goes s past place c tied came among kind taken none formed;
     told = λ told taken has. told_goes s past place c tied passed among told taken has;
-    flows = λ is taken none. goes_flow_taken setup call s (sid_at place) (data_reading walk.cursor c.kind c.payload) past tied;
+    flows = λ is taken none. goes_flow_taken secrets setup call s (sid_at place) (data_reading walk.cursor c.kind c.payload) past tied;
     reads = λ taken formed none. read_goes s past place c tied came among (chunk_reading c.kind c.payload) refl taken formed none;
   })

@@ -18,8 +18,8 @@ use Rattle.rtmfp_packet.proofs.Readings.{packet_reading_same}
 use Rattle.rtmfp_chunks.specs.Chunk.{Ping, parts_of}
 use Rattle.rtmfp_chunks.proofs.WritingLaws.{parts_bytes-spell}
 use Rattle.crypto_profile.specs.declared.keys.Context.TheVariants.{Startup as StartupContext}
-use Rattle.crypto_profile.specs.Keys.{keys_of, startup_keys_of}
-use Rattle.crypto_profile.specs.Opening.{open_refusal, plain_of}
+use Rattle.crypto_profile.specs.Keys.{keys_of}
+use Rattle.crypto_profile.specs.Opening.{plain_of}
 use Rattle.crypto_profile.specs.Sealing.{sealed_in, sealed}
 use Rattle.crypto_profile.proofs.Opened.{opens_by_its_tag}
 use Rattle.packet_scramble.specs.Datagram.{datagram, sid_of}
@@ -45,7 +45,8 @@ use Rattle.session_core.specs.Session.{new_session, head_at}
 use Rattle.session_core.specs.Sealed.{number_bytes}
 use Rattle.glare_core.specs.Tells.{as_initiator}
 use Rattle.rtmfp_chunks.specs.Writing.{chunk_bytes}
-use Rattle.endpoint_laws.specs.Contexts.{session_context, Secrets, Knows}
+use Rattle.crypto_profile.specs.declared.keys.Context.{Context}
+use Rattle.endpoint_laws.specs.Contexts.{session_context, Secrets, OpensFirst, startup_contexts, next_contexts}
 use Rattle.session_core.specs.declared.stage.Role.TheVariants.{Initiator}
 use Rattle.endpoint_model.specs.declared.row.Row.{Row}
 use Rattle.endpoint_model.specs.declared.walk.Walk.{Walk}
@@ -54,23 +55,27 @@ use Rattle.endpoint_model.specs.declared.place.Place.{Place}
 use Rattle.endpoint_model.specs.declared.place.Place.TheVariants.{Startup, Attempt}
 use Rattle.endpoint_model.specs.declared.entry.Entry.{Entry}
 use Rattle.endpoint_model.specs.declared.entry.Entry.TheVariants.{Fact as FactEntry, Out}
-use Rattle.endpoint_model.specs.Event.{Setup, own_of, Receive, Answer as CallAnswer, Began, Searching, Done, NotOpened, NotSought, Refused, NotAdded, Stopped, OutOfMemory, first_group}
-use Rattle.endpoint_laws.specs.Past.{Past, onto, facts_of, past_of, last_moment}
+use Rattle.endpoint_model.specs.Event.{Setup, own_of, Receive, Answer as CallAnswer, Began, Searching, Succeeds, Done, NotOpened, NotSought, Refused, NotAdded, Stopped, OutOfMemory, Event}
+use Rattle.endpoint_model.specs.Views.{fact_in, closed_in, sought_in, unsought_in}
+use Rattle.endpoint_laws.specs.Past.{Past, begun, stamped, onto, fact_and, facts_of, ids_in_use, ids_after, ids_left, ids_sought, unsought_id, next_of, was_gone_through, past_of, last_moment}
 use Rattle.std.specs.List.{AllByRecursion}
 use Rattle.endpoint_model.specs.Keying.{chunks_of}
 use Rattle.endpoint_laws.specs.Admissible.{Admissible, Offer}
 use Rattle.endpoint_laws.specs.Lawful.{AnswersAttempt}
 use Rattle.endpoint_model.specs.State.{State, full, new_row, Did, nothing, then_do, fact_entries, with_startup, free_from, fresh, at_moment}
 use Rattle.endpoint_model.specs.Sending.{last_count, startup_number, startup_datagram, session_packet, session_datagram, sent_by}
-use Rattle.endpoint_model.specs.Admission.{Admission, Rejected, Admitted, opened_by, opened_datagram, admission, admitted, admitted_packet, packet_in, has_mode, confirming, places_of, group_at, placed_or, attempt_group, opened_first}
+use Rattle.endpoint_model.specs.Admission.{Admission, Rejected, Admitted, opened_datagram, admission, admitted, admitted_packet, packet_in, has_mode, confirming, places_of, known_group, group_at, attempt_group, opened_first}
 use Rattle.endpoint_model.specs.Causes.{form_cause, initiator_keying_cause, last_cause, chunk_cause}
 use Rattle.endpoint_model.specs.InSessions.{tested as tested_at}
 use Rattle.endpoint_model.specs.FlowChunks.{acked, unowed}
-use Rattle.endpoint_laws.proofs.Hearing.{HeardWell, known_more}
+use Rattle.endpoint_laws.proofs.Hearing.{HeardWell}
+use Rattle.endpoint_laws.proofs.Passing.{PassedAt}
+use Rattle.endpoint_laws.proofs.HeardEvents.{IsWell, AdmissionHeard, gone_through_is}
+use Rattle.endpoint_laws.proofs.HeardAdmission.{heard_admission}
 use Rattle.endpoint_model.specs.Effects.{with_born, keying_done, initiator_keyed, responder_keyed, with_opened, opening_done, discarded_or, chunk_did, walked, chunks_did, received, part_received, outset, most_acks, walked_and_acked}
 use Rattle.endpoint_model.specs.Log.{Answers}
 use Rattle.endpoint_laws.specs.Laws.{IsSetup, IsCall}
-use Rattle.endpoint_laws.specs.Complete.{WentThrough, IsBehind, IsPing, outs_in, at_initiator, IsOfOffer, IsBornAndTold, AdmissibleKeyingsBear, OpensItsSession, KeyingsWithoutCauseOpen, done_up_to}
+use Rattle.endpoint_laws.specs.Complete.{WentThrough, IsBehind, IsPing, outs_in, at_initiator, IsOfOffer, IsBornAndTold, AdmissibleKeyingsBear, OpensItsSession, KeyingsWithoutCauseOpen, done_up_to, taken_event}
 use Rattle.endpoint_laws.proofs.Bytes.{of_bytes, plain_is}
 use Rattle.endpoint_model.proofs.Reading.{packet_reads}
 use Rattle.endpoint_laws.proofs.Facts.{all_none}
@@ -79,24 +84,24 @@ use Rattle.endpoint_laws.proofs.Tied.{Tied}
 use Rattle.endpoint_laws.proofs.Moving.{tied_alike}
 use Rattle.endpoint_laws.proofs.Going.{Goes}
 use Rattle.endpoint_model.proofs.Steps.{walk_through, then_nothing}
-use Rattle.endpoint_laws.proofs.Admitting.{Came, AdmissionIs, admission_is}
+use Rattle.endpoint_laws.proofs.Admitting.{Came, IsTaken, AdmissionIs, admission_is}
 use Rattle.endpoint_laws.proofs.Answering.{OpensAttempt}
 use Rattle.endpoint_laws.proofs.ByKind.{causes}
 use Rattle.endpoint_laws.proofs.Chunked.{read_ok, opening_of}
 use Rattle.endpoint_laws.proofs.OutSends.{Sent}
 use Rattle.endpoint_laws.proofs.Orderly.{Orderly, chunks_orderly}
-use Rattle.endpoint_laws.proofs.Logged.{LogIs, log_is}
+use Rattle.endpoint_laws.proofs.Logged.{Begun, LogIs, log_is, holds_begun, named_by}
 use Rattle.endpoint_laws.proofs.OutBirths.{small_free}
 use Rattle.endpoint_laws.proofs.Few.{outs_append, few_law, few_begins}
 use Rattle.endpoint_laws.proofs.Made.{chunks_made}
 use Rattle.endpoint_laws.proofs.OutPackets.{one_whole, session_reads}
 use Rattle.endpoint_laws.proofs.ReadsBack.{none_all, less_is_other, IsBearing, read_as, is_bearing}
 use Rattle.endpoint_laws.proofs.AnswerCarried.{keying_answers}
-use Rattle.endpoint_laws.proofs.Kin.{group_is_one}
-use Rattle.endpoint_laws.proofs.Groups.{startup_place}
+use Rattle.endpoint_laws.proofs.Kin.{HoldsSecrets, group_known}
+use Rattle.endpoint_laws.proofs.OpensHere.{opens_first_there}
+use Rattle.endpoint_laws.proofs.Succeeding.{StaysInGroup, stays_law, stays_begins, current_onto, next_onto}
+use Rattle.endpoint_laws.specs.Groups.{number_in}
 use Rattle.crypto_profile.specs.declared.group.GroupSecret.{GroupSecret}
-use Rattle.endpoint_laws.proofs.Knowing.{own_secrets, known_opens, own_known}
-use Rattle.endpoint_laws.proofs.ByMap.{admissible_by, answers_by}
 
 -- ---- the chunks before a keying
 
@@ -104,12 +109,6 @@ use Rattle.endpoint_laws.proofs.ByMap.{admissible_by, answers_by}
 abbrev AreOthers : List Placed → Type 0
 AreOthers [] = Unit {0}
 AreOthers (c ∷ cs) = (c.kind ≢ 0x38) × AreOthers cs
-
-record Split (c : Placed) (cs : List Placed) : Type 0 where
-  front : List Placed
-  back : List Placed
-  whole : cs ≡ front ++ c ∷ back
-  others : AreOthers front
 
 others_of : (c : Placed) (front : List Placed) → c.kind ≡ 0x38 → AllByRecursion (λ (x : Placed). x.kind ≢ c.kind) front → AreOthers front
 others_of c [] kind none = tt
@@ -148,8 +147,8 @@ heard_own l (Again near) = refl
 heard_own l (Birth None born) = refl
 heard_own l (Birth (Some ended) born) = refl
 
-module _ (setup : Setup) (past : Past) (u : State) (tied : Tied setup past u) (from : AddressParts) (draws : Draws) (payload : List ℕ) (keying : InitiatorKeying) (b : IsBearing u (group_at u (Startup setup.generation)) from payload keying)
-    (some : (u.sealed == last_count) ≡ false) where
+module _ (secrets : Secrets) (setup : Setup) (past : Past) (u : State) (tied : Tied secrets setup past u) (from : AddressParts) (draws : Draws) (payload : List ℕ) (keying : InitiatorKeying) (generation : ℕ) (its : (group_at u (Startup generation)).generation ≡ generation)
+    (b : IsBearing u (group_at u (Startup generation)) from payload keying) (some : (u.sealed == last_count) ≡ false) where
   abbrev k : Keying
   k = keying_of keying
 
@@ -167,10 +166,10 @@ module _ (setup : Setup) (past : Past) (u : State) (tied : Tied setup past u) (f
 
   -- the secret under which it came
   abbrev group : GroupSecret
-  group = group_at u (Startup setup.generation)
+  group = group_at u (Startup generation)
 
-  one : group ≡ first_group setup
-  one = group_is_one setup u tied.one (Startup setup.generation)
+  known : get secrets generation ≡ Some group.secret
+  known = ap (get secrets) (sym its) ∙ group_known secrets u tied.holds (Startup generation)
 
   abbrev answer : Answer
   answer = session_answer u.startup j from group
@@ -193,16 +192,16 @@ module _ (setup : Setup) (past : Past) (u : State) (tied : Tied setup past u) (f
   abbrev by_repeat : Option Joined → Did
   by_repeat o = keying_done (with_startup u (after_again_or_birth u.startup k near draws.nonce group o)) from group (again_or_birth u.startup k from near draws.nonce group o)
 
-  keyed_so : initiator_keyed u (Startup setup.generation) from draws payload ≡ by_repeat None
+  keyed_so : initiator_keyed u (Startup generation) from draws payload ≡ by_repeat None
   keyed_so = ap by_reading b.reads ∙ ap by_test b.current ∙ ap by_repeat b.repeated
 
-  born_entries : (initiator_keyed u (Startup setup.generation) from draws payload).entries ≡ fact_entries way ++ FactEntry (Born j) ∷ Out from sent (StartupContext setup.generation) ∷ []
+  born_entries : (initiator_keyed u (Startup generation) from draws payload).entries ≡ fact_entries way ++ FactEntry (Born j) ∷ Out from sent (StartupContext generation) ∷ []
   born_entries =
       ap (λ (d : Did). d.entries) keyed_so
       ∙ ap (λ (d : Did). (fact_entries way ++ FactEntry (Born j) ∷ []) ++ d.entries)
       (false_is (u.sealed == last_count) (nothing t) (record { state = record t { sealed = t.sealed + 1 }; entries = Out from sent (StartupContext group.generation) ∷ [] }) some)
       ∙ append_assoc (fact_entries way) (FactEntry (Born j) ∷ []) (Out from sent (StartupContext group.generation) ∷ [])
-      ∙ ap (λ (x : GroupSecret). fact_entries way ++ FactEntry (Born j) ∷ Out from sent (StartupContext x.generation) ∷ []) one
+      ∙ ap (λ (n : ℕ). fact_entries way ++ FactEntry (Born j) ∷ Out from sent (StartupContext n) ∷ []) its
 
   abbrev number : List ℕ
   number = startup_number (own_of setup) (u.sealed + 1)
@@ -213,94 +212,116 @@ module _ (setup : Setup) (past : Past) (u : State) (tied : Tied setup past u) (f
   print_is : sha256 u.startup.cert ≡ own_of setup
   print_is = ap sha256 tied.cert
 
-  sent_is : sent ≡ datagram j.far (sealed_in setup.secret (StartupContext setup.generation) j.far number (rikeying_packet setup.secret j.near j.nr j.k (own_of setup) j.ni))
+  sent_is : sent ≡ datagram j.far (sealed_in group.secret (StartupContext generation) j.far number (rikeying_packet group.secret j.near j.nr j.k (own_of setup) j.ni))
   sent_is =
       ap (λ (o : List ℕ). datagram j.far (sealed answer.keys j.far (startup_number o (u.sealed + 1)) answer.plain)) own_is
-      ∙ ap (λ (x : GroupSecret). datagram j.far (sealed (startup_keys_of x) j.far number (rikeying_packet x.secret j.near j.nr j.k (sha256 u.startup.cert) j.ni))) one
-      ∙ ap (λ (o : List ℕ). datagram j.far (sealed_in setup.secret (StartupContext setup.generation) j.far number (rikeying_packet setup.secret j.near j.nr j.k o j.ni))) print_is
+      ∙ ap (λ (n : ℕ). datagram j.far (sealed_in group.secret (StartupContext n) j.far number (rikeying_packet group.secret j.near j.nr j.k (sha256 u.startup.cert) j.ni))) its
+      ∙ ap (λ (o : List ℕ). datagram j.far (sealed_in group.secret (StartupContext generation) j.far number (rikeying_packet group.secret j.near j.nr j.k o j.ni))) print_is
 
   number_size : length number ≡ 16
   number_size = omega (arith, length-append (take 8 (own_of setup)) (to_be_bytes w64 (u.sealed + 1)), length-take-le 8 (own_of setup) (omega (arith, length-sha256 setup.cert)))
 
-  born_answers : j.far < 2 ^ 32 → length j.ni ≡ 16 → j.k < 2 ^ 64 → IsCall (Receive from [] draws) → AnswersAttempt (own_secrets setup) setup.generation (at_initiator (own_of setup) j) sent
+  born_answers : j.far < 2 ^ 32 → length j.ni ≡ 16 → j.k < 2 ^ 64 → IsCall (Receive from [] draws) → AnswersAttempt secrets generation (at_initiator (own_of setup) j) sent
   born_answers far ni few fits =
-      subst (AnswersAttempt (own_secrets setup) setup.generation (at_initiator (own_of setup) j)) (sym sent_is)
-      (keying_answers setup j number far (small_free u draws.word fits.2) (omega (arith, ni)) (omega (arith, fits.1)) number_size few)
+      subst (AnswersAttempt secrets generation (at_initiator (own_of setup) j)) (sym sent_is)
+      (keying_answers secrets setup generation group.secret known j number far (small_free u draws.word fits.2) (omega (arith, ni)) (omega (arith, fits.1)) number_size few)
 
--- ---- a datagram with an admissible keying
+-- ---- a datagram with an admissible keying opens so
 
-module _ (setup : Setup) (past : Past) (s : State) (tied : Tied setup past s) (sent_so : Sent setup past s) (well : HeardWell past s) (from : AddressParts) (datagram : List ℕ) (draws : Draws) (offer : Offer) (now : ℕ) (front : List Placed)
-    (a : Admissible (own_secrets setup) setup (onto s.moment (chunks_did (Startup setup.generation) from draws outset s front).entries past) now from datagram offer) (at : s.moment ≡ now) (is : IsSetup setup) (fits : IsCall (Receive from datagram draws))
-    (other : offer.peer ≢ own_of setup) (gone rest : List Placed) (goes : chunks_of a.packet ≡ gone ++ rest) (behind : IsBehind front a.chunk gone) where
+module _ (secrets : Secrets) (setup : Setup) (s : State) (holds : HoldsSecrets secrets s) (from : AddressParts) (datagram : List ℕ) (offer : Offer) (now : ℕ) (before : Past) (a : Admissible secrets setup before now from datagram offer) (bytes : IsBytes datagram)
+    (contexts : startup_contexts setup before ≡ StartupContext s.group.generation ∷ next_contexts (number_in s.next)) where
   abbrev part : List ℕ
   part = drop 4 datagram
-
-  bytes : IsBytes datagram
-  bytes = of_bytes datagram fits.0
 
   abbrev plain : List ℕ
   plain = a.reads.plain
 
-  opens_so : (open_refusal (keys_of setup.secret (StartupContext setup.generation)) 0 part ≡ None) × (plain ≡ plain_of (keys_of setup.secret (StartupContext setup.generation)) part)
-  opens_so = let told = (opens_by_its_tag setup.secret (StartupContext setup.generation) 0 part plain).0 (known_opens setup (own_secrets setup) (own_known setup) (StartupContext setup.generation) refl 0 datagram plain a.reads.opens) in (told.0, told.2)
-
-  opened_so : opened_datagram s datagram ≡ Ok ((Startup setup.generation), plain)
+  opened_so : opened_datagram s datagram ≡ Ok (Startup a.generation, plain)
   opened_so =
       let long : 32 ≤ length part = a.reads.opens.opens.0 in
       let enough : 36 ≤ length datagram = omega (arith, long, length-drop 4 datagram) in
       let short : nat_lt (length datagram) 36 ≡ false = grind (arith, nat_tests, enough) in
-      let at_one : Result (List ℕ) Cause → Result (Place × List ℕ) Cause = λ r. placed_or (Startup setup.generation) r (λ last. Err last) in
-      let here : List ℕ → Result (Place × List ℕ) Cause = λ p. Ok ((Startup setup.generation), p) in
       ap (λ (b : Bool). if b then Err Short else opened_first s UnknownSession (places_of s (sid_of datagram)) part) short
       ∙ ap (λ (sid : ℕ). opened_first s UnknownSession (places_of s sid) part) a.reads.opens.id
-      ∙ ap (λ (places : List Place). opened_first s UnknownSession places part) (startup_place setup s tied.one)
-      ∙ ap (λ (x : GroupSecret). at_one (opened_by (startup_keys_of x) part (open_refusal (startup_keys_of x) 0 part))) (group_is_one setup s tied.one (Startup setup.generation))
-      ∙ ap (λ o. at_one (opened_by (keys_of setup.secret (StartupContext setup.generation)) part o)) opens_so.0
-      ∙ ap here (sym opens_so.1)
+      ∙ opens_first_there secrets s holds datagram a.reads.opens.id a.generation plain UnknownSession (subst (λ (cs : List Context). OpensFirst secrets cs 0 datagram (StartupContext a.generation) plain) contexts a.opens)
+
+  plain_so : plain ≡ plain_of (keys_of a.reads.opens.secret (StartupContext a.generation)) part
+  plain_so = ((opens_by_its_tag a.reads.opens.secret (StartupContext a.generation) 0 part plain).0 a.reads.opens.opens).2
 
   packet_so : packet_in plain ≡ Ok a.packet
   packet_so =
       packet_reading_same plain (packet_in plain) (Ok a.packet)
-      (packet_reads plain (subst IsBytes (sym opens_so.1) (plain_is (keys_of setup.secret (StartupContext setup.generation)) part (IsBytes-drop 4 datagram bytes)))) a.reads.reads
+      (packet_reads plain (subst IsBytes (sym plain_so) (plain_is (keys_of a.reads.opens.secret (StartupContext a.generation)) part (IsBytes-drop 4 datagram bytes)))) a.reads.reads
 
-  admission_so : admission s datagram ≡ Admitted s (Startup setup.generation) a.packet
-  admission_so =
-      ap (admitted s datagram) opened_so ∙ ap (admitted_packet s (Startup setup.generation)) packet_so
-      ∙ true_is (has_mode a.packet.head FromStartup) (Admitted s (Startup setup.generation) a.packet) (Rejected s WrongPlace) (ap (λ (m : Mode). mode_number m == mode_number FromStartup) a.mode)
+  admission_so : (generation : ℕ) → a.generation ≡ generation → admission s datagram ≡ Admitted s (Startup generation) a.packet
+  admission_so generation its =
+      ap (admitted s datagram) opened_so ∙ ap (admitted_packet s (Startup a.generation)) packet_so
+      ∙ true_is (has_mode a.packet.head FromStartup) (Admitted s (Startup a.generation) a.packet) (Rejected s WrongPlace) (ap (λ (m : Mode). mode_number m == mode_number FromStartup) a.mode)
+      ∙ ap (λ (g : ℕ). Admitted s (Startup g) a.packet) its
 
-  came : Came setup datagram (Startup setup.generation) a.packet
-  came = let is : AdmissionIs setup past s datagram (Admitted s (Startup setup.generation) a.packet) = subst (AdmissionIs setup past s datagram) admission_so (admission_is setup past s datagram tied sent_so bytes) in is.came
+-- ---- what was done is the same but for the event that began
+
+facts_alike : (m : ℕ) (es : List Entry) (early past : Past) → facts_of past ≡ facts_of early → facts_of (onto m es past) ≡ facts_of (onto m es early)
+facts_alike m [] early past same = same
+facts_alike m (x ∷ xs) early past same = facts_alike m xs (stamped m x ∷ early) (stamped m x ∷ past) (ap (fact_and (fact_in x)) same)
+
+ids_alike : (m : ℕ) (es : List Entry) (early past : Past) → ids_in_use past ≡ ids_in_use early → ids_in_use (onto m es past) ≡ ids_in_use (onto m es early)
+ids_alike m [] early past same = same
+ids_alike m (x ∷ xs) early past same = ids_alike m xs (stamped m x ∷ early) (stamped m x ∷ past) (ap (λ (ids : List ℕ). ids_sought (sought_in x) (ids_left (unsought_id (unsought_in x)) (ids_left (closed_in x) (ids_after (fact_in x) ids)))) same)
+
+-- ---- and it bears
+
+module _ (secrets : Secrets) (setup : Setup) (early : Past) (e : Event) (s : State) (tied : Tied secrets setup (begun s.moment e ∷ early) s) (sent_so : Sent secrets setup (begun s.moment e ∷ early) s) (well : HeardWell (begun s.moment e ∷ early) s) (from : AddressParts)
+    (datagram : List ℕ) (draws : Draws) (offer : Offer) (now : ℕ) (front : List Placed) (generation : ℕ) (a : Admissible secrets setup (onto s.moment (chunks_did (Startup generation) from draws outset s front).entries early) now from datagram offer)
+    (its : a.generation ≡ generation) (at : s.moment ≡ now) (is : IsSetup setup) (fits : IsCall (Receive from datagram draws)) (other : offer.peer ≢ own_of setup) (gone rest : List Placed) (goes : chunks_of a.packet ≡ gone ++ rest) (behind : IsBehind front a.chunk gone)
+    (came : Came secrets setup (begun s.moment e ∷ early) s datagram (Startup generation) a.packet) where
+  abbrev past : Past
+  past = begun s.moment e ∷ early
 
   kind : a.chunk.kind ≡ 0x38
   kind = a.spells.0
 
-  cut : Split a.chunk gone
-  cut = record { front = front; back = behind.back; whole = behind.whole; others = others_of a.chunk front kind behind.others }
+  others : AreOthers front
+  others = others_of a.chunk front kind behind.others
 
-  in_all : chunks_of a.packet ≡ cut.front ++ (a.chunk ∷ (cut.back ++ rest))
-  in_all = goes ∙ ap (λ (cs : List Placed). cs ++ rest) cut.whole ∙ append_assoc cut.front (a.chunk ∷ cut.back) rest
+  in_all : chunks_of a.packet ≡ front ++ (a.chunk ∷ (behind.back ++ rest))
+  in_all = goes ∙ ap (λ (cs : List Placed). cs ++ rest) behind.whole ∙ append_assoc front (a.chunk ∷ behind.back) rest
 
   abbrev first : Did
-  first = chunks_did (Startup setup.generation) from draws outset s cut.front
+  first = chunks_did (Startup generation) from draws outset s front
 
   abbrev u : State
   u = first.state
 
-  front_orderly : Orderly setup (Receive from datagram draws) past s first
-  front_orderly = chunks_orderly setup is from datagram draws fits a.packet (Startup setup.generation) came outset [] cut.front (a.chunk ∷ (cut.back ++ rest)) s past (record { whole = in_all; keyed = λ e c none is. none; small = tt }) tied sent_so well tt
+  front_orderly : Orderly secrets setup (Receive from datagram draws) past s first
+  front_orderly = chunks_orderly secrets setup is from datagram draws fits a.packet (Startup generation) outset [] front (a.chunk ∷ (behind.back ++ rest)) s past (record { whole = in_all; keyed = λ e c none is. none; small = tt }) came tied sent_so well tt
 
-  abbrev after_front : Goes setup (Receive from datagram draws) past s first
+  abbrev after_front : Goes secrets setup (Receive from datagram draws) past s first
   after_front = front_orderly.goes
 
   abbrev told : Past
   told = onto s.moment first.entries past
 
+  abbrev before : Past
+  before = onto s.moment first.entries early
+
+  facts_same : facts_of told ≡ facts_of before
+  facts_same = facts_alike s.moment first.entries early past refl
+
   abbrev keying : InitiatorKeying
   keying = read_as offer.far a.cookie a.cert offer.ni offer.n (own_of setup) a.sign
 
-  bearing : IsBearing u (group_at u (Startup setup.generation)) from a.chunk.payload keying
-  unfolding cut
-  bearing = is_bearing setup told u after_front.tied from datagram offer told now a refl refl (after_front.moment ∙ at) other (group_at u (Startup setup.generation)) (group_is_one setup u after_front.tied.one (Startup setup.generation))
+  -- the secrets are those before
+  stays : StaysInGroup s first
+  stays = chunks_made stays_law stays_begins (Startup generation) from draws outset s front tt
+
+  number_there : (group_at u (Startup generation)).generation ≡ generation
+  number_there =
+      ap (λ (g : GroupSecret). (known_group generation u.next g).generation) stays.group ∙ ap (λ (next : Option GroupSecret). (known_group generation next s.group).generation) stays.next ∙ came.group
+
+  bearing : IsBearing u (group_at u (Startup generation)) from a.chunk.payload keying
+  bearing = is_bearing secrets setup told u after_front.tied from datagram offer before now a facts_same (ids_alike s.moment first.entries early past refl) (after_front.moment ∙ at) other (group_at u (Startup generation))
+      (ap (get secrets) (its ∙ sym number_there) ∙ group_known secrets u after_front.tied.holds (Startup generation))
 
   abbrev this : Placed
   this = record { kind = 0x38; at = a.chunk.at; payload = a.chunk.payload }
@@ -310,50 +331,50 @@ module _ (setup : Setup) (past : Past) (s : State) (tied : Tied setup past s) (s
 
   -- the walk before it
   abbrev walk : Walk
-  walk = walk_through outset cut.front
+  walk = walk_through outset front
 
-  unkeyed_before : initiator_keying_cause u (Startup setup.generation) walk from a.chunk.payload ≡ None
-  unkeyed_before = ap (λ (b : Bool). if b then Some SecondKeying else iikeying_cause u.startup a.chunk.payload from u.moment (full u) (group_at u (Startup setup.generation))) (keyed_false cut.front cut.others outset refl) ∙ bearing.cause
+  unkeyed_before : initiator_keying_cause u (Startup generation) walk from a.chunk.payload ≡ None
+  unkeyed_before = ap (λ (b : Bool). if b then Some SecondKeying else iikeying_cause u.startup a.chunk.payload from u.moment (full u) (group_at u (Startup generation))) (keyed_false front others outset refl) ∙ bearing.cause
 
-  no_cause : chunk_cause u (Startup setup.generation) walk from this ≡ None
-  no_cause = none_all (causes u (Startup setup.generation) walk from this) (refl, (ap fault_in bearing.reads, (refl, (refl, (unkeyed_before, tt)))))
+  no_cause : chunk_cause u (Startup generation) walk from this ≡ None
+  no_cause = none_all (causes u (Startup generation) walk from this) (refl, (ap fault_in bearing.reads, (refl, (refl, (unkeyed_before, tt)))))
 
-  chunk_so : chunk_did (Startup setup.generation) from draws walk u a.chunk ≡ initiator_keyed u (Startup setup.generation) from draws a.chunk.payload
-  chunk_so = ap (chunk_did (Startup setup.generation) from draws walk u) this_is ∙ ap (λ (o : Option Cause). discarded_or u a.chunk.at o (initiator_keyed u (Startup setup.generation) from draws a.chunk.payload)) no_cause
+  chunk_so : chunk_did (Startup generation) from draws walk u a.chunk ≡ initiator_keyed u (Startup generation) from draws a.chunk.payload
+  chunk_so = ap (chunk_did (Startup generation) from draws walk u) this_is ∙ ap (λ (o : Option Cause). discarded_or u a.chunk.at o (initiator_keyed u (Startup generation) from draws a.chunk.payload)) no_cause
 
   abbrev later : List Entry
-  later = (chunks_did (Startup setup.generation) from draws (walked walk a.chunk) (chunk_did (Startup setup.generation) from draws walk u a.chunk).state cut.back).entries
+  later = (chunks_did (Startup generation) from draws (walked walk a.chunk) (chunk_did (Startup generation) from draws walk u a.chunk).state behind.back).entries
 
-  in_two : (chunks_did (Startup setup.generation) from draws outset s gone).entries ≡ first.entries ++ ((chunk_did (Startup setup.generation) from draws walk u a.chunk).entries ++ later)
-  in_two =
-      ap (λ (cs : List Placed). (chunks_did (Startup setup.generation) from draws outset s cs).entries) cut.whole
-      ∙ gone_in_two (Startup setup.generation) from draws outset cut.front a.chunk cut.back s
+  abbrev all_entries : List Entry
+  all_entries = (chunks_did (Startup generation) from draws outset s gone).entries
 
-  few_so : u.sealed ≤ s.sealed + outs_in (chunks_did (Startup setup.generation) from draws outset s gone).entries
-  few_so =
-      omega (arith, chunks_made few_law few_begins (Startup setup.generation) from draws outset s cut.front tt, ap outs_in in_two, outs_append first.entries ((chunk_did (Startup setup.generation) from draws walk u a.chunk).entries ++ later))
+  in_two : all_entries ≡ first.entries ++ ((chunk_did (Startup generation) from draws walk u a.chunk).entries ++ later)
+  in_two = ap (λ (cs : List Placed). (chunks_did (Startup generation) from draws outset s cs).entries) behind.whole ∙ gone_in_two (Startup generation) from draws outset front a.chunk behind.back s
 
-  bears : (u.sealed == last_count) ≡ false → (x : Joined) × IsOfOffer offer draws.nonce (facts_of told) x × IsBornAndTold (own_secrets setup) setup from x (chunks_did (Startup setup.generation) from draws outset s gone).entries
+  few_so : u.sealed ≤ s.sealed + outs_in all_entries
+  few_so = omega (arith, chunks_made few_law few_begins (Startup generation) from draws outset s front tt, ap outs_in in_two, outs_append first.entries ((chunk_did (Startup generation) from draws walk u a.chunk).entries ++ later))
+
+  bears : (u.sealed == last_count) ≡ false → (x : Joined) × IsOfOffer offer draws.nonce (facts_of before) x × IsBornAndTold secrets setup generation from x all_entries
   bears some =
-      let x : Joined = j setup told u after_front.tied from draws a.chunk.payload keying bearing some in
-      let made : Option Fact = way setup told u after_front.tied from draws a.chunk.payload keying bearing some in
-      let went : List ℕ = sent setup told u after_front.tied from draws a.chunk.payload keying bearing some in
+      let x : Joined = j secrets setup told u after_front.tied from draws a.chunk.payload keying generation number_there bearing some in
+      let made : Option Fact = way secrets setup told u after_front.tied from draws a.chunk.payload keying generation number_there bearing some in
+      let went : List ℕ = sent secrets setup told u after_front.tied from draws a.chunk.payload keying generation number_there bearing some in
       let facts : List Entry = fact_entries made in
-      let both : List Entry = FactEntry (Born x) ∷ Out from went (StartupContext setup.generation) ∷ [] in
+      let both : List Entry = FactEntry (Born x) ∷ Out from went (StartupContext generation) ∷ [] in
       let counted : count (facts_of told) < 2 ^ 64 = after_front.tied.few in
       let started : u.startup.ledger.started ≡ count (facts_of told) = omega (arith, reads_started 0 u.startup.ledger (facts_of told) after_front.tied.account) in (
         x,
-        record { peer = sym a.peer; n = refl; ni = refl; far = refl; nr = refl; k = started },
+        record { peer = sym a.peer; n = refl; ni = refl; far = refl; nr = refl; k = started ∙ ap count facts_same },
         record {
           before = first.entries ++ facts;
           sent = went;
           later = later;
           are =
               in_two
-              ∙ ap (λ (es : List Entry). first.entries ++ (es ++ later)) (ap (λ (d : Did). d.entries) chunk_so ∙ born_entries setup told u after_front.tied from draws a.chunk.payload keying bearing some)
+              ∙ ap (λ (es : List Entry). first.entries ++ (es ++ later)) (ap (λ (d : Did). d.entries) chunk_so ∙ born_entries secrets setup told u after_front.tied from draws a.chunk.payload keying generation number_there bearing some)
               ∙ ap (λ (es : List Entry). first.entries ++ es) (append_assoc facts both later)
               ∙ sym (append_assoc first.entries facts (both ++ later));
-          answers = born_answers setup told u after_front.tied from draws a.chunk.payload keying bearing some a.spells.1.3.0 a.nonce_size (omega (arith, started, counted)) (λ i z lt. absurd (omega (arith, lt)), fits.1, fits.2, fits.3);
+          answers = born_answers secrets setup told u after_front.tied from draws a.chunk.payload keying generation number_there bearing some a.spells.1.3.0 a.nonce_size (omega (arith, started, counted)) (λ i z lt. absurd (omega (arith, lt)), fits.1, fits.2, fits.3);
         },
       )
 
@@ -383,6 +404,7 @@ went_entries noted t u place from datagram draws Done entries packet gone step a
     ∙ ap (λ (cs : List Placed). (chunks_did place from draws outset u cs).entries) (sym went)
 went_entries noted t u place from datagram draws (NotOpened refusal) entries packet gone step at alone went = absurd went
 went_entries noted t u place from datagram draws (Searching _) entries packet gone step at alone went = absurd went
+went_entries noted t u place from datagram draws (Succeeds generation) entries packet gone step at alone went = absurd went
 went_entries noted t u place from datagram draws (NotSought refusal) entries packet gone step at alone went = absurd went
 went_entries noted t u place from datagram draws (Refused refusal) entries packet gone step at alone went = absurd went
 went_entries noted t u place from datagram draws (NotAdded refusal) entries packet gone step at alone went = absurd went
@@ -398,8 +420,8 @@ went_entries noted t u place from datagram draws OutOfMemory entries packet gone
 its_chunks_at_startup : (u : State) (generation : ℕ) (from : AddressParts) (draws : Draws) → AddsItsChunks u (Startup generation) from draws
 its_chunks_at_startup u generation from draws = record { quiet = refl; unacked = λ d count. then_nothing d; untested = then_nothing; nothing_left = then_nothing }
 
-its_chunks_at_attempt : (u : State) (near generation : ℕ) (from : AddressParts) (draws : Draws) → AddsItsChunks u (Attempt near generation) from draws
-its_chunks_at_attempt u near generation from draws = record { quiet = refl; unacked = λ d count. then_nothing d; untested = then_nothing; nothing_left = then_nothing }
+its_chunks_at_attempt : (u : State) (id generation : ℕ) (from : AddressParts) (draws : Draws) → AddsItsChunks u (Attempt id generation) from draws
+its_chunks_at_attempt u id generation from draws = record { quiet = refl; unacked = λ d count. then_nothing d; untested = then_nothing; nothing_left = then_nothing }
 
 -- these are the first of the packet's chunks
 went_first : (answer : CallAnswer) (chunks gone : List Placed) → WentThrough answer chunks gone → (rest : List Placed) × (chunks ≡ gone ++ rest)
@@ -407,44 +429,62 @@ went_first (Began n) chunks gone went = absurd went
 went_first Done chunks gone went = ([], sym went ∙ sym (append-nil gone))
 went_first (NotOpened refusal) chunks gone went = absurd went
 went_first (Searching _) chunks gone went = absurd went
+went_first (Succeeds generation) chunks gone went = absurd went
 went_first (NotSought refusal) chunks gone went = absurd went
 went_first (Refused refusal) chunks gone went = absurd went
 went_first (Stopped stop) chunks gone went = (drop stop.chunks chunks, sym (take-append-drop stop.chunks chunks) ∙ ap (λ (cs : List Placed). cs ++ drop stop.chunks chunks) (sym went.1))
 went_first (NotAdded refusal) chunks gone went = absurd went
 went_first OutOfMemory chunks gone went = absurd went
 
-told_by : (setup : Setup) (secrets : Secrets) → Knows secrets setup → (to : AddressParts) (j : Joined) (entries : List Entry) → IsBornAndTold (own_secrets setup) setup to j entries → IsBornAndTold secrets setup to j entries
-told_by setup secrets knows to j entries told = record {
-  before = told.before;
-  sent = told.sent;
-  later = told.later;
-  are = told.are;
-  answers = answers_by setup (own_secrets setup) secrets (own_known setup) knows (at_initiator (own_of setup) j) told.sent told.answers;
-}
+-- so the datagram was gone through
+was_gone : (answer : CallAnswer) (chunks gone : List Placed) → WentThrough answer chunks gone → was_gone_through answer ≡ true
+was_gone (Began n) chunks gone went = absurd went
+was_gone (Searching _) chunks gone went = absurd went
+was_gone (Succeeds generation) chunks gone went = absurd went
+was_gone Done chunks gone went = refl
+was_gone (NotOpened refusal) chunks gone went = absurd went
+was_gone (NotSought refusal) chunks gone went = absurd went
+was_gone (Refused refusal) chunks gone went = absurd went
+was_gone (NotAdded refusal) chunks gone went = absurd went
+was_gone (Stopped stop) chunks gone went = went.0
+was_gone OutOfMemory chunks gone went = absurd went
+
+-- what chunks do outside of sessions leaves the startup contexts
+contexts_so : (secrets : Secrets) (setup : Setup) (past : Past) (s : State) (tied : Tied secrets setup past s) (d : Did) → StaysInGroup s d →
+    startup_contexts setup (onto s.moment d.entries past) ≡ StartupContext s.group.generation ∷ next_contexts (number_in s.next)
+contexts_so secrets setup past s tied d stays =
+    ap (λ (g : ℕ). StartupContext g ∷ next_contexts (next_of (onto s.moment d.entries past))) (current_onto setup s.moment d.entries past stays.none ∙ sym tied.current)
+    ∙ ap (λ (o : Option ℕ). StartupContext s.group.generation ∷ next_contexts o) (next_onto s.moment d.entries past stays.none ∙ sym tied.next)
 
 pub admissible_keyings_bear : AdmissibleKeyingsBear
-unfolding cut
-admissible_keyings_bear secrets setup log s t moment from datagram draws answer entries offer front gone knows is calls stands fits step a went behind other few =
+admissible_keyings_bear secrets setup log s t moment generation from datagram draws answer entries offer front gone knows is calls stands fits step a its went behind other few =
     let past : Past = past_of 0 [] log in
-    let said : LogIs setup [] (fresh setup) log s = log_is setup log s is calls stands in
+    let e : Event = taken_event moment from datagram draws answer entries in
+    let said : LogIs secrets setup [] (fresh setup) log s = log_is secrets setup log s knows is calls stands in
     let noted : State = at_moment s moment in
-    let tied : Tied setup past noted = tied_alike setup past s (max s.moment moment) s.sealed (omega arith) said.holds.tied in
-    let well : HeardWell past noted = λ near row e. known_more past past s.moment noted.moment near row.session (said.holds.well near row e) refl (λ done w. w) (omega arith) in
-    let sent_so : Sent setup past noted = record { numbered = said.holds.sent.numbered; sized = said.holds.sent.sized; short = said.holds.sent.short; rows = said.holds.sent.rows } in
-    let last : s.moment ≡ last_moment 0 log = said.moment in
+    let start : Past = begun noted.moment e ∷ past in
+    let began : Begun secrets setup start noted (Receive from datagram draws) answer = holds_begun secrets setup past s e said.holds fits in
+    let bytes : IsBytes datagram = of_bytes datagram fits.0 in
     let now : ℕ = max (last_moment 0 log) moment in
-    let at : noted.moment ≡ now = ap (λ (m : ℕ). max m moment) last in
-    let own : Admissible (own_secrets setup) setup (done_up_to setup log s moment from draws front) now from datagram offer =
-    admissible_by setup secrets (own_secrets setup) knows (own_known setup) (done_up_to setup log s moment from draws front) now from datagram offer a in
+    let at : noted.moment ≡ now = ap (λ (m : ℕ). max m moment) said.moment in
+    let before : Past = done_up_to generation log s moment from draws front in
+    let first : Did = chunks_did (Startup generation) from draws outset noted front in
+    let tied : Tied secrets setup past noted = tied_alike secrets setup past s (max s.moment moment) s.sealed (omega arith) said.holds.tied in
+    let contexts = contexts_so secrets setup past noted tied first (chunks_made stays_law stays_begins (Startup generation) from draws outset noted front tt) in
+    let admitted : admission noted datagram ≡ Admitted noted (Startup generation) a.packet = admission_so secrets setup noted tied.holds from datagram offer now before a bytes contexts generation its in
+    let taken : IsTaken secrets setup start noted datagram noted (Startup generation) a.packet =
+    subst (AdmissionIs secrets setup start noted datagram) admitted (admission_is secrets setup start noted from datagram draws began.outset began.last began.tied began.sent bytes) in
+    let heard : IsWell start noted.moment noted × PassedAt start (Startup generation) datagram a.packet noted =
+    subst (AdmissionHeard start noted.moment datagram) admitted
+    (heard_admission past s e datagram bytes (gone_through_is e (record { from = from; datagram = datagram; draws = draws }) refl (was_gone answer (chunks_of a.packet) gone went)) (named_by secrets setup past s said.holds.tied) said.holds.well) in
     let cut = went_first answer (chunks_of a.packet) gone went in
-    let so = admission_so setup past noted tied sent_so well from datagram draws offer now front own at is fits other gone cut.0 cut.1 behind in
-    let entries_are : entries ≡ (chunks_did (Startup setup.generation) from draws outset noted gone).entries = went_entries noted t noted (Startup setup.generation) from datagram draws answer entries a.packet gone step so (its_chunks_at_startup noted setup.generation from draws) went in
-    let left : State = u setup past noted tied sent_so well from datagram draws offer now front own at is fits other gone cut.0 cut.1 behind in
-    let sealed_few : left.sealed ≤ noted.sealed + outs_in (chunks_did (Startup setup.generation) from draws outset noted gone).entries =
-    few_so setup past noted tied sent_so well from datagram draws offer now front own at is fits other gone cut.0 cut.1 behind in
-    let room : left.sealed < last_count = omega (arith, sealed_few, said.few, ap outs_in entries_are, few) in
-    let born = bears setup past noted tied sent_so well from datagram draws offer now front own at is fits other gone cut.0 cut.1 behind (less_is_other left.sealed last_count room) in
-    (born.0, born.1, subst (IsBornAndTold secrets setup from born.0) (sym entries_are) (told_by setup secrets knows from born.0 (chunks_did (Startup setup.generation) from draws outset noted gone).entries born.2))
+    let added : List Entry = (chunks_did (Startup generation) from draws outset noted gone).entries in
+    let entries_are : entries ≡ added = went_entries noted t noted (Startup generation) from datagram draws answer entries a.packet gone step admitted (its_chunks_at_startup noted generation from draws) went in
+    let sealed_few : (u secrets setup past e noted began.tied began.sent heard.0.well from datagram draws offer now front generation a its at is fits other gone cut.0 cut.1 behind taken.came).sealed ≤ noted.sealed + outs_in added =
+    few_so secrets setup past e noted began.tied began.sent heard.0.well from datagram draws offer now front generation a its at is fits other gone cut.0 cut.1 behind taken.came in
+    let room : first.state.sealed < last_count = omega (arith, sealed_few, said.few, ap outs_in entries_are, few) in
+    let born = bears secrets setup past e noted began.tied began.sent heard.0.well from datagram draws offer now front generation a its at is fits other gone cut.0 cut.1 behind taken.came (less_is_other first.state.sealed last_count room) in
+    (born.0, born.1, subst (IsBornAndTold secrets setup generation from born.0) (sym entries_are) born.2)
 
 -- ---- responders' keyings
 

@@ -9,7 +9,7 @@ use Rattle.glare_core.specs.declared.facts.Fact.TheVariants.{Confirmed}
 use Rattle.glare_core.specs.declared.facts.Joined.{Joined}
 use Rattle.glare_core.specs.declared.facts.Held.{Held}
 use Rattle.glare_core.specs.declared.facts.Held.TheVariants.{HalfOpen, KeptAsResponder}
-use Rattle.glare_core.specs.Standing.{confirmed as confirmed_held}
+use Rattle.glare_core.specs.Standing.{held, confirmed as confirmed_held}
 use Rattle.glare_core.specs.Things.{near_of}
 use Rattle.glare_core.specs.Ledger.{held_with, noted, noted_if}
 use Rattle.glare_core.specs.Calls.{confirmed_fact}
@@ -32,18 +32,20 @@ use Rattle.endpoint_model.specs.declared.place.Place.TheVariants.{Startup, Attem
 use Rattle.endpoint_model.specs.declared.entry.Entry.TheVariants.{Fact as FactEntry}
 use Rattle.endpoint_model.specs.Event.{Setup, Receive, own_of}
 use Rattle.endpoint_laws.specs.Past.{Past, stamped, facts_of, ids_in_use}
-use Rattle.endpoint_laws.specs.Contexts.{inward, OpensUnder}
+use Rattle.endpoint_laws.specs.Contexts.{inward, generation_of, OpensUnder, BegunUnder, Secrets}
 use Rattle.endpoint_model.specs.State.{State, Did, is_used, nothing, fact_entries, with_startup, with_session}
 use Rattle.endpoint_model.specs.Admission.{confirming_by, confirming}
 use Rattle.endpoint_laws.proofs.Matching.{of_peer, ids_same}
 use Rattle.endpoint_model.proofs.Members.{tested}
-use Rattle.endpoint_laws.proofs.Tied.{Tied, StageFits, thing_of}
+use Rattle.endpoint_laws.proofs.Tied.{Tied, StageFits, HasKeys, thing_of}
 use Rattle.endpoint_laws.proofs.Agrees.{IsAt, held_row_is, found_of_session, no_attempt, used_here, used_elsewhere, agrees_changed, agrees_of, tied_of, none_searches}
 use Rattle.endpoint_laws.proofs.Moving.{beside_fact, still_none, noted_matches, rows_after_known, knows_held, still_unsought}
 use Rattle.endpoint_laws.proofs.Facts.{stands_of}
-use Rattle.endpoint_laws.proofs.Going.{Keeps, Goes, goes_nothing}
-use Rattle.endpoint_laws.proofs.Kin.{one_still, kin_noted}
-use Rattle.endpoint_laws.proofs.Knowing.{own_secrets, own_known, opens_known, context_generation}
+use Rattle.endpoint_laws.proofs.Going.{Goes, goes_nothing}
+use Rattle.endpoint_laws.proofs.Kin.{holds_still, kin_noted}
+use Rattle.endpoint_laws.proofs.Begun.{born_thing, begun_beside}
+use Rattle.endpoint_laws.proofs.Outset.{IsOutset, facts_before, begun_before}
+use Rattle.endpoint_laws.proofs.Knowing.{opens_known, context_generation}
 
 -- The datagram opens in the session that stands under this session ID, if there is one.
 abbrev pub HeardIn : List ℕ → ℕ → Option Row → Type 0
@@ -66,7 +68,7 @@ open_or : (a b : Bool) → b ≡ true → (a || b) ≡ true
 open_or true b e = refl
 open_or false b e = e
 
-module _ (setup : Setup) (from : AddressParts) (datagram : List ℕ) (draws : Draws) (s : State) (near : ℕ) (row : Row) (there : get s.sessions near ≡ Some row) where
+module _ (secrets : Secrets) (setup : Setup) (from : AddressParts) (datagram : List ℕ) (draws : Draws) (s : State) (near : ℕ) (row : Row) (there : get s.sessions near ≡ Some row) where
   abbrev j : Joined
   j = row.session.joined
 
@@ -83,10 +85,10 @@ module _ (setup : Setup) (from : AddressParts) (datagram : List ℕ) (draws : Dr
   abbrev now : Past → Past
   now past = stamped s.moment (FactEntry fact) ∷ past
 
-  confirmed_tied : (past : Past) → Tied setup past s → row.session.role ≡ Responder → row.session.stage ≡ Opening → held_with s.startup.ledger j.peer ≡ Some (HalfOpen j) → Tied setup (now past) (did (Some (HalfOpen j))).state
+  confirmed_tied : (past : Past) → Tied secrets setup past s → row.session.role ≡ Responder → row.session.stage ≡ Opening → held_with s.startup.ledger j.peer ≡ Some (HalfOpen j) → Tied secrets setup (now past) (did (Some (HalfOpen j))).state
   confirmed_tied past tied role stage is =
       let t : State = (did (Some (HalfOpen j))).state in
-      let a = agrees_of setup past s tied in
+      let a = agrees_of secrets setup past s tied in
       let new : Row = record row { session = confirmed row.session } in
       let none = no_attempt s near row (a.apart near) there in
       let at : IsAt near None (Some new) s t = record {
@@ -108,9 +110,9 @@ module _ (setup : Setup) (from : AddressParts) (datagram : List ℕ) (draws : Dr
         | inr e ↦ used_elsewhere near None (Some new) s t at q e.0
       ] in
       let was = found_of_session s near row none there (ap is_held stage) ∙ ap (λ h. Some (j.peer, h)) was_thing in
-      tied_of setup (now past) t
-      (agrees_changed setup past (now past) s t near None (Some new) a
-      (record { config = a.given.config; cert = a.given.cert; one = one_still setup (with_startup s (with_ledger s.startup (noted s.startup.ledger fact))) t ((kin_noted s (noted s.startup.ledger fact) refl).one setup a.given.one) refl refl refl; cookie_secret = a.given.cookie_secret; own = a.given.own; max_peers = a.given.max_peers }) at
+      tied_of secrets setup (now past) t
+      (agrees_changed secrets setup past (now past) s t near None (Some new) a
+      (record { config = a.given.config; cert = a.given.cert; holds = holds_still secrets (with_startup s (with_ledger s.startup (noted s.startup.ledger fact))) t ((kin_noted s (noted s.startup.ledger fact) refl).holds secrets a.given.holds) refl refl refl; current = a.given.current; next = a.given.next; cookie_secret = a.given.cookie_secret; own = a.given.own; max_peers = a.given.max_peers }) at
       (noted_matches s t fact near None (Some new) a.matches at refl
       (was ∙ sym (ap (of_peer j.peer) is))
       (held_row_is new now_held ∙ ap (λ h. Some (j.peer, h)) new_thing ∙ sym (ap (λ o. of_peer j.peer (confirmed_held o)) is))
@@ -118,37 +120,59 @@ module _ (setup : Setup) (from : AddressParts) (datagram : List ℕ) (draws : Dr
       (record {
         id = ours.id;
         own = ours.own;
-        keyed = record { towards = ours.keyed.towards; away = ours.keyed.away };
-        generation = ours.generation;
+        known = record { secret = ours.known.secret; known = ours.known.known; keyed = record { towards = ours.known.keyed.towards; away = ours.known.keyed.away } };
+        begun = begun_beside secrets setup row.session.role j row.session.generation past s.moment fact tt ours.begun;
         stage = subst (λ r. StageFits r (confirmed_stage row.session.stage)) (sym role) (subst (λ g. StageFits Responder (confirmed_stage g)) (sym stage) tt);
         closed = λ e. let both : true ≡ false = sym now_held ∙ e in absurd (cc);
       })
-      (beside_fact near s.moment past fact tt) (still_none setup past s a near j.peer (HalfOpen j) was s.moment fact tt (Some new))
-      (still_unsought past near s.moment fact (none_searches setup past s a near j.peer (HalfOpen j) was) None)
+      (beside_fact near s.moment past fact tt) (still_none secrets setup past s a near j.peer (HalfOpen j) was s.moment fact tt (Some new))
+      (still_unsought past near s.moment fact (none_searches secrets setup past s a near j.peer (HalfOpen j) was) None)
       (ids_same setup.config.max_sessions (ids_in_use past) s t a.ids all_used (omega (arith, len_known s.sessions near new row there)))
       (omega arith, a.by_now)
       (rows_after_known s.startup.ledger fact setup.config.max_peers (knows_held s.startup.ledger j.peer (HalfOpen j) is) tied.rows))
       ((subst P is (gave_confirmed s.startup.ledger j.peer)) 0 (facts_of past) tied.account) (omega (arith, tied.few))
 
-  confirmed_goes : (past : Past) → Tied setup past s → HeardIn datagram near (Some row) → is_opening row.session.stage ≡ true →
-      Goes setup (Receive from datagram draws) past s (did (held_with s.startup.ledger j.peer))
-  confirmed_goes past tied heard opening =
+  -- it is in the session's context
+  abbrev Under : ℕ → Type 0
+  Under generation = (plain : List ℕ) × OpensUnder secrets (inward setup generation (HalfOpen j)) j.near datagram plain
+
+  opened_under : row.session.role ≡ Responder → row.session.own ≡ own_of setup → j.near ≡ near → HasKeys secrets row.session → HeardIn datagram near (Some row) → Under row.session.generation
+  opened_under role own id keys heard =
+      let generation : ℕ = row.session.generation in
+      let context : context_of row.session false ≡ inward setup generation (HalfOpen j) =
+      ap (λ r. context_between generation j row.session.own r false) role ∙ ap (λ own. context_between generation j own Responder false) own in
+      let known : get secrets (generation_of (context_of row.session false)) ≡ Some keys.secret = ap (get secrets) (context_generation generation j row.session.own row.session.role false) ∙ keys.known in
+      let found = (opens_in_context keys.secret row.session keys.keyed.towards (drop 4 datagram)).0 heard.1 in
+      (found.0, subst (λ c. OpensUnder secrets c j.near datagram found.0) context (opens_known secrets (context_of row.session false) keys.secret known j.near datagram found.0 (heard.0 ∙ sym id) found.1))
+
+  confirmed_goes : (past : Past) → IsOutset past → Tied secrets setup past s → HeardIn datagram near (Some row) → is_opening row.session.stage ≡ true →
+      Goes secrets setup (Receive from datagram draws) past s (did (held_with s.startup.ledger j.peer))
+  confirmed_goes past outset tied heard opening =
       let is = tied.sessions near row there in
       let half = half_open row.session.role row.session.stage is.stage opening in
       let held_is : held_with s.startup.ledger j.peer ≡ Some (HalfOpen j) =
       is.thing (ap is_held half.1) ∙ ap (λ h. Some h) (ap (λ r. thing_of r row.session.stage j) half.0 ∙ ap (λ g. thing_of Responder g j) half.1) in
       let after = confirmed_tied past tied half.0 half.1 held_is in
-      let context : context_of row.session false ≡ inward setup (HalfOpen j) = ap (λ g. context_between g j row.session.own row.session.role false) is.generation ∙ ap (λ r. context_between setup.generation j row.session.own r false) half.0
-      ∙ ap (λ own. context_between setup.generation j own Responder false) is.own in
-      let found = (opens_in_context setup.secret row.session is.keyed.towards (drop 4 datagram)).0 heard.1 in
-      let under : OpensUnder (own_secrets setup) (inward setup (HalfOpen j)) j.near datagram found.0 =
-      subst (λ c. OpensUnder (own_secrets setup) c j.near datagram found.0) context (opens_known setup (own_secrets setup) (own_known setup) (context_of row.session false) (context_generation row.session.generation j row.session.own row.session.role false ∙ is.generation) j.near datagram found.0 (heard.0 ∙ sym is.id) found.1) in
-      subst (λ o. Goes setup (Receive from datagram draws) past s (did o)) (sym held_is) (record {
+      let held_now : held j.peer (facts_of past) ≡ Some (HalfOpen j) = sym (reads_held 0 s.startup.ledger (facts_of past) tied.account j.peer) ∙ held_is in
+      let begun : BegunUnder secrets setup (HalfOpen j) row.session.generation past = subst (λ r. BegunUnder secrets setup (born_thing r j) row.session.generation past) half.0 is.begun in
+      let under = opened_under half.0 is.own is.id is.known heard in
+      subst (λ o. Goes secrets setup (Receive from datagram draws) past s (did o)) (sym held_is) (record {
         meets = (
           (
             (
               stands_of (own_of setup) (noted s.startup.ledger fact) fact (facts_of past) after.own after.account,
-              record { j = j; session = sym (reads_held 0 s.startup.ledger (facts_of past) tied.account j.peer) ∙ held_is; by = (found.0, under) },
+              record {
+                j = j;
+                session = held_now;
+                by = record {
+                  stands = inl (record { peer = j.peer; is_held = ap (held j.peer) (sym (facts_before past outset)) ∙ held_now; id = refl });
+                  is_session = tt;
+                  generation = row.session.generation;
+                  begun = begun_before secrets setup (HalfOpen j) row.session.generation past outset begun;
+                  plain = under.0;
+                  opens = under.1;
+                };
+              },
             ),
             tt,
           ),
@@ -158,17 +182,17 @@ module _ (setup : Setup) (from : AddressParts) (datagram : List ℕ) (draws : Dr
         moment = refl;
       })
 
-pub goes_confirming_by : (setup : Setup) (from : AddressParts) (datagram : List ℕ) (draws : Draws) (s : State) (near : ℕ) (o : Option Row) → get s.sessions near ≡ o → HeardIn datagram near o →
-    Keeps setup (Receive from datagram draws) s (confirming_by s near o)
-goes_confirming_by setup from datagram draws s near None is heard = goes_nothing setup (Receive from datagram draws) s
-goes_confirming_by setup from datagram draws s near (Some row) is heard = either (is_opening row.session.stage) refl
+pub goes_confirming_by : (secrets : Secrets) (setup : Setup) (from : AddressParts) (datagram : List ℕ) (draws : Draws) (s : State) (near : ℕ) (o : Option Row) → get s.sessions near ≡ o → HeardIn datagram near o → (past : Past) → IsOutset past →
+    Tied secrets setup past s → Goes secrets setup (Receive from datagram draws) past s (confirming_by s near o)
+goes_confirming_by secrets setup from datagram draws s near None is heard past outset tied = goes_nothing secrets setup (Receive from datagram draws) s past tied
+goes_confirming_by secrets setup from datagram draws s near (Some row) is heard past outset tied = either (is_opening row.session.stage) refl
   where
-    either : (b : Bool) → is_opening row.session.stage ≡ b → Keeps setup (Receive from datagram draws) s (if b then (record {
+    either : (b : Bool) → is_opening row.session.stage ≡ b → Goes secrets setup (Receive from datagram draws) past s (if b then (record {
       state = with_session (with_startup s (after_confirm s.startup row.session.joined.peer)) near row (confirmed row.session);
       entries = fact_entries (confirm_fact s.startup row.session.joined.peer);
     }) else nothing s)
-    either true e past tied = confirmed_goes setup from datagram draws s near row is past tied heard e
-    either false e past tied = goes_nothing setup (Receive from datagram draws) s past tied
+    either true e = confirmed_goes secrets setup from datagram draws s near row is past outset tied heard e
+    either false e = goes_nothing secrets setup (Receive from datagram draws) s past tied
 
 -- The datagram opens in the session of its place.
 abbrev pub HeardAt : State → Place → List ℕ → Type 0
@@ -176,7 +200,8 @@ HeardAt s (Startup generation) datagram = Unit {0}
 HeardAt s (Attempt near generation) datagram = Unit {0}
 HeardAt s (Session near) datagram = HeardIn datagram near (get s.sessions near)
 
-pub goes_confirming : (setup : Setup) (from : AddressParts) (datagram : List ℕ) (draws : Draws) (s : State) (place : Place) → HeardAt s place datagram → Keeps setup (Receive from datagram draws) s (confirming s place)
-goes_confirming setup from datagram draws s (Startup generation) heard = goes_nothing setup (Receive from datagram draws) s
-goes_confirming setup from datagram draws s (Attempt near generation) heard = goes_nothing setup (Receive from datagram draws) s
-goes_confirming setup from datagram draws s (Session near) heard = goes_confirming_by setup from datagram draws s near (get s.sessions near) refl heard
+pub goes_confirming : (secrets : Secrets) (setup : Setup) (from : AddressParts) (datagram : List ℕ) (draws : Draws) (s : State) (place : Place) → HeardAt s place datagram → (past : Past) → IsOutset past → Tied secrets setup past s →
+    Goes secrets setup (Receive from datagram draws) past s (confirming s place)
+goes_confirming secrets setup from datagram draws s (Startup generation) heard past outset = goes_nothing secrets setup (Receive from datagram draws) s past
+goes_confirming secrets setup from datagram draws s (Attempt near generation) heard past outset = goes_nothing secrets setup (Receive from datagram draws) s past
+goes_confirming secrets setup from datagram draws s (Session near) heard past outset = goes_confirming_by secrets setup from datagram draws s near (get s.sessions near) refl heard past outset

@@ -35,17 +35,18 @@ use Rattle.endpoint_model.specs.declared.place.Place.{Place}
 use Rattle.endpoint_model.specs.declared.entry.Entry.{Entry}
 use Rattle.endpoint_model.specs.declared.entry.Entry.TheVariants.{Fact as FactEntry}
 use Rattle.endpoint_model.specs.declared.answers.Stopped.{Stopped as Stop}
-use Rattle.endpoint_model.specs.Event.{Call, OpenCall, SeekCall, open_in, seek_in, Open, Seek, Unseek, Cancel, Close, AddRow, Introduce, OnFlows, Receive, Tick, Answer as CallAnswer, Began, Searching, Done, NotOpened, NotSought, Refused, NotAdded, Stopped, OutOfMemory, Event, moment_at}
+use Rattle.endpoint_model.specs.Event.{Call, OpenCall, SeekCall, open_in, seek_in, Open, Seek, Unseek, Cancel, Close, AddRow, Introduce, Learn, Advance, OnFlows, Receive, Tick, Answer as CallAnswer, Began, Searching, Done, Succeeds, NotOpened, NotSought, Refused, NotAdded, Stopped, OutOfMemory, Event, moment_at}
 use Rattle.endpoint_model.specs.Introducing.{with_redirect, introducing}
 use Rattle.endpoint_model.specs.OnFlows.{flow_entry, flow_called}
 use Rattle.endpoint_model.specs.FlowChunks.{acked, unowed}
 use Rattle.endpoint_model.specs.FlowTimes.{all_late}
 use Rattle.endpoint_laws.specs.Past.{Past, OfEntry, last_call, stamped, begun, onto, past_of_log}
 use Rattle.endpoint_model.specs.State.{at_moment, State, full, Did, Does, nothing, then_do, fact_entries, with_startup, free_from}
-use Rattle.endpoint_model.specs.Sending.{sent_answer, sent_if}
+use Rattle.endpoint_model.specs.Sending.{is_spent, sent_answer, sent_if}
+use Rattle.endpoint_model.specs.Succession.{learning, advancing, advancing_to}
 use Rattle.endpoint_model.specs.Admission.{Admission, Rejected, Admitted, admission, sid_at, confirming, group_at, attempt_group}
 use Rattle.endpoint_model.specs.Keying.{chunks_of}
-use Rattle.endpoint_model.specs.Effects.{opening, seeking, unseeking, read_left, read_done, cancelling, ticks, keying_done, initiator_keyed, opening_done, responder_keyed, with_born, chunk_did, chunks_did, walked, received, part_received, outset, most_acks, walked_and_acked}
+use Rattle.endpoint_model.specs.Effects.{opening, seeking, unseeking, read_fact, read_left, read_done, cancelling, ticks, keying_done, initiator_keyed, opening_done, responder_keyed, with_born, chunk_did, chunks_did, walked, received, part_received, outset, most_acks, walked_and_acked}
 use Rattle.endpoint_model.specs.Causes.{initiator_keying_cause}
 use Rattle.endpoint_laws.specs.Draws.{seek_draws, fact_draws, draws_in, draws_done, draws_of}
 use Rattle.endpoint_laws.proofs.Unseen.{AreUnseen, flows_unseen}
@@ -202,12 +203,17 @@ none_answer_fact : (s : StartupState) (print : List ℕ) (o : Option (ℕ × Att
 none_answer_fact s print None = refl
 none_answer_fact s print (Some e) = none_answer_as s print e.0 e.1.ni e.1.aim
 
+-- or is none, where no count of a startup packet is left
+none_read_fact : (s : StartupState) (print : List ℕ) (o : Option (ℕ × AttemptState)) (spent : Bool) → plain (fact_entries (if spent then None else answer_fact s print o)) ≡ []
+none_read_fact s print o true = refl
+none_read_fact s print o false = none_answer_fact s print o
+
 none_hello : (s : State) (place : Place) (from : AddressParts) (tag cookie cert : List ℕ) → plain (read_done s place from (Ok (RHello tag cookie cert))).entries ≡ []
 none_hello s place from tag cookie cert =
     let o : Option (ℕ × AttemptState) = lowest (has_tag tag) s.startup.attempts in
     let read : Result Chunk ChunkFault = Ok (RHello tag cookie cert) in
     let t : State = read_left s place from read in
-    none_after None None (fact_entries (answer_fact s.startup (sha256 cert) o)) (sent_if t (rhello_keying s.startup tag cookie cert from (group_at s place))).entries [] (none_answer_fact s.startup (sha256 cert) o)
+    none_after None None (fact_entries (read_fact s read)) (sent_if t (rhello_keying s.startup tag cookie cert from (group_at s place))).entries [] (none_read_fact s.startup (sha256 cert) o (is_spent s))
     (answered_made none_quiet.sends t (rhello_keying s.startup tag cookie cert from (group_at s place)))
 
 -- a keying after another one isn't without a cause
@@ -310,6 +316,8 @@ may_draw (Cancel n) xs ys none one h = none h
 may_draw (Close near) xs ys none one h = none h
 may_draw (AddRow print addresses) xs ys none one h = none h
 may_draw Introduce xs ys none one h = none h
+may_draw (Learn secret) xs ys none one h = none h
+may_draw Advance xs ys none one h = none h
 may_draw (OnFlows near call) xs ys none one h = none h
 may_draw (Tick draws) xs ys none one h = none h
 
@@ -320,6 +328,11 @@ module _ (seek : Option SeekCall) (by_open : Option OpenCall) where
   once_of : (nonce : List ℕ) (d : Did) (t : State) (entries : List Entry) → Does d t [] entries → OneDraw nonce (drawn_by seek by_open d.entries) → OneDraw nonce (drawn_by seek by_open entries)
   once_of nonce d t entries does (inl none) = inl (ap (drawn_by seek by_open) does.entries ∙ none)
   once_of nonce d t entries does (inr one) = inr (ap (drawn_by seek by_open) does.entries ∙ one)
+
+-- a generation that becomes the current one
+none_advancing : (s : State) (next : Option GroupSecret) → plain (advancing_to s next).entries ≡ []
+none_advancing s None = refl
+none_advancing s (Some next) = refl
 
 pub answers_draw : (s t : State) (call : Call) (answer : CallAnswer) (entries : List Entry) → Answers s call answer entries t → MayDraw call (drawn call entries)
 answers_draw s t (Open peer candidates draws) (Began n) entries h =
@@ -343,6 +356,10 @@ answers_draw s t (Close near) (Refused refusal) entries h = none_of None None (n
 answers_draw s t (AddRow print addresses) Done entries h = none_of None None (nothing (with_redirect s print addresses)) t entries h.1 refl
 answers_draw s t (AddRow print addresses) (NotAdded refusal) entries h = none_of None None (nothing s) t entries h.1 refl
 answers_draw s t Introduce Done entries h = none_of None None (nothing (introducing s)) t entries h refl
+answers_draw s t (Learn secret) (Succeeds generation) entries h = none_of None None (learning s secret) t entries h.2 refl
+answers_draw s t (Learn secret) (Refused refusal) entries h = none_of None None (nothing s) t entries h.1 refl
+answers_draw s t Advance (Succeeds generation) entries h = none_of None None (advancing s) t entries h.2 (none_advancing s s.next)
+answers_draw s t Advance (Refused refusal) entries h = none_of None None (nothing s) t entries h.1 refl
 answers_draw s t (OnFlows near call) Done entries h = none_of None None (flow_called s near call) t entries h.1 (called_made none_law s near call h.0)
 answers_draw s t (OnFlows near call) (Refused refusal) entries h = none_of None None (nothing s) t entries h.1 refl
 answers_draw s t (Receive from datagram draws) Done entries h = once_of None None draws.nonce (received from draws (admission s datagram)) t entries h (once_received from draws (admission s datagram))

@@ -143,11 +143,11 @@ module _ (secrets : Secrets) (setup : Setup) (now : ℕ) (call : Call) (past : P
 
       taken : (o : Option ReceiveCall) → TakesHelloIn secrets setup past o peer n near ni → Drawn drawn next
       taken None hello = absurd hello
-      taken (Some r) hello = sought_and_stated ni near (record { name = drop 16 hello.cert; tag = hello.tag; ni = ni }) hello.at drawn past next refl hello.stands refl gone d
+      taken (Some r) hello = let answer = hello.2 in sought_and_stated ni near (record { name = drop 16 answer.cert; tag = answer.tag; ni = ni }) answer.at drawn past next refl answer.stands refl gone d
 
       clashes : (o : Option ReceiveCall) → TakesHelloIn secrets setup past o peer n near ni → (Among ni drawn → ⊥) → ⊥
       clashes None hello none = absurd hello
-      clashes (Some r) hello none = none (d.sought near (record { name = drop 16 hello.cert; tag = hello.tag; ni = ni }) hello.at hello.stands)
+      clashes (Some r) hello none = let answer = hello.2 in none (d.sought near (record { name = drop 16 answer.cert; tag = answer.tag; ni = ni }) answer.at answer.stands)
 
       by : (o : Option OpenCall) → OpensIn o peer ni ⊎ TakesHello secrets setup past call peer n near ni → AllDifferent (open_draws o ni ++ drawn) → Drawn (open_draws o ni ++ drawn) next
       by None (inl opens) new = absurd opens

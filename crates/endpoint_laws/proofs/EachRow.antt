@@ -28,7 +28,7 @@ use Rattle.endpoint_model.specs.Event.{Setup, Call, Answer, Event}
 use Rattle.endpoint_model.specs.Log.{Answers, Leads, StandsFor}
 use Rattle.endpoint_laws.proofs.Small.{Quiet, FlowThing, Called, Came, Acked, Unowed, Late, Overdue}
 use Rattle.endpoint_laws.proofs.Small.{Packed, on_flows, row_after, MayBe, IsNoChunk, Any, Timed}
-use Rattle.endpoint_laws.proofs.Small.{All, Begins, Enters}
+use Rattle.endpoint_laws.proofs.Small.{All, Begins, Enters, Succession}
 use Rattle.endpoint_laws.proofs.Made.{timed_law, all_law, CallsDo, WasMade, answers_made}
 use Rattle.glare_core.specs.Calls.{way_made}
 
@@ -163,6 +163,12 @@ module _ (P : ℕ → FlowsState → Type 0) where
       unseen = λ s introduces rows each. each;
     }
 
+    pub each_succession : Succession Keeps
+    each_succession = record {
+      learns = λ s secret none each. each;
+      advances = λ s next is each. each;
+    }
+
     pub each_law : ChunksKeep → All Any Keeps
     each_law chunk = all_law each_quiet by
       where
@@ -235,4 +241,4 @@ module _ (P : FlowsState → Type 0) where
       let alone = kept_alone kept in
       after_every_log (λ near f. P f) (answers_made (each_law (λ near f. P f) alone
       (λ near. kept.chunk)) (each_begins (λ near f. P f) alone)
-      (each_enters (λ near f. P f) alone))
+      (each_enters (λ near f. P f) alone) (each_succession (λ near f. P f) alone))

@@ -31,6 +31,7 @@ use Rattle.startup.specs.Due.{repeat_under, repeat_of, is_over, repeated}
 use Rattle.endpoint_model.specs.declared.row.Row.{Row}
 use Rattle.endpoint_model.specs.declared.entry.Entry.TheVariants.{Fact as FactEntry}
 use Rattle.endpoint_model.specs.Event.{Setup, Call, Cancel, own_of}
+use Rattle.endpoint_laws.specs.Contexts.{Secrets}
 use Rattle.endpoint_laws.specs.Past.{Past, stamped, is_close, facts_of, ids_in_use}
 use Rattle.endpoint_laws.specs.Lawful.{IsTick}
 use Rattle.endpoint_model.specs.State.{State, Did, fact_entries, with_startup}
@@ -83,7 +84,7 @@ pub ids_gone : {most : ℕ} (why : Why) (ids : List ℕ) (near : ℕ) (t : State
 ids_gone {most} why ids near t opens i = subst (λ (b : Bool). Ids most (if b then ids else without near ids) t) (sym opens) i
 
 -- the end of an attempt, for a cause that may end attempts
-module _ (setup : Setup) (past : Past) (s : State) (tied : Tied setup past s) (near : ℕ) (a : AttemptState) (peer : List ℕ) (n : ℕ) (aims : a.aim ≡ AtPeer peer n) (there : get s.startup.attempts near ≡ Some a) (why : Why) where
+module _ (secrets : Secrets) (setup : Setup) (past : Past) (s : State) (tied : Tied secrets setup past s) (near : ℕ) (a : AttemptState) (peer : List ℕ) (n : ℕ) (aims : a.aim ≡ AtPeer peer n) (there : get s.startup.attempts near ≡ Some a) (why : Why) where
   pub held_is : held_with s.startup.ledger peer ≡ Some (Opening n near a.ni)
   held_is = subst (λ (aim : Aim). IsHeldAs s.startup.ledger near a.ni aim) aims (tied.sound.held near a there)
 
@@ -93,10 +94,10 @@ module _ (setup : Setup) (past : Past) (s : State) (tied : Tied setup past s) (n
   abbrev left : State
   left = with_startup s (without_attempt s.startup near the_end)
 
-  pub end_tied : MayEnd why (Opening n near a.ni) → Tied setup (stamped s.moment (FactEntry the_end) ∷ past) left
+  pub end_tied : MayEnd why (Opening n near a.ni) → Tied secrets setup (stamped s.moment (FactEntry the_end) ∷ past) left
   end_tied may =
       let now : Past = stamped s.moment (FactEntry the_end) ∷ past in
-      let g = agrees_of setup past s tied in
+      let g = agrees_of secrets setup past s tied in
       let is : held_with s.startup.ledger peer ≡ Some (Opening n near a.ni) = held_is in
       let was = found_of_peer s near a peer n there aims in
       let at : IsAt near None None s left = record {
@@ -105,12 +106,12 @@ module _ (setup : Setup) (past : Past) (s : State) (tied : Tied setup past s) (n
         attempts = λ q other. get_left s.startup.attempts near q other;
         sessions = λ q other. refl;
       } in
-      tied_of setup now left
-      (agrees_changed setup past now s left near None None g
-      (record { config = g.given.config; cert = g.given.cert; one = (kin_without s near (Some the_end)).one setup g.given.one; cookie_secret = g.given.cookie_secret; own = g.given.own; max_peers = g.given.max_peers }) at
+      tied_of secrets setup now left
+      (agrees_changed secrets setup past now s left near None None g
+      (record { config = g.given.config; cert = g.given.cert; holds = (kin_without s near (Some the_end)).holds secrets g.given.holds; current = g.given.current; next = g.given.next; cookie_secret = g.given.cookie_secret; own = g.given.own; max_peers = g.given.max_peers }) at
       (noted_matches s left the_end near None None g.matches at refl (was ∙ sym (ap (of_peer peer) is)) refl (λ h e. absurd (cc)))
-      tt (beside_fact near s.moment past the_end refl) (still_none setup past s g near _ _ was s.moment the_end (attempt_opens why n near a.ni may) None)
-      (still_unsought past near s.moment the_end (none_searches setup past s g near _ _ was) None)
+      tt (beside_fact near s.moment past the_end refl) (still_none secrets setup past s g near _ _ was s.moment the_end (attempt_opens why n near a.ni may) None)
+      (still_unsought past near s.moment the_end (none_searches secrets setup past s g near _ _ was) None)
       (ids_gone why (ids_in_use past) near left (attempt_opens why n near a.ni may)
       (ids_less setup.config.max_sessions (ids_in_use past) s left near g.ids (used_elsewhere near None None s left at) (used_here near None None s left at)
       (used_before (get s.startup.attempts near) (get s.sessions near) there)
@@ -124,11 +125,11 @@ module _ (setup : Setup) (past : Past) (s : State) (tied : Tied setup past s) (n
 number_is : (a b : ℕ) → (a == b) ≡ true → b ≡ a
 number_is a b e = grind (arith, nat_tests)
 
-cancel_as : (setup : Setup) (s : State) (number near : ℕ) (a : AttemptState) (aim : Aim) → a.aim ≡ aim → get s.startup.attempts near ≡ Some a → is_numbered number aim ≡ true →
-    Keeps setup (Cancel number) s (record { state = with_startup s (without_attempt_by s.startup near (end_of_aim near Cancelled aim)); entries = fact_entries (end_of_aim near Cancelled aim) })
-cancel_as setup s number near a (AtPeer peer n) aims there same = λ past tied.
+cancel_as : (secrets : Secrets) (setup : Setup) (s : State) (number near : ℕ) (a : AttemptState) (aim : Aim) → a.aim ≡ aim → get s.startup.attempts near ≡ Some a → is_numbered number aim ≡ true →
+    Keeps secrets setup (Cancel number) s (record { state = with_startup s (without_attempt_by s.startup near (end_of_aim near Cancelled aim)); entries = fact_entries (end_of_aim near Cancelled aim) })
+cancel_as secrets setup s number near a (AtPeer peer n) aims there same = λ past tied.
     let the_end : Fact = Ended peer near Cancelled in
-    let after = end_tied setup past s tied near a peer n aims there Cancelled tt in
+    let after = end_tied secrets setup past s tied near a peer n aims there Cancelled tt in
     record {
       meets = (
         (
@@ -138,7 +139,7 @@ cancel_as setup s number near a (AtPeer peer n) aims there same = λ past tied.
               n = n;
               near = near;
               ni = a.ni;
-              is_held = sym (reads_held 0 s.startup.ledger (facts_of past) tied.account peer) ∙ held_is setup past s tied near a peer n aims there Cancelled;
+              is_held = sym (reads_held 0 s.startup.ledger (facts_of past) tied.account peer) ∙ held_is secrets setup past s tied near a peer n aims there Cancelled;
               by = number_is n number same;
             },
           ),
@@ -149,17 +150,17 @@ cancel_as setup s number near a (AtPeer peer n) aims there same = λ past tied.
       tied = after;
       moment = refl;
     }
-cancel_as setup s number near a (ByName name) aims there same = absurd (cc)
+cancel_as secrets setup s number near a (ByName name) aims there same = absurd (cc)
 
-cancel_by : (setup : Setup) (s : State) (n : ℕ) (e : Option (ℕ × AttemptState)) → lowest (has_number n) s.startup.attempts ≡ e →
-    Keeps setup (Cancel n) s (record { state = with_startup s (after_end_of s.startup e Cancelled); entries = fact_entries (end_of e Cancelled) })
-cancel_by setup s n None is = goes_nothing setup (Cancel n) s
-cancel_by setup s n (Some e) is =
+cancel_by : (secrets : Secrets) (setup : Setup) (s : State) (n : ℕ) (e : Option (ℕ × AttemptState)) → lowest (has_number n) s.startup.attempts ≡ e →
+    Keeps secrets setup (Cancel n) s (record { state = with_startup s (after_end_of s.startup e Cancelled); entries = fact_entries (end_of e Cancelled) })
+cancel_by secrets setup s n None is = goes_nothing secrets setup (Cancel n) s
+cancel_by secrets setup s n (Some e) is =
     let found = first_is_there (has_number n) s.startup.attempts e is in
-    cancel_as setup s n e.0 e.1 e.1.aim refl found.0 found.1
+    cancel_as secrets setup s n e.0 e.1 e.1.aim refl found.0 found.1
 
-pub goes_cancelling : (setup : Setup) (s : State) (n : ℕ) → Keeps setup (Cancel n) s (cancelling s n)
-goes_cancelling setup s n = cancel_by setup s n (lowest (has_number n) s.startup.attempts) refl
+pub goes_cancelling : (secrets : Secrets) (setup : Setup) (s : State) (n : ℕ) → Keeps secrets setup (Cancel n) s (cancelling s n)
+goes_cancelling secrets setup s n = cancel_by secrets setup s n (lowest (has_number n) s.startup.attempts) refl
 
 -- ---- time
 
@@ -173,11 +174,11 @@ IsSending (HelloDue spread) = Unit {0}
 IsSending (KeyingDue answer) = Unit {0}
 IsSending (UnsoughtDue near) = ⊥
 
-module _ (setup : Setup) (call : Call) (is_tick : IsTick call) (s : State) where
+module _ (secrets : Secrets) (setup : Setup) (call : Call) (is_tick : IsTick call) (s : State) where
   pub tick_end : (near : ℕ) (a : AttemptState) (peer : List ℕ) (n : ℕ) → a.aim ≡ AtPeer peer n → get s.startup.attempts near ≡ Some a → is_over s.moment a ≡ true →
-      Keeps setup call s (record { state = with_startup s (without_attempt s.startup near (Ended peer near Expired)); entries = FactEntry (Ended peer near Expired) ∷ [] })
+      Keeps secrets setup call s (record { state = with_startup s (without_attempt s.startup near (Ended peer near Expired)); entries = FactEntry (Ended peer near Expired) ∷ [] })
   tick_end near a peer n aims there over past tied =
-      let after = end_tied setup past s tied near a peer n aims there Expired tt in
+      let after = end_tied secrets setup past s tied near a peer n aims there Expired tt in
       record {
         meets = (
           (
@@ -188,7 +189,7 @@ module _ (setup : Setup) (call : Call) (is_tick : IsTick call) (s : State) where
                 record {
                   n = n;
                   ni = a.ni;
-                  is_held = sym (reads_held 0 s.startup.ledger (facts_of past) tied.account peer) ∙ held_is setup past s tied near a peer n aims there Expired;
+                  is_held = sym (reads_held 0 s.startup.ledger (facts_of past) tied.account peer) ∙ held_is secrets setup past s tied near a peer n aims there Expired;
                   start = a.start;
                   started = subst (λ (aim : Aim). WasStartedAs past near a aim) aims (tied.started near a there);
                   over = over_is a.start s.moment over;
@@ -204,14 +205,14 @@ module _ (setup : Setup) (call : Call) (is_tick : IsTick call) (s : State) where
       }
 
   -- a thing in a state that was reached without entries
-  from : (d : State → Did) (t : State) → t.moment ≡ s.moment → ((past : Past) → Tied setup past s → Tied setup past t) → Keeps setup call t (d t) → Keeps setup call s (d t)
+  from : (d : State → Did) (t : State) → t.moment ≡ s.moment → ((past : Past) → Tied secrets setup past s → Tied secrets setup past t) → Keeps secrets setup call t (d t) → Keeps secrets setup call s (d t)
   from d t moment more keeps past tied =
-      goes_then setup call past s (record { state = t; entries = [] }) d (record { meets = tt; tied = more past tied; moment = moment }) (keeps past (more past tied))
+      goes_then secrets setup call past s (record { state = t; entries = [] }) d (record { meets = tt; tied = more past tied; moment = moment }) (keeps past (more past tied))
 
-  repeat_keeps : (due : Due) (t : State) → IsSending due → Keeps setup call t (due_done t due)
+  repeat_keeps : (due : Due) (t : State) → IsSending due → Keeps secrets setup call t (due_done t due)
   repeat_keeps (EndDue fact) t sends = absurd sends
-  repeat_keeps (HelloDue spread) t sends = spread_made (goes_sends setup call) t spread
-  repeat_keeps (KeyingDue answer) t sends = answer_made (goes_sends setup call) t answer
+  repeat_keeps (HelloDue spread) t sends = spread_made (goes_sends secrets setup call) t spread
+  repeat_keeps (KeyingDue answer) t sends = answer_made (goes_sends secrets setup call) t answer
   repeat_keeps (UnsoughtDue near) t sends = absurd sends
 
   repeat_sends : (near : ℕ) (a : AttemptState) (stage : Stage) → IsSending (repeat_under s.startup.cert near a stage)
@@ -219,8 +220,8 @@ module _ (setup : Setup) (call : Call) (is_tick : IsTick call) (s : State) where
   repeat_sends near a (Keying at cookie under) = tt
 
   pub tick_repeat : (e : ℕ × AttemptState) → get s.startup.attempts e.0 ≡ Some e.1 →
-      Keeps setup call s (due_done (with_startup s (with_attempt s.startup e.0 (repeated e.1 s.moment))) (repeat_of s.startup e.0 e.1))
+      Keeps secrets setup call s (due_done (with_startup s (with_attempt s.startup e.0 (repeated e.1 s.moment))) (repeat_of s.startup e.0 e.1))
   tick_repeat e there =
       let due : Due = repeat_of s.startup e.0 e.1 in
       let t : State = with_startup s (with_attempt s.startup e.0 (repeated e.1 s.moment)) in
-      from (λ u. due_done u due) t refl (λ past tied. tied_attempt setup past s e.0 e.1 (repeated e.1 s.moment) tied there refl (λ w. w) (tied.sound.stages e.0 e.1 there) (λ which at kept. kept) (kin_repeat s e there s.moment)) (repeat_keeps due t (repeat_sends e.0 e.1 e.1.stage))
+      from (λ u. due_done u due) t refl (λ past tied. tied_attempt secrets setup past s e.0 e.1 (repeated e.1 s.moment) tied there refl (λ w. w) (tied.sound.stages e.0 e.1 there) (λ which at kept. kept) (kin_repeat s e there s.moment)) (repeat_keeps due t (repeat_sends e.0 e.1 e.1.stage))

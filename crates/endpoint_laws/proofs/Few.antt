@@ -6,7 +6,7 @@ use Rattle.endpoint_model.specs.Event.{Call, Answer}
 use Rattle.endpoint_model.specs.Log.{Answers}
 use Rattle.endpoint_laws.specs.Past.{Past, stamped, onto, outs_of}
 use Rattle.endpoint_laws.specs.Complete.{outs_in}
-use Rattle.endpoint_laws.proofs.Small.{Quiet, Any, All, Begins, Enters}
+use Rattle.endpoint_laws.proofs.Small.{Quiet, Any, All, Begins, Enters, Succession}
 use Rattle.endpoint_laws.proofs.Made.{all_law, answers_made}
 
 -- how many datagrams went out, of two lists one after the other
@@ -55,10 +55,13 @@ few_begins = record {
 few_enters : Enters Few
 few_enters = record { counts = λ s near row session is. omega arith; unseen = λ s introduces rows. omega arith }
 
+few_succession : Succession Few
+few_succession = record { learns = λ s secret none. omega arith; advances = λ s next is. omega arith }
+
 -- so no call does
 pub few_answers : (s t : State) (call : Call) (answer : Answer) (entries : List Entry) → Answers s call answer entries t → t.sealed ≤ s.sealed + outs_in entries
 few_answers s t call answer entries h =
-    let made = answers_made few_law few_begins few_enters s t call answer entries h in
+    let made = answers_made few_law few_begins few_enters few_succession s t call answer entries h in
     omega (arith, made.made, ap (λ (u : State). u.sealed) made.does.state, ap outs_in made.does.entries)
 
 -- ---- what was done so far

@@ -18,6 +18,7 @@ use Rattle.endpoint_model.specs.State.{State, nothing}
 use Rattle.endpoint_model.specs.Sending.{packet_head}
 use Rattle.endpoint_model.specs.OnFlows.{flow_entry, with_flows}
 use Rattle.endpoint_model.specs.FlowChunks.{flow_taken_by, flow_taken, acks_body, acked_by, unowed_by}
+use Rattle.endpoint_laws.specs.Contexts.{Secrets}
 use Rattle.endpoint_laws.specs.Past.{Past}
 use Rattle.endpoint_laws.proofs.Unseen.{flows_unseen}
 use Rattle.endpoint_laws.proofs.Tied.{Tied}
@@ -64,22 +65,22 @@ module _ (s : State) (near : ℕ) (chunk : DataChunk) where
   abbrev added : Row → List Entry
   added row = map (flow_entry near) (chunk_done row.flows chunk).stated
 
-  goes_by : (setup : Setup) (call : Call) (o : Option Row) → get s.sessions near ≡ o → Keeps setup call s (flow_taken_by s near chunk o)
-  goes_by setup call None is = goes_nothing setup call s
-  goes_by setup call (Some row) is = goes_unseen s near row (left row) is (like_after s.moment row.session row.flows chunk) (added row) (flows_unseen near (chunk_done row.flows chunk).stated) setup call
+  goes_by : (secrets : Secrets) (setup : Setup) (call : Call) (o : Option Row) → get s.sessions near ≡ o → Keeps secrets setup call s (flow_taken_by s near chunk o)
+  goes_by secrets setup call None is = goes_nothing secrets setup call s
+  goes_by secrets setup call (Some row) is = goes_unseen s near row (left row) is (like_after s.moment row.session row.flows chunk) (added row) (flows_unseen near (chunk_done row.flows chunk).stated) secrets setup call
 
-  meets_by : (setup : Setup) (call : Call) (past : Past) → Sent setup past s → (o : Option Row) → get s.sessions near ≡ o → Meets setup s.moment call past (flow_taken_by s near chunk o)
-  meets_by setup call past sent None is = meets_nothing setup s.moment call past s sent
-  meets_by setup call past sent (Some row) is =
-      meets_unseen s near row (left row) is (like_after s.moment row.session row.flows chunk) (added row) (flows_unseen near (chunk_done row.flows chunk).stated) setup call past sent
+  meets_by : (secrets : Secrets) (setup : Setup) (call : Call) (past : Past) → Sent secrets setup past s → (o : Option Row) → get s.sessions near ≡ o → Meets secrets setup s.moment call past (flow_taken_by s near chunk o)
+  meets_by secrets setup call past sent None is = meets_nothing secrets setup s.moment call past s sent
+  meets_by secrets setup call past sent (Some row) is =
+      meets_unseen s near row (left row) is (like_after s.moment row.session row.flows chunk) (added row) (flows_unseen near (chunk_done row.flows chunk).stated) secrets setup call past sent
 
-pub goes_flow_taken : (setup : Setup) (call : Call) (s : State) (near : ℕ) (read : Result DataChunk DataFault) → Keeps setup call s (flow_taken s near read)
-goes_flow_taken setup call s near (Ok chunk) = goes_by s near chunk setup call (get s.sessions near) refl
-goes_flow_taken setup call s near (Err fault) = goes_nothing setup call s
+pub goes_flow_taken : (secrets : Secrets) (setup : Setup) (call : Call) (s : State) (near : ℕ) (read : Result DataChunk DataFault) → Keeps secrets setup call s (flow_taken s near read)
+goes_flow_taken secrets setup call s near (Ok chunk) = goes_by s near chunk secrets setup call (get s.sessions near) refl
+goes_flow_taken secrets setup call s near (Err fault) = goes_nothing secrets setup call s
 
-pub meets_flow_taken : (setup : Setup) (call : Call) (past : Past) (s : State) → Sent setup past s → (near : ℕ) (read : Result DataChunk DataFault) → Meets setup s.moment call past (flow_taken s near read)
-meets_flow_taken setup call past s sent near (Ok chunk) = meets_by s near chunk setup call past sent (get s.sessions near) refl
-meets_flow_taken setup call past s sent near (Err fault) = meets_nothing setup s.moment call past s sent
+pub meets_flow_taken : (secrets : Secrets) (setup : Setup) (call : Call) (past : Past) (s : State) → Sent secrets setup past s → (near : ℕ) (read : Result DataChunk DataFault) → Meets secrets setup s.moment call past (flow_taken s near read)
+meets_flow_taken secrets setup call past s sent near (Ok chunk) = meets_by s near chunk secrets setup call past sent (get s.sessions near) refl
+meets_flow_taken secrets setup call past s sent near (Err fault) = meets_nothing secrets setup s.moment call past s sent
 
 -- ---- a packet of acks, and acks that aren't sent any more
 
@@ -91,26 +92,26 @@ module _ (s : State) (near : ℕ) where
   abbrev paid_flows : Row → FlowsState
   paid_flows row = after_acks row.flows (packet_head row.session s.moment)
 
-  module _ (setup : Setup) (call : Call) (past : Past) (tied : Tied setup past s) where
-    goes_these : (row : Row) (flows : FlowsState) → get s.sessions near ≡ Some row → Goes setup call past s (nothing (with_flows s near row flows))
-    goes_these row flows is = goes_unseen s near row (with_these row flows) is (like_itself s.moment row.session) [] tt setup call past tied
+  module _ (secrets : Secrets) (setup : Setup) (call : Call) (past : Past) (tied : Tied secrets setup past s) where
+    goes_these : (row : Row) (flows : FlowsState) → get s.sessions near ≡ Some row → Goes secrets setup call past s (nothing (with_flows s near row flows))
+    goes_these row flows is = goes_unseen s near row (with_these row flows) is (like_itself s.moment row.session) [] tt secrets setup call past tied
 
-    meets_these : Sent setup past s → (row : Row) (flows : FlowsState) → get s.sessions near ≡ Some row → Meets setup s.moment call past (nothing (with_flows s near row flows))
-    meets_these sent row flows is = meets_unseen s near row (with_these row flows) is (like_itself s.moment row.session) [] tt setup call past sent
+    meets_these : Sent secrets setup past s → (row : Row) (flows : FlowsState) → get s.sessions near ≡ Some row → Meets secrets setup s.moment call past (nothing (with_flows s near row flows))
+    meets_these sent row flows is = meets_unseen s near row (with_these row flows) is (like_itself s.moment row.session) [] tt secrets setup call past sent
 
-    pub goes_acked_by : (o : Option Row) → get s.sessions near ≡ o → Goes setup call past s (acked_by s near o)
-    goes_acked_by None is = goes_nothing setup call s past tied
-    goes_acked_by (Some row) is = goes_and_home setup call s near (acks_body row s.moment) past (nothing (with_flows s near row (paid_flows row))) (goes_these row (paid_flows row) is)
+    pub goes_acked_by : (o : Option Row) → get s.sessions near ≡ o → Goes secrets setup call past s (acked_by s near o)
+    goes_acked_by None is = goes_nothing secrets setup call s past tied
+    goes_acked_by (Some row) is = goes_and_home secrets setup call s near (acks_body row s.moment) past (nothing (with_flows s near row (paid_flows row))) (goes_these row (paid_flows row) is)
 
-    pub meets_acked_by : Sent setup past s → (o : Option Row) → get s.sessions near ≡ o → Meets setup s.moment call past (acked_by s near o)
-    meets_acked_by sent None is = meets_nothing setup s.moment call past s sent
+    pub meets_acked_by : Sent secrets setup past s → (o : Option Row) → get s.sessions near ≡ o → Meets secrets setup s.moment call past (acked_by s near o)
+    meets_acked_by sent None is = meets_nothing secrets setup s.moment call past s sent
     meets_acked_by sent (Some row) is =
-        and_home setup call past s near (nothing (with_flows s near row (paid_flows row))) (goes_these row (paid_flows row) is) (meets_these sent row (paid_flows row) is) (acks_body row s.moment) (acks_are_modest row s.moment)
+        and_home secrets setup call past s near (nothing (with_flows s near row (paid_flows row))) (goes_these row (paid_flows row) is) (meets_these sent row (paid_flows row) is) (acks_body row s.moment) (acks_are_modest row s.moment)
 
-    pub goes_unowed_by : (o : Option Row) → get s.sessions near ≡ o → Goes setup call past s (nothing (unowed_by s near o))
-    goes_unowed_by None is = goes_nothing setup call s past tied
+    pub goes_unowed_by : (o : Option Row) → get s.sessions near ≡ o → Goes secrets setup call past s (nothing (unowed_by s near o))
+    goes_unowed_by None is = goes_nothing secrets setup call s past tied
     goes_unowed_by (Some row) is = goes_these row (owing_none row.flows) is
 
-    pub meets_unowed_by : Sent setup past s → (o : Option Row) → get s.sessions near ≡ o → Meets setup s.moment call past (nothing (unowed_by s near o))
-    meets_unowed_by sent None is = meets_nothing setup s.moment call past s sent
+    pub meets_unowed_by : Sent secrets setup past s → (o : Option Row) → get s.sessions near ≡ o → Meets secrets setup s.moment call past (nothing (unowed_by s near o))
+    meets_unowed_by sent None is = meets_nothing secrets setup s.moment call past s sent
     meets_unowed_by sent (Some row) is = meets_these sent row (owing_none row.flows) is

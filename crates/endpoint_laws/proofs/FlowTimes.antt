@@ -14,6 +14,7 @@ use Rattle.endpoint_model.specs.declared.row_due.RowDue.TheVariants.{Session as 
 use Rattle.endpoint_model.specs.Event.{Setup, Call}
 use Rattle.endpoint_model.specs.State.{State, nothing, with_row}
 use Rattle.endpoint_model.specs.FlowTimes.{late_marked, end_due, abandon_due, row_due, data_packed, data_body, row_due_done}
+use Rattle.endpoint_laws.specs.Contexts.{Secrets}
 use Rattle.endpoint_laws.specs.Past.{Past}
 use Rattle.endpoint_laws.specs.Lawful.{IsTick}
 use Rattle.endpoint_laws.proofs.Tied.{Tied}
@@ -51,29 +52,29 @@ end_is None None true d due e = absurd (cc)
 end_is None None false true due e = absurd (cc)
 end_is None None false false due e = absurd (cc)
 
-module _ (setup : Setup) (call : Call) (is_tick : IsTick call) (past : Past) (s : State) (tied : Tied setup past s) (near : ℕ) (row : Row) (there : get s.sessions near ≡ Some row)
+module _ (secrets : Secrets) (setup : Setup) (call : Call) (is_tick : IsTick call) (past : Past) (s : State) (tied : Tied secrets setup past s) (near : ℕ) (row : Row) (there : get s.sessions near ≡ Some row)
     (known : IsKnown past s.moment near row.session) where
   -- the row whose flows went
   abbrev sent_row : Row
   sent_row = record row { flows = with_sending row.flows (data_packed row s.moment).sending }
 
-  goes_packed : Goes setup call past s (nothing (with_row s near sent_row))
-  goes_packed = goes_unseen s near row sent_row there (like_itself s.moment row.session) [] tt setup call past tied
+  goes_packed : Goes secrets setup call past s (nothing (with_row s near sent_row))
+  goes_packed = goes_unseen s near row sent_row there (like_itself s.moment row.session) [] tt secrets setup call past tied
 
-  pub goes_row_due : (due : RowDue) → row_due s.moment row ≡ Some due → Goes setup call past s (row_due_done s near row due)
+  pub goes_row_due : (due : RowDue) → row_due s.moment row ≡ Some due → Goes secrets setup call past s (row_due_done s near row due)
   goes_row_due (SessionOf due) is =
-      goes_session_due setup call is_tick past s tied near row there known due
+      goes_session_due secrets setup call is_tick past s tied near row there known due
       (end_is (first_due row.session s.moment) (overdue_in row.session row.flows s.moment) (is_data_due row.session row.flows s.moment) (needs_keepalive row.session s.moment) due is)
-  goes_row_due (Abandon flow seq) is = goes_done s near row there (overdue_done row.flows (Some (flow, seq))) setup call past tied
-  goes_row_due Data is = goes_and_home setup call s near (data_body row s.moment) past (nothing (with_row s near sent_row)) goes_packed
-  goes_row_due Keepalive is = goes_kept_alive setup call is_tick past s tied near row there known
+  goes_row_due (Abandon flow seq) is = goes_done s near row there (overdue_done row.flows (Some (flow, seq))) secrets setup call past tied
+  goes_row_due Data is = goes_and_home secrets setup call s near (data_body row s.moment) past (nothing (with_row s near sent_row)) goes_packed
+  goes_row_due Keepalive is = goes_kept_alive secrets setup call is_tick past s tied near row there known
 
-  module _ (sent : Sent setup past s) where
-    meets_packed : Meets setup s.moment call past (nothing (with_row s near sent_row))
-    meets_packed = meets_unseen s near row sent_row there (like_itself s.moment row.session) [] tt setup call past sent
+  module _ (sent : Sent secrets setup past s) where
+    meets_packed : Meets secrets setup s.moment call past (nothing (with_row s near sent_row))
+    meets_packed = meets_unseen s near row sent_row there (like_itself s.moment row.session) [] tt secrets setup call past sent
 
-    pub meets_row_due : (due : RowDue) → Meets setup s.moment call past (row_due_done s near row due)
-    meets_row_due (SessionOf due) = meets_session_due setup call is_tick past s sent tied near row there known due
-    meets_row_due (Abandon flow seq) = meets_done s near row there (overdue_done row.flows (Some (flow, seq))) setup call past sent
-    meets_row_due Data = and_home setup call past s near (nothing (with_row s near sent_row)) goes_packed meets_packed (data_body row s.moment) (data_is_modest row s.moment)
-    meets_row_due Keepalive = meets_kept_alive setup call is_tick past s sent tied near row there known
+    pub meets_row_due : (due : RowDue) → Meets secrets setup s.moment call past (row_due_done s near row due)
+    meets_row_due (SessionOf due) = meets_session_due secrets setup call is_tick past s sent tied near row there known due
+    meets_row_due (Abandon flow seq) = meets_done s near row there (overdue_done row.flows (Some (flow, seq))) secrets setup call past sent
+    meets_row_due Data = and_home secrets setup call past s near (nothing (with_row s near sent_row)) goes_packed meets_packed (data_body row s.moment) (data_is_modest row s.moment)
+    meets_row_due Keepalive = meets_kept_alive secrets setup call is_tick past s sent tied near row there known

@@ -7,7 +7,10 @@ use Rattle.glare_core.specs.Told.{with_nonce, nonces, AllDifferent}
 use Rattle.glare_core.proofs.Sound.{IsNew}
 use Rattle.endpoint_model.specs.Views.{fact_in}
 use Rattle.endpoint_model.specs.declared.entry.Entry.{Entry}
-use Rattle.endpoint_laws.specs.Agreed.{stated_on, stated_onto}
+use Rattle.endpoint_model.specs.Event.{Setup}
+use Rattle.endpoint_laws.specs.Past.{Past, with_entry}
+use Rattle.endpoint_laws.specs.Contexts.{Secrets}
+use Rattle.endpoint_laws.specs.Agreed.{IsStatedOn, IsStatedOnto}
 use Rattle.endpoint_laws.proofs.FactsAlone.{alone_on, alone}
 
 nonces_on : (who : List ℕ) (item : Item) (before : List Step) → nonces (alone_on who item before) ≡ with_nonce item (nonces before)
@@ -26,14 +29,15 @@ different_below g (Opened j) drawn d = d
 different_below g (Confirmed peer near) drawn d = d
 different_below g (Ended peer near why) drawn d = d
 
-different_under : (own : List ℕ) (g : ℕ) (o : Option Fact) (before : List Step) → AllDifferent (nonces (stated_on own g o before)) → AllDifferent (nonces before)
-different_under own g None before d = d
-different_under own g (Some fact) before d = different_below g fact (nonces before) d
+different_under : (secrets : Secrets) (setup : Setup) (past : Past) (o : Option Fact) (before steps : List Step) → IsStatedOn secrets setup past o before steps → AllDifferent (nonces steps) → AllDifferent (nonces before)
+different_under secrets setup past None before steps is d = subst (λ (r : List Step). AllDifferent (nonces r)) is d
+different_under secrets setup past (Some fact) before steps is d = different_below is.0 fact (nonces before) (subst (λ (r : List Step). AllDifferent (nonces r)) is.2 d)
 
 -- they are different at each moment of an event
-pub different_before : (own : List ℕ) (g : ℕ) (entries : List Entry) (before : List Step) → AllDifferent (nonces (stated_onto own g entries before)) → AllDifferent (nonces before)
-different_before own g [] before d = d
-different_before own g (entry ∷ rest) before d = different_under own g (fact_in entry) before (different_before own g rest (stated_on own g (fact_in entry) before) d)
+pub different_before : (secrets : Secrets) (setup : Setup) (now : ℕ) (past : Past) (entries : List Entry) (before steps : List Step) → IsStatedOnto secrets setup now past entries before steps → AllDifferent (nonces steps) → AllDifferent (nonces before)
+different_before secrets setup now past [] before steps is d = subst (λ (r : List Step). AllDifferent (nonces r)) is d
+different_before secrets setup now past (entry ∷ rest) before steps is d =
+    different_under secrets setup past (fact_in entry) before is.0 is.1 (different_before secrets setup now (with_entry now entry past) rest is.0 steps is.2 d)
 
 pub is_new : (g : ℕ) (fact : Fact) (steps : List Step) (drawn : List (List ℕ)) → nonces steps ≡ drawn → AllDifferent (with_nonce (Did fact g) drawn) → IsNew steps fact
 is_new g (Started peer n near ni) steps drawn e d = λ among. d.0 (subst (λ (ns : List (List ℕ)). Among ni ns) e among)

@@ -15,38 +15,42 @@ use Rattle.glare_core.specs.declared.facts.Joined.{Joined}
 use Rattle.glare_core.specs.Standing.{held, seen, count}
 use Rattle.glare_core.specs.Stands.{Stands}
 use Rattle.glare_core.specs.Tells.{Tell, Keying, Answer, Under, as_responder}
-use Rattle.glare_core.specs.Steps.{Item, Told, Did, Step, view, facts, holding}
+use Rattle.glare_core.specs.Steps.{Item, Told, Did, Step, view, facts, holding, IsTail}
 use Rattle.glare_core.specs.Table.{HasHeard}
 use Rattle.glare_core.specs.Told.{WasSent}
 use Rattle.glare_core.proofs.Views.{seen_item}
 use Rattle.glare_core.proofs.Sound.{IsCalledFor}
 use Rattle.endpoint_model.proofs.Apart.{opens_alone, receives_alone}
 use Rattle.sha2.proofs.Facts256.{length-sha256}
-use Rattle.endpoint_model.specs.Views.{Sending, NamedSearch, EndedSearch, fact_in, out_in, closed_in, sought_in, unsought_in}
+use Rattle.endpoint_model.specs.Views.{Sending, NamedSearch, EndedSearch, fact_in, out_in, closed_in, sought_in, unsought_in, learnt_in, advanced_in}
 use Rattle.endpoint_model.specs.declared.config.Draws.{Draws}
 use Rattle.endpoint_model.specs.declared.entry.Entry.{Entry}
 use Rattle.endpoint_model.specs.declared.entry.Entry.TheVariants.{Fact as FactEntry}
 use Rattle.endpoint_model.specs.Event.{Setup, own_of, Call, Open, Receive, OpenCall, ReceiveCall, open_in, receive_in}
-use Rattle.endpoint_laws.specs.Past.{Past, stamped, facts_of}
-use Rattle.endpoint_laws.specs.Contexts.{session_context, inward, OpensUnder, Secrets}
-use Rattle.endpoint_laws.proofs.OneContext.{ContextOf}
 use Rattle.endpoint_model.specs.Keying.{IsFirst, IsAmong, chunks_of}
+use Rattle.endpoint_laws.specs.Past.{Past, stamped, facts_of, before_event, last_call, receive_of}
+use Rattle.endpoint_laws.specs.Contexts.{Secrets, session_context, startup_contexts, OpensUnder, OpensFirst, OpensInStartup, CallOpensIn, EventOpenedIn, StandsUnder, ContextsOf}
 use Rattle.endpoint_laws.specs.Admissible.{Admissible, Offer}
-use Rattle.endpoint_laws.specs.Lawful.{Opens, Bears, FactLine, BornLine, EndedLine, AnswersAttempt, BornFollows, IsCounted, EntriesLawful, IsBornIn, LineOf, OpensIn, BearsIn, TakesAnswerIn, TakesHelloIn, TakesUnderIn}
+use Rattle.endpoint_laws.specs.Lawful.{Opens, Bears, FactLine, BornLine, ConfirmedLine, EndedLine, WayMade, AnswersAttempt, OpensInSession, BornFollows, IsCounted, EntriesLawful, IsBornIn, LineOf, OpensIn, BearsIn, TakesAnswerIn, TakesHelloIn, TakesUnderIn}
 use Rattle.endpoint_laws.specs.Laws.{IsCall}
-use Rattle.endpoint_laws.proofs.HeldTold.{Holds, BornSizes, FactSizes}
-use Rattle.endpoint_laws.proofs.Telling.{Telling}
+use Rattle.endpoint_laws.specs.Agreed.{IsNumberOf}
+use Rattle.endpoint_laws.proofs.HeldTold.{EndTold, BornSizes, FactSizes, tail_sent, born_stays}
+use Rattle.endpoint_laws.proofs.Unique.{call_one, opened_one}
 use Rattle.endpoint_laws.proofs.Carried.{Carried, keying_carried, answer_carried, under_carried}
-use Rattle.endpoint_laws.proofs.Since.{Comes, CameIn, CameSince}
 
--- The datagram of a call was sent in the context of its session ID, if it opens in it.
-abbrev pub CarriedIn : Secrets → (List ℕ → ℕ) → Setup → Past → List Step → Option ReceiveCall → Type 0
-CarriedIn secrets of setup begin steps None = Unit {0}
-CarriedIn secrets of setup begin steps (Some r) = (context : Context) (plain : List ℕ) → ContextOf setup begin (sid_of r.datagram) context →
-    OpensUnder secrets context (sid_of r.datagram) r.datagram plain → Carried secrets of r.datagram context steps
+-- The datagram of a call was sent in the context in which it opens, if it opens in one.
+abbrev pub CarriedIn : Secrets → Setup → Past → List Step → Option ReceiveCall → Type 0
+CarriedIn secrets setup begin steps None = Unit {0}
+CarriedIn secrets setup begin steps (Some r) = (contexts : List Context) (context : Context) (plain : List ℕ) → ContextsOf secrets setup begin (sid_of r.datagram) contexts →
+    OpensFirst secrets contexts (sid_of r.datagram) r.datagram context plain → Carried secrets r.datagram context steps
 
-abbrev pub WasCarried : Secrets → (List ℕ → ℕ) → Setup → Past → List Step → Call → Type 0
-WasCarried secrets of setup begin steps call = CarriedIn secrets of setup begin steps (receive_in call)
+abbrev pub WasCarried : Secrets → Setup → Past → List Step → Call → Type 0
+WasCarried secrets setup begin steps call = CarriedIn secrets setup begin steps (receive_in call)
+
+-- No generation changes in the event of a call that takes a datagram.
+abbrev pub SameIn : Setup → Past → Past → Option ReceiveCall → Type 0
+SameIn setup begin past None = Unit {0}
+SameIn setup begin past (Some r) = startup_contexts setup past ≡ startup_contexts setup begin
 
 -- what the table and the cause Override ask to have been told
 abbrev pub IsHeardBy : ℕ → List ℕ → List Item → Fact → Type 0
@@ -61,162 +65,182 @@ first_among c [] first = absurd first
 first_among c (x ∷ cs) (inl e) = inl e
 first_among c (x ∷ cs) (inr r) = inr (first_among c cs r.1)
 
-one_half_open : (o : Option Held) (j k : Joined) → o ≡ Some (HalfOpen j) → o ≡ Some (HalfOpen k) → k ≡ j
-one_half_open o j k p q = let same : HalfOpen k ≡ HalfOpen j = cc in cc
-
 -- ---- the three tells
 
-pub keying_told : (secrets : Secrets) (of : List ℕ → ℕ) (setup : Setup) (begin past : Past) (now : ℕ) (base : List Step) (from : AddressParts) (datagram : List ℕ) (draws : Draws) (offer : Offer) →
-    WasCarried secrets of setup begin base (Receive from datagram draws) → Admissible secrets setup past now from datagram offer → WasSent (Keying offer.peer (own_of setup) offer.n offer.ni offer.far setup.generation) base
-keying_told secrets of setup begin past now base from datagram draws offer carried a =
-    let plain : List ℕ = a.reads.plain in
+-- where a datagram with an admissible keying opened
+pub keying_opens : (secrets : Secrets) (setup : Setup) (begin past : Past) (now : ℕ) (from : AddressParts) (datagram : List ℕ) (offer : Offer) → startup_contexts setup past ≡ startup_contexts setup begin →
+    (a : Admissible secrets setup past now from datagram offer) → OpensInStartup secrets setup begin datagram a.generation
+keying_opens secrets setup begin past now from datagram offer same a =
     let id : sid_of datagram ≡ 0 = a.reads.opens.id in
-    let opens : OpensUnder secrets (Startup setup.generation) (sid_of datagram) datagram plain = subst (λ (s : ℕ). OpensUnder secrets (Startup setup.generation) s datagram plain) (sym id) a.reads.opens in
-    let there = carried (Startup setup.generation) plain (inl (inl id, refl)) opens in
-    subst (λ (p : List ℕ). WasSent (Keying p (own_of setup) offer.n offer.ni offer.far setup.generation) base) (sym a.peer)
-    (keying_carried secrets of datagram base setup.generation there (sid_of datagram) plain opens a.packet a.reads.reads a.chunk offer.far a.cookie a.cert offer.ni offer.n (own_of setup) a.sign
+    record {
+      contexts = startup_contexts setup begin;
+      named = inl (id, refl);
+      plain = a.reads.plain;
+      opens =
+          subst (λ (s : ℕ). OpensFirst secrets (startup_contexts setup begin) s datagram (Startup a.generation) a.reads.plain) (sym id)
+          (subst (λ (cs : List Context). OpensFirst secrets cs 0 datagram (Startup a.generation) a.reads.plain) same a.opens);
+    }
+
+keying_told : (secrets : Secrets) (setup : Setup) (begin past : Past) (now : ℕ) (base : List Step) (from : AddressParts) (datagram : List ℕ) (draws : Draws) (offer : Offer) →
+    WasCarried secrets setup begin base (Receive from datagram draws) → startup_contexts setup past ≡ startup_contexts setup begin →
+    (a : Admissible secrets setup past now from datagram offer) → WasSent (Keying offer.peer (own_of setup) offer.n offer.ni offer.far a.generation) base
+unfolding keying_opens
+keying_told secrets setup begin past now base from datagram draws offer carried same a =
+    let o = keying_opens secrets setup begin past now from datagram offer same a in
+    let there = carried o.contexts (Startup a.generation) o.plain (inl o.named) o.opens in
+    subst (λ (p : List ℕ). WasSent (Keying p (own_of setup) offer.n offer.ni offer.far a.generation) base) (sym a.peer)
+    (keying_carried secrets datagram base a.generation there 0 a.reads.plain a.reads.opens a.packet a.reads.reads a.chunk offer.far a.cookie a.cert offer.ni offer.n (own_of setup) a.sign
     (first_among a.chunk (chunks_of a.packet) a.first) a.spells a.nonce_size a.number)
 
--- under the session ID of an attempt that was held when the event began, or under 0, where a search became it since
-attempt_context : (setup : Setup) (begin : Past) (datagram : List ℕ) (j : Joined) → (held j.peer (facts_of begin) ≡ Some (Opening j.n j.near j.ni)) ⊎ (sid_of datagram ≡ 0) → sid_of datagram ≡ j.near → ContextOf setup begin (sid_of datagram) (Startup setup.generation)
-attempt_context setup begin datagram j (inl is_held) id = inr (Opening j.n j.near j.ni, inl (record { peer = j.peer; is_held = is_held; id = sym id }), refl)
-attempt_context setup begin datagram j (inr zero) id = inl (inl zero, refl)
+answer_told : (secrets : Secrets) (setup : Setup) (begin : Past) (base : List Step) (from : AddressParts) (datagram : List ℕ) (draws : Draws) (j : Joined) (generation : ℕ) →
+    WasCarried secrets setup begin base (Receive from datagram draws) → IsCall (Receive from datagram draws) → OpensInStartup secrets setup begin datagram generation → length j.peer ≡ 32 → length j.ni ≡ 16 →
+    AnswersAttempt secrets generation j datagram → WasSent (Answer j.near j.peer j.far j.nr j.k j.ni generation) base
+answer_told secrets setup begin base from datagram draws j generation carried is_call o peer_size ni_size a =
+    let there = carried o.contexts (Startup generation) o.plain (inl o.named) o.opens in
+    answer_carried secrets datagram base generation there j.near a.reads.plain a.reads.opens a.packet a.reads.reads a.chunk j.far j.nr j.k j.peer j.ni a.sign a.among a.spells is_call.0 peer_size ni_size a.number
 
-pub answer_told : (secrets : Secrets) (of : List ℕ → ℕ) (setup : Setup) (begin : Past) (facts : List Fact) (base : List Step) (from : AddressParts) (datagram : List ℕ) (draws : Draws) (j : Joined) →
-    WasCarried secrets of setup begin base (Receive from datagram draws) → IsCall (Receive from datagram draws) → (held j.peer (facts_of begin) ≡ Some (Opening j.n j.near j.ni)) ⊎ (sid_of datagram ≡ 0) → length j.peer ≡ 32 → length j.ni ≡ 16 →
-    AnswersAttempt secrets setup.generation j datagram → WasSent (Answer j.near j.peer j.far j.nr j.k j.ni setup.generation) base
-answer_told secrets of setup begin facts base from datagram draws j carried is_call is_held peer_size ni_size a =
-    let plain : List ℕ = a.reads.plain in
-    let id : sid_of datagram ≡ j.near = a.reads.opens.id in
-    let opens : OpensUnder secrets (Startup setup.generation) (sid_of datagram) datagram plain = subst (λ (s : ℕ). OpensUnder secrets (Startup setup.generation) s datagram plain) (sym id) a.reads.opens in
-    let there = carried (Startup setup.generation) plain (attempt_context setup begin datagram j is_held id) opens in
-    answer_carried secrets of datagram base setup.generation there j.near plain a.reads.opens a.packet a.reads.reads a.chunk j.far j.nr j.k j.peer j.ni a.sign a.among a.spells is_call.0 peer_size ni_size a.number
+under_told : (secrets : Secrets) (setup : Setup) (begin : Past) (base : List Step) (from : AddressParts) (datagram : List ℕ) (draws : Draws) (near : ℕ) (j : Joined) →
+    WasCarried secrets setup begin base (Receive from datagram draws) → (o : OpensInSession secrets setup begin near (HalfOpen j) datagram) → WasSent (Under (as_responder (own_of setup) j) true o.generation) base
+under_told secrets setup begin base from datagram draws near j carried o =
+    let context : Context = session_context o.generation (as_responder (own_of setup) j) true in
+    let id : sid_of datagram ≡ near = o.opens.id in
+    let opens : OpensUnder secrets context (sid_of datagram) datagram o.plain = subst (λ (s : ℕ). OpensUnder secrets context s datagram o.plain) (sym id) o.opens in
+    let stands : StandsUnder begin (sid_of datagram) (HalfOpen j) = subst (λ (s : ℕ). StandsUnder begin s (HalfOpen j)) (sym id) o.stands in
+    under_carried secrets datagram o.generation (as_responder (own_of setup) j) base
+    (carried (context ∷ []) context o.plain (inr (HalfOpen j, o.generation, stands, o.is_session, o.begun, refl)) (inl (refl, opens)))
 
-pub under_told : (secrets : Secrets) (of : List ℕ → ℕ) (setup : Setup) (begin : Past) (base : List Step) (from : AddressParts) (datagram : List ℕ) (draws : Draws) (peer : List ℕ) (near : ℕ) (j : Joined) →
-    WasCarried secrets of setup begin base (Receive from datagram draws) → Comes (sid_of datagram) (facts_of begin) peer (Some (HalfOpen j)) → near ≡ j.near →
-    ((plain : List ℕ) × OpensUnder secrets (inward setup (HalfOpen j)) near datagram plain) → WasSent (Under (as_responder (own_of setup) j) true setup.generation) base
-under_told secrets of setup begin base from datagram draws peer near j carried (inl is_held) near_is by =
-    let plain : List ℕ = by.0 in
-    let context : Context = session_context setup.generation (as_responder (own_of setup) j) true in
-    let id : sid_of datagram ≡ near = by.1.id in
-    let opens : OpensUnder secrets context (sid_of datagram) datagram plain = subst (λ (s : ℕ). OpensUnder secrets context s datagram plain) (sym id) by.1 in
-    under_carried secrets of datagram setup.generation (as_responder (own_of setup) j) base
-    (carried context plain (inr (HalfOpen j, inl (record { peer = peer; is_held = is_held; id = sym near_is ∙ sym id }), refl)) opens)
-under_told secrets of setup begin base from datagram draws peer near j carried (inr born) near_is by = absurd (born.1 (sym near_is ∙ sym by.1.id ∙ born.0))
+pub way_contexts : (setup : Setup) (now : ℕ) (before at : Past) (peer : List ℕ) → WayMade now at before peer → startup_contexts setup before ≡ startup_contexts setup at
+way_contexts setup now before at peer (inl e) = ap (startup_contexts setup) (sym e)
+way_contexts setup now before at peer (inr way) = ap (startup_contexts setup) (sym way.3)
 
 -- ---- a fact
 
-module _ (secrets : Secrets) (of : List ℕ → ℕ) (setup : Setup) (named : of (own_of setup) ≡ setup.generation) (now : ℕ) (begin past : Past) (base steps : List Step) (is : Telling of steps) (stated : facts (view (own_of setup) steps) ≡ facts_of past)
-    (grows : (t : Tell) → WasSent t base → WasSent t steps) where
+module _ (secrets : Secrets) (setup : Setup) (now : ℕ) (begin past : Past) (base steps : List Step) (tail : IsTail base steps) (stated : facts (view (own_of setup) steps) ≡ facts_of past)
+    (first : EndTold secrets setup begin base) (told : EndTold secrets setup past steps) (origin : before_event past ≡ begin) (call : Call) (last : last_call past ≡ Some call)
+    (same : SameIn setup begin past (receive_in call)) (carried : WasCarried secrets setup begin base call) where
   abbrev own : List ℕ
   own = own_of setup
 
-  abbrev start : List Fact
-  start = facts_of begin
+  grows : (t : Tell) → WasSent t base → WasSent t steps
+  grows t w = tail_sent t base steps tail w
 
   holding_is : (peer : List ℕ) (h : Held) → held peer (facts_of past) ≡ Some h → holding own peer steps ≡ Some h
   holding_is peer h e = ap (held peer) stated ∙ e
 
-  holds_it : (peer : List ℕ) (h : Held) → held peer (facts_of past) ≡ Some h → Holds setup.generation (view own steps) peer (Some h)
-  holds_it peer h e =
-      subst (λ (g : ℕ). Holds g (view own steps) peer (Some h)) named
-      (subst (λ (o : Option Held). Holds (of own) (view own steps) peer o) (holding_is peer h e) (is.holds own peer))
+  -- the generation in which the call's datagram opened
+  its_number : (g : ℕ) → EventOpenedIn secrets setup past g → CallOpensIn secrets setup begin (receive_in call) g
+  its_number g o =
+      subst (λ (c : Option Call). CallOpensIn secrets setup begin (receive_of c) g) last
+      (subst (λ (p : Past). CallOpensIn secrets setup p (receive_of (last_call past)) g) origin o)
 
-  called_by : (peer : List ℕ) (near : ℕ) (why : Why) (j : Joined) → j.peer ≡ peer → seen j.peer (Ended peer near why ∷ facts_of past) < j.n →
-      IsCalledFor own (Told (Keying j.peer own j.n j.ni j.far setup.generation) ∷ view own steps) (Ended peer near why)
-  called_by peer near why j same above e =
-      let more = seen_item peer (Did (Ended peer near why) setup.generation) (view own steps) in
+  called_by : (peer : List ℕ) (near : ℕ) (why : Why) (j : Joined) (g : ℕ) → j.peer ≡ peer → seen j.peer (Ended peer near why ∷ facts_of past) < j.n →
+      IsCalledFor own (Told (Keying j.peer own j.n j.ni j.far g) ∷ view own steps) (Ended peer near why)
+  called_by peer near why j g is above e =
+      let more = seen_item peer (Did (Ended peer near why) g) (view own steps) in
       let here : seen peer (Ended peer near why ∷ facts (view own steps)) < j.n =
-      subst (λ (fs : List Fact). seen peer (Ended peer near why ∷ fs) < j.n) (sym stated) (subst (λ (p : List ℕ). seen p (Ended peer near why ∷ facts_of past) < j.n) same above) in
+      subst (λ (fs : List Fact). seen peer (Ended peer near why ∷ fs) < j.n) (sym stated) (subst (λ (p : List ℕ). seen p (Ended peer near why ∷ facts_of past) < j.n) is above) in
       record {
         n = j.n;
         ni = j.ni;
         near_i = j.far;
-        generation = setup.generation;
-        told = inl (ap (λ (p : List ℕ). Told (Keying p own j.n j.ni j.far setup.generation)) (sym same));
+        generation = g;
+        told = inl (ap (λ (p : List ℕ). Told (Keying p own j.n j.ni j.far g)) (sym is));
         above = omega (arith, more, here);
       }
 
-  -- the keying of which a session is born
-  bears : (call : Call) (before : Past) (offer : Offer) (nr : List ℕ) → WasCarried secrets of setup begin base call → Bears secrets setup before now call offer nr →
-      WasSent (Keying offer.peer own offer.n offer.ni offer.far setup.generation) steps
-  bears call before offer nr carried by = in_receive (receive_in call) carried by
-    where
-      in_receive : (o : Option ReceiveCall) → CarriedIn secrets of setup begin base o → BearsIn secrets setup before now o offer nr → WasSent (Keying offer.peer own offer.n offer.ni offer.far setup.generation) steps
-      in_receive None sent bearing = absurd bearing
-      in_receive (Some r) sent bearing =
-          grows (Keying offer.peer own offer.n offer.ni offer.far setup.generation) (keying_told secrets of setup begin before now base r.from r.datagram r.draws offer sent bearing.0)
-
-  offer_of : Joined → Offer
+  abbrev offer_of : Joined → Offer
   offer_of j = record { peer = j.peer; n = j.n; ni = j.ni; far = j.far }
 
-  hears_born : (call : Call) (before : Past) (j : Joined) → WasCarried secrets of setup begin base call → BornLine secrets setup now call before j → Hears setup.generation own steps (Born j)
-  unfolding offer_of
-  hears_born call before j carried line = inr (Keying j.peer own j.n j.ni j.far setup.generation, bears call line.before (offer_of j) j.nr carried line.by, (inl refl, tt))
+  -- the keying of which a session is born, and the generation in which it came
+  record Borne (j : Joined) : Type 0 where
+    generation : ℕ
+    came : CallOpensIn secrets setup begin (receive_in call) generation
+    sent : WasSent (Keying j.peer own j.n j.ni j.far generation) steps
 
-  hears_opened : (call : Call) (j : Joined) → IsCall call → WasCarried secrets of setup begin base call → CameSince call start (facts_of past) → held j.peer (facts_of past) ≡ Some (Opening j.n j.near j.ni) →
-      FactLine secrets setup now call past [] (Opened j) → Hears setup.generation own steps (Opened j)
-  hears_opened call j is_call carried came stands line = in_receive (receive_in call) refl carried came line
+  bears : (before : Past) (j : Joined) → startup_contexts setup before ≡ startup_contexts setup past → BearsIn secrets setup before now (receive_in call) (offer_of j) j.nr → Borne j
+  bears before j way by = in_receive (receive_in call) refl carried same by
     where
-      in_receive : (o : Option ReceiveCall) → receive_in call ≡ o → CarriedIn secrets of setup begin base o → CameIn o start (facts_of past) → TakesAnswerIn secrets setup o j → Hears setup.generation own steps (Opened j)
-      in_receive None e sent since answer = absurd answer
-      in_receive (Some r) e sent since answer =
-          let t : Tell = Answer j.near j.peer j.far j.nr j.k j.ni setup.generation in
-          let sizes = (holds_it j.peer (Opening j.n j.near j.ni) stands).1 in
-          let was = subst (λ (h : Option Held). Comes (sid_of r.datagram) start j.peer h) stands (since j.peer) in
-          inr (t, grows t (answer_told secrets of setup begin (facts_of past) base r.from r.datagram r.draws j sent (subst IsCall (receives_alone call r e) is_call) was sizes.0 sizes.1 answer), (inl refl, tt))
+      in_receive : (o : Option ReceiveCall) → receive_in call ≡ o → CarriedIn secrets setup begin base o → SameIn setup begin past o → BearsIn secrets setup before now o (offer_of j) j.nr → Borne j
+      in_receive None e sent alike bearing = absurd bearing
+      in_receive (Some r) e sent alike bearing = record {
+        generation = bearing.0.generation;
+        came = subst (λ (o : Option ReceiveCall). CallOpensIn secrets setup begin o bearing.0.generation) (sym e) (keying_opens secrets setup begin before now r.from r.datagram (offer_of j) (way ∙ alike) bearing.0);
+        sent = grows (Keying j.peer own j.n j.ni j.far bearing.0.generation) (keying_told secrets setup begin before now base r.from r.datagram r.draws (offer_of j) sent (way ∙ alike) bearing.0);
+      }
 
-  hears_confirmed : (call : Call) (peer : List ℕ) (near : ℕ) → WasCarried secrets of setup begin base call → CameSince call start (facts_of past) → Stands own (count (facts_of past)) (facts_of past) (Confirmed peer near) →
-      FactLine secrets setup now call past [] (Confirmed peer near) → Hears setup.generation own steps (Confirmed peer near)
-  hears_confirmed call peer near carried came stands line = in_receive (receive_in call) carried came line.by
+  hears_born : (j : Joined) (g : ℕ) → EventOpenedIn secrets setup past g → BornLine secrets setup now call past j → Hears g own steps (Born j)
+  hears_born j g opened line =
+      let b = bears line.before j (way_contexts setup now line.before past j.peer line.way) line.by in
+      let one : b.generation ≡ g = call_one secrets setup begin (receive_in call) b.generation g b.came (its_number g opened) in
+      inr (Keying j.peer own j.n j.ni j.far g, subst (λ (k : ℕ). WasSent (Keying j.peer own j.n j.ni j.far k) steps) one b.sent, (inl refl, tt))
+
+  hears_opened : (j : Joined) (g : ℕ) → EventOpenedIn secrets setup past g → IsCall call → held j.peer (facts_of past) ≡ Some (Opening j.n j.near j.ni) → TakesAnswerIn secrets setup past (receive_in call) j → Hears g own steps (Opened j)
+  hears_opened j g opened is_call stands line = in_receive (receive_in call) refl carried line (its_number g opened)
+    where
+      in_receive : (o : Option ReceiveCall) → receive_in call ≡ o → CarriedIn secrets setup begin base o → TakesAnswerIn secrets setup past o j → CallOpensIn secrets setup begin o g → Hears g own steps (Opened j)
+      in_receive None e sent answer came = absurd answer
+      in_receive (Some r) e sent answer came =
+          let sizes = told.sized j.peer j.n j.near j.ni stands in
+          let there : OpensInStartup secrets setup begin r.datagram answer.0 = subst (λ (p : Past). OpensInStartup secrets setup p r.datagram answer.0) origin answer.1 in
+          let one : answer.0 ≡ g = opened_one secrets setup begin r.datagram answer.0 g there came in
+          let t : Tell = Answer j.near j.peer j.far j.nr j.k j.ni g in
+          let was : WasSent t base = subst (λ (k : ℕ). WasSent (Answer j.near j.peer j.far j.nr j.k j.ni k) base) one
+          (answer_told secrets setup begin base r.from r.datagram r.draws j answer.0 sent (subst IsCall (receives_alone call r e) is_call) there sizes.0 sizes.1 answer.2) in
+          inr (t, grows t was, (inl refl, tt))
+
+  hears_confirmed : (peer : List ℕ) (near g : ℕ) → ConfirmedLine secrets setup call past peer near → Hears g own steps (Confirmed peer near)
+  hears_confirmed peer near g line = in_receive (receive_in call) carried line.by
     where
       j : Joined
       j = line.j
 
-      in_receive : (o : Option ReceiveCall) → CarriedIn secrets of setup begin base o → CameIn o start (facts_of past) → TakesUnderIn secrets setup o near (HalfOpen j) → Hears setup.generation own steps (Confirmed peer near)
-      in_receive None sent since by = absurd by
-      in_receive (Some r) sent since by =
-          let t : Tell = Under (as_responder own j) true setup.generation in
-          let same : stands.j ≡ j = one_half_open (held peer (facts_of past)) j stands.j line.session stands.session in
-          let was = subst (λ (h : Option Held). Comes (sid_of r.datagram) start peer h) line.session (since peer) in
-          let told = under_told secrets of setup begin base r.from r.datagram r.draws peer near j sent was (stands.id ∙ ap (λ (k : Joined). k.near) same) by in
-          inr (t, grows t told, (record { j = j; session = holding_is peer (HalfOpen j) line.session; generation = setup.generation; born = inr (holds_it peer (HalfOpen j) line.session).0.1; told = inl refl }, tt))
+      in_receive : (o : Option ReceiveCall) → CarriedIn secrets setup begin base o → TakesUnderIn secrets setup past o near (HalfOpen j) → Hears g own steps (Confirmed peer near)
+      in_receive None sent by = absurd by
+      in_receive (Some r) sent by =
+          let o : OpensInSession secrets setup begin near (HalfOpen j) r.datagram = subst (λ (p : Past). OpensInSession secrets setup p near (HalfOpen j) r.datagram) origin by in
+          let t : Tell = Under (as_responder own j) true o.generation in
+          let was = born_stays setup base steps j o.generation tail (first.born j o.generation o.begun) in
+          inr (t, grows t (under_told secrets setup begin base r.from r.datagram r.draws near j sent o), (record { j = j; session = holding_is peer (HalfOpen j) line.session; generation = o.generation; born = inr was.stated; told = inl refl }, tt))
+
+  -- what was done, and then an Ended
+  abbrev ended_on : List ℕ → ℕ → Why → Past
+  ended_on peer near why = stamped now (FactEntry (Ended peer near why)) ∷ past
 
   -- an Ended for Override has heard the keying of the Born that follows
-  hears_way : (call : Call) (peer : List ℕ) (near : ℕ) (why : Why) (rest : List Entry) → WasCarried secrets of setup begin base call → BornFollows peer rest →
-      EntriesLawful secrets setup now call (stamped now (FactEntry (Ended peer near why)) ∷ past) rest → Hears setup.generation own steps (Ended peer near why)
-  unfolding offer_of
-  hears_way call peer near why [] carried follows lawful = absurd follows
-  hears_way call peer near why (entry ∷ rest) carried follows lawful = by (fact_in entry) (out_in entry) (closed_in entry) (sought_in entry) (unsought_in entry) follows lawful.0
+  hears_way : (peer : List ℕ) (near : ℕ) (why : Why) (g : ℕ) (rest : List Entry) → BornFollows peer rest →
+      EntriesLawful secrets setup now call (stamped now (FactEntry (Ended peer near why)) ∷ past) rest → Hears g own steps (Ended peer near why)
+  hears_way peer near why g [] follows lawful = absurd follows
+  hears_way peer near why g (entry ∷ rest) follows lawful = by (fact_in entry) (out_in entry) (closed_in entry) (sought_in entry) (unsought_in entry) (learnt_in entry) (advanced_in entry) follows lawful.0
     where
-      by : (o : Option Fact) (sent : Option Sending) (over : Option ℕ) (sought : Option NamedSearch) (ended : Option EndedSearch) → IsBornIn peer o → LineOf secrets setup now call (stamped now (FactEntry (Ended peer near why)) ∷ past) rest o sent over sought ended → Hears setup.generation own steps (Ended peer near why)
-      by None sent over sought ended born line = absurd born
-      by (Some (Born j)) sent over sought ended born line =
-          inr (Keying j.peer own j.n j.ni j.far setup.generation, bears call line.1.before (offer_of j) j.nr carried line.1.by, (tt, called_by peer near why j born line.0.above))
-      by (Some (Started p n m ni)) sent over sought ended born line = absurd born
-      by (Some (Opened j)) sent over sought ended born line = absurd born
-      by (Some (Confirmed p m)) sent over sought ended born line = absurd born
-      by (Some (Ended p m w)) sent over sought ended born line = absurd born
+      by : (o : Option Fact) (sent : Option Sending) (over : Option ℕ) (sought : Option NamedSearch) (ended : Option EndedSearch) (learnt advanced : Option ℕ) → IsBornIn peer o → LineOf secrets setup now call (ended_on peer near why) rest o sent over sought ended learnt advanced → Hears g own steps (Ended peer near why)
+      by None sent over sought ended learnt advanced born line = absurd born
+      by (Some (Born j)) sent over sought ended learnt advanced born line =
+          let b = bears line.1.before j (way_contexts setup now line.1.before (ended_on peer near why) j.peer line.1.way) line.1.by in
+          inr (Keying j.peer own j.n j.ni j.far b.generation, b.sent, (tt, called_by peer near why j b.generation born line.0.above))
+      by (Some (Started p n m ni)) sent over sought ended learnt advanced born line = absurd born
+      by (Some (Opened j)) sent over sought ended learnt advanced born line = absurd born
+      by (Some (Confirmed p m)) sent over sought ended learnt advanced born line = absurd born
+      by (Some (Ended p m w)) sent over sought ended learnt advanced born line = absurd born
 
-  hears_ended : (call : Call) (peer : List ℕ) (near : ℕ) (why : Why) (rest : List Entry) → WasCarried secrets of setup begin base call → EndedLine secrets setup now call past rest peer near why →
-      EntriesLawful secrets setup now call (stamped now (FactEntry (Ended peer near why)) ∷ past) rest → Hears setup.generation own steps (Ended peer near why)
-  hears_ended call peer near Cancelled rest carried line lawful = inl (tt, λ e. absurd (cc))
-  hears_ended call peer near Expired rest carried line lawful = inl (tt, λ e. absurd (cc))
-  hears_ended call peer near Glare rest carried line lawful = inl (tt, λ e. absurd (cc))
-  hears_ended call peer near Override rest carried line lawful = hears_way call peer near Override rest carried line lawful
-  hears_ended call peer near Unconfirmed rest carried line lawful = inl (tt, λ e. absurd (cc))
-  hears_ended call peer near Near rest carried line lawful = inl (tt, λ e. absurd (cc))
-  hears_ended call peer near Far rest carried line lawful = inl (tt, λ e. absurd (cc))
-  hears_ended call peer near Idle rest carried line lawful = inl (tt, λ e. absurd (cc))
+  hears_ended : (peer : List ℕ) (near : ℕ) (why : Why) (g : ℕ) (rest : List Entry) → EndedLine secrets setup now call past rest peer near why →
+      EntriesLawful secrets setup now call (stamped now (FactEntry (Ended peer near why)) ∷ past) rest → Hears g own steps (Ended peer near why)
+  hears_ended peer near Cancelled g rest line lawful = inl (tt, λ e. absurd (cc))
+  hears_ended peer near Expired g rest line lawful = inl (tt, λ e. absurd (cc))
+  hears_ended peer near Glare g rest line lawful = inl (tt, λ e. absurd (cc))
+  hears_ended peer near Override g rest line lawful = hears_way peer near Override g rest line lawful
+  hears_ended peer near Unconfirmed g rest line lawful = inl (tt, λ e. absurd (cc))
+  hears_ended peer near Near g rest line lawful = inl (tt, λ e. absurd (cc))
+  hears_ended peer near Far g rest line lawful = inl (tt, λ e. absurd (cc))
+  hears_ended peer near Idle g rest line lawful = inl (tt, λ e. absurd (cc))
 
   -- each fact has heard what it asks for
-  pub hears : (call : Call) (fact : Fact) (rest : List Entry) → IsCall call → WasCarried secrets of setup begin base call → CameSince call start (facts_of past) →
-      Stands own (count (facts_of past)) (facts_of past) fact → FactLine secrets setup now call past rest fact → EntriesLawful secrets setup now call (stamped now (FactEntry fact) ∷ past) rest → Hears setup.generation own steps fact
-  hears call (Started peer n near ni) rest is_call carried came stands line lawful = inl (tt, tt)
-  hears call (Born j) rest is_call carried came stands line lawful = hears_born call past j carried line
-  hears call (Opened j) rest is_call carried came stands line lawful = hears_opened call j is_call carried came stands line
-  hears call (Confirmed peer near) rest is_call carried came stands line lawful = hears_confirmed call peer near carried came stands line
-  hears call (Ended peer near why) rest is_call carried came stands line lawful = hears_ended call peer near why rest carried line lawful
+  pub hears : (fact : Fact) (g : ℕ) (rest : List Entry) → IsCall call → IsNumberOf secrets setup past fact g → Stands own (count (facts_of past)) (facts_of past) fact →
+      FactLine secrets setup now call past rest fact → EntriesLawful secrets setup now call (stamped now (FactEntry fact) ∷ past) rest → Hears g own steps fact
+  hears (Started peer n near ni) g rest is_call number stands line lawful = inl (tt, tt)
+  hears (Born j) g rest is_call number stands line lawful = hears_born j g number line
+  hears (Opened j) g rest is_call number stands line lawful = hears_opened j g number is_call stands line
+  hears (Confirmed peer near) g rest is_call number stands line lawful = hears_confirmed peer near g line
+  hears (Ended peer near why) g rest is_call number stands line lawful = hears_ended peer near why g rest line lawful
 
 -- ---- the sizes of a fact
 
@@ -241,7 +265,7 @@ started_sizes call peer n ni is_call fits by = in_open (open_in call) refl by
 -- an attempt that was a search has the sizes that its line says
 hello_sizes : (secrets : Secrets) (setup : Setup) (past : Past) (peer : List ℕ) (n near : ℕ) (ni : List ℕ) (o : Option ReceiveCall) → TakesHelloIn secrets setup past o peer n near ni → (length peer ≡ 32) × (length ni ≡ 16) × (n < 2 ^ 64)
 hello_sizes secrets setup past peer n near ni None hello = absurd hello
-hello_sizes secrets setup past peer n near ni (Some r) hello = (ap length hello.peer_is ∙ length-sha256 hello.cert, hello.nonce_size, hello.number)
+hello_sizes secrets setup past peer n near ni (Some r) hello = (ap length hello.2.peer_is ∙ length-sha256 hello.2.cert, hello.2.nonce_size, hello.2.number)
 
 pub sizes_of : (secrets : Secrets) (setup : Setup) (now : ℕ) (call : Call) (past : Past) (rest : List Entry) (fact : Fact) → IsCall call → count (facts_of past) < 2 ^ 64 →
     Stands (own_of setup) (count (facts_of past)) (facts_of past) fact → FactLine secrets setup now call past rest fact → IsCounted fact → FactSizes fact

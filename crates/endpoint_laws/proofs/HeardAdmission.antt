@@ -40,7 +40,7 @@ use Rattle.endpoint_laws.proofs.Passing.{PassedAt, Passed, PassedIn}
 use Rattle.endpoint_laws.proofs.HeardEvents.{AreNamed, IsWell, AdmissionHeard}
 use Rattle.crypto_profile.specs.declared.group.GroupSecret.{GroupSecret}
 use Rattle.endpoint_laws.specs.Contexts.{Secrets, generation_of}
-use Rattle.endpoint_laws.proofs.Knowing.{one_of, context_generation}
+use Rattle.endpoint_laws.proofs.Knowing.{only_secret, context_generation}
 
 is_zero : (n : ℕ) → (n == 0) ≡ true → n ≡ 0
 is_zero n e = grind (arith, nat_tests)
@@ -190,7 +190,7 @@ module _ (past : Past) (s : State) (e : Event) (datagram : List ℕ) (are : IsBy
 
       only_it : (other : List ℕ) → OpensUnder secrets (context_of session false) sid datagram other → (opens_in session part ≡ true) × (other ≡ plain)
       only_it other under =
-          let same : under.secret ≡ keyed.0 = one_of under.secret keyed.0 (sym under.known ∙ its_known) in
+          let same : under.secret ≡ keyed.0 = only_secret secrets (context_of session false) keyed.0 its_known under.secret under.known in
           let opens : Opens keyed.0 (context_of session false) session.joined.near part other =
           subst (λ (secret : List ℕ). Opens secret (context_of session false) session.joined.near part other) same (subst (λ (n : ℕ). Opens under.secret (context_of session false) n part other) (sym its_id) under.opens) in
           ((opens_in_context keyed.0 session keyed.2 part).1 (other, opens), plain_in_context keyed.0 session keyed.2 part other opens)

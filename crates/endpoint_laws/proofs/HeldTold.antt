@@ -1,32 +1,35 @@
--- What an end holds it may tell: the tell of each thing that is held, and that it meets the table of told histories.
-use Rattle.std.proofs.Common.{ℕ, ◌<◌, ◌^◌, List, ◌∷◌, length, ◌≡◌, inl, inr, refl, sym, ap, ◌∙◌, Option, Some, None, true}
+-- What an end told of the sessions that began at it, and the sizes of what it holds.
+use Rattle.std.proofs.Common.{ℕ, ◌<◌, ◌^◌, List, [], ◌∷◌, length, Option, Some, None, ◌≡◌, inl, inr, sym, ap, subst, ◌∙◌, true}
 use Rattle.glare_core.specs.declared.facts.Fact.{Fact}
 use Rattle.glare_core.specs.declared.facts.Fact.TheVariants.{Started, Born, Opened, Confirmed, Ended}
 use Rattle.glare_core.specs.declared.facts.Held.{Held}
 use Rattle.glare_core.specs.declared.facts.Held.TheVariants.{Opening, HalfOpen, KeptAsResponder, KeptAsInitiator}
 use Rattle.glare_core.specs.declared.facts.Joined.{Joined}
 use Rattle.glare_core.specs.Standing.{peer_of, after, held}
-use Rattle.glare_core.specs.Tells.{Tell, Keying, Answer, Under, as_initiator}
-use Rattle.glare_core.specs.Steps.{Item, Did, Among, facts}
-use Rattle.glare_core.specs.Table.{SentFits}
+use Rattle.glare_core.specs.Tells.{Tell, Answer, Under, as_initiator}
+use Rattle.glare_core.specs.Steps.{Item, Did, Step, Among, view, IsTail}
+use Rattle.glare_core.specs.Told.{WasSent}
 use Rattle.glare_core.proofs.Tails.{same_end}
+use Rattle.endpoint_model.specs.Event.{Setup, own_of}
+use Rattle.endpoint_laws.specs.Past.{Past, facts_of}
+use Rattle.endpoint_laws.specs.Contexts.{Secrets, BegunUnder}
 
--- the keying of an attempt, the answer of a session that was born here, and that a datagram goes under a session to its responder
-abbrev pub tell_of : (List ℕ → ℕ) → List ℕ → List ℕ → Held → Tell
-tell_of of own peer (Opening n near ni) = Keying own peer n ni near (of own)
-tell_of of own peer (HalfOpen j) = Answer j.far own j.near j.nr j.k j.ni (of own)
-tell_of of own peer (KeptAsResponder j) = Answer j.far own j.near j.nr j.k j.ni (of own)
-tell_of of own peer (KeptAsInitiator j) = Under (as_initiator own j) true (of own)
+-- ---- what stays as steps are added
 
--- ---- where a held session comes from
+pub tail_sent : (t : Tell) (steps last : List Step) → IsTail steps last → WasSent t steps → WasSent t last
+tail_sent t steps [] tail w = subst (WasSent t) tail w
+tail_sent t steps (s ∷ last) (inl e) w = subst (WasSent t) e w
+tail_sent t steps (s ∷ last) (inr tail) w = let r = tail_sent t steps last tail w in (r.0, inr r.1)
 
-abbrev pub HasFact : ℕ → List Item → List ℕ → Held → Type 0
-HasFact g log peer (Opening n near ni) = Unit {0}
-HasFact g log peer (HalfOpen j) = (j.peer ≡ peer) × Among (Did (Born j) g) log
-HasFact g log peer (KeptAsResponder j) = (j.peer ≡ peer) × Among (Did (Born j) g) log
-HasFact g log peer (KeptAsInitiator j) = (j.peer ≡ peer) × Among (Did (Opened j) g) log
+pub tail_among : (own : List ℕ) (item : Item) (steps last : List Step) → IsTail steps last → Among item (view own steps) → Among item (view own last)
+tail_among own item steps [] tail a = subst (λ (r : List Step). Among item (view own r)) tail a
+tail_among own item steps (s ∷ last) (inl e) a = subst (λ (r : List Step). Among item (view own r)) e a
+tail_among own item steps (s ∷ last) (inr tail) a = elim (same_end s.who own) [
+  | inl d ↦ rw d.1 (inr (tail_among own item steps last tail a))
+  | inr d ↦ rw d.1 (tail_among own item steps last tail a)
+]
 
--- ---- the sizes of what is held
+-- ---- sizes
 
 pub record BornSizes (j : Joined) : Type 0 where
   pub nr : length j.nr ≡ 16
@@ -34,64 +37,75 @@ pub record BornSizes (j : Joined) : Type 0 where
   pub k : j.k < 2 ^ 64
   pub far : j.far < 2 ^ 32
 
-abbrev pub SizesOf : List ℕ → Held → Type 0
-SizesOf peer (Opening n near ni) = (length peer ≡ 32) × (length ni ≡ 16) × (n < 2 ^ 64)
-SizesOf peer (HalfOpen j) = BornSizes j
-SizesOf peer (KeptAsResponder j) = BornSizes j
-SizesOf peer (KeptAsInitiator j) = Unit {0}
+abbrev pub AttemptSizes : List ℕ → ℕ → List ℕ → Type 0
+AttemptSizes peer n ni = (length peer ≡ 32) × (length ni ≡ 16) × (n < 2 ^ 64)
 
 abbrev pub FactSizes : Fact → Type 0
-FactSizes (Started peer n near ni) = (length peer ≡ 32) × (length ni ≡ 16) × (n < 2 ^ 64)
+FactSizes (Started peer n near ni) = AttemptSizes peer n ni
 FactSizes (Born j) = BornSizes j
 FactSizes (Opened j) = Unit {0}
 FactSizes (Confirmed peer near) = Unit {0}
 FactSizes (Ended peer near why) = Unit {0}
 
--- ---- both, of what is held with a peer
+-- the attempts that are held after these facts have them
+abbrev pub AreSized : List Fact → Type 0
+AreSized facts = (peer : List ℕ) (n near : ℕ) (ni : List ℕ) → held peer facts ≡ Some (Opening n near ni) → AttemptSizes peer n ni
 
-abbrev pub Holds : ℕ → List Item → List ℕ → Option Held → Type 0
-Holds g log peer None = Unit {0}
-Holds g log peer (Some h) = HasFact g log peer h × SizesOf peer h
+same_attempt : (peer : List ℕ) (n n' near near' : ℕ) (ni ni' : List ℕ) → Some (Opening n near ni) ≡ Some (Opening n' near' ni') → AttemptSizes peer n ni → AttemptSizes peer n' ni'
+same_attempt peer n n' near near' ni ni' e sizes =
+    let number : n ≡ n' = cc in
+    let nonce : ni ≡ ni' = cc in
+    (sizes.0, sym (ap length nonce) ∙ sizes.1, subst (λ (m : ℕ). m < 2 ^ 64) number sizes.2)
 
-fact_stays : (g : ℕ) (item : Item) (log : List Item) (peer : List ℕ) (h : Held) → HasFact g log peer h → HasFact g (item ∷ log) peer h
-fact_stays g item log peer (Opening n near ni) f = tt
-fact_stays g item log peer (HalfOpen j) f = (f.0, inr f.1)
-fact_stays g item log peer (KeptAsResponder j) f = (f.0, inr f.1)
-fact_stays g item log peer (KeptAsInitiator j) f = (f.0, inr f.1)
+sized_after : (fact : Fact) (o : Option Held) (peer : List ℕ) → peer_of fact ≡ peer → FactSizes fact → ((n near : ℕ) (ni : List ℕ) → o ≡ Some (Opening n near ni) → AttemptSizes peer n ni) →
+    (n near : ℕ) (ni : List ℕ) → after fact o ≡ Some (Opening n near ni) → AttemptSizes peer n ni
+sized_after (Started p n' near' ni') o peer is sizes h n near ni e = same_attempt peer n' n near' near ni' ni e (sym (ap length is) ∙ sizes.0, sizes.1, sizes.2)
+sized_after (Born j) o peer is sizes h n near ni e = absurd (cc)
+sized_after (Opened j) None peer is sizes h n near ni e = absurd (cc)
+sized_after (Opened j) (Some (Opening a b c)) peer is sizes h n near ni e = absurd (cc)
+sized_after (Opened j) (Some (HalfOpen t)) peer is sizes h n near ni e = absurd (cc)
+sized_after (Opened j) (Some (KeptAsResponder t)) peer is sizes h n near ni e = absurd (cc)
+sized_after (Opened j) (Some (KeptAsInitiator t)) peer is sizes h n near ni e = absurd (cc)
+sized_after (Confirmed p near') None peer is sizes h n near ni e = absurd (cc)
+sized_after (Confirmed p near') (Some (Opening a b c)) peer is sizes h n near ni e = h n near ni e
+sized_after (Confirmed p near') (Some (HalfOpen t)) peer is sizes h n near ni e = absurd (cc)
+sized_after (Confirmed p near') (Some (KeptAsResponder t)) peer is sizes h n near ni e = absurd (cc)
+sized_after (Confirmed p near') (Some (KeptAsInitiator t)) peer is sizes h n near ni e = absurd (cc)
+sized_after (Ended p near' why) o peer is sizes h n near ni e = absurd (cc)
 
-pub holds_stays : (g : ℕ) (item : Item) (log : List Item) (peer : List ℕ) (o : Option Held) → Holds g log peer o → Holds g (item ∷ log) peer o
-holds_stays g item log peer None h = tt
-holds_stays g item log peer (Some thing) h = (fact_stays g item log peer thing h.0, h.1)
-
-holds_after : (g : ℕ) (fact : Fact) (log : List Item) (peer : List ℕ) (o : Option Held) → peer_of fact ≡ peer → FactSizes fact → Holds g log peer o → Holds g (Did fact g ∷ log) peer (after fact o)
-holds_after g (Started p n near ni) log peer o is sizes h = (tt, (sym (ap length is) ∙ sizes.0, sizes.1, sizes.2))
-holds_after g (Born j) log peer o is sizes h = ((is, inl refl), sizes)
-holds_after g (Opened j) log peer None is sizes h = tt
-holds_after g (Opened j) log peer (Some (Opening n near ni)) is sizes h = ((is, inl refl), tt)
-holds_after g (Opened j) log peer (Some (HalfOpen t)) is sizes h = holds_stays g (Did (Opened j) g) log peer (Some (HalfOpen t)) h
-holds_after g (Opened j) log peer (Some (KeptAsResponder t)) is sizes h = holds_stays g (Did (Opened j) g) log peer (Some (KeptAsResponder t)) h
-holds_after g (Opened j) log peer (Some (KeptAsInitiator t)) is sizes h = holds_stays g (Did (Opened j) g) log peer (Some (KeptAsInitiator t)) h
-holds_after g (Confirmed p near) log peer None is sizes h = tt
-holds_after g (Confirmed p near) log peer (Some (Opening n near' ni)) is sizes h = holds_stays g (Did (Confirmed p near) g) log peer (Some (Opening n near' ni)) h
-holds_after g (Confirmed p near) log peer (Some (HalfOpen t)) is sizes h = ((h.0.0, inr h.0.1), h.1)
-holds_after g (Confirmed p near) log peer (Some (KeptAsResponder t)) is sizes h = holds_stays g (Did (Confirmed p near) g) log peer (Some (KeptAsResponder t)) h
-holds_after g (Confirmed p near) log peer (Some (KeptAsInitiator t)) is sizes h = holds_stays g (Did (Confirmed p near) g) log peer (Some (KeptAsInitiator t)) h
-holds_after g (Ended p near why) log peer o is sizes h = tt
-
--- after one fact more
-pub holds_did : (g : ℕ) (fact : Fact) (log : List Item) (peer : List ℕ) → FactSizes fact → Holds g log peer (held peer (facts log)) → Holds g (Did fact g ∷ log) peer (held peer (fact ∷ facts log))
-holds_did g fact log peer sizes h = elim (same_end (peer_of fact) peer) [
-  | inl d ↦ rw d.1 (holds_after g fact log peer (held peer (facts log)) d.0 sizes h)
-  | inr d ↦ rw d.1 (holds_stays g (Did fact g) log peer (held peer (facts log)) h)
+pub sized_more : (fact : Fact) (facts : List Fact) → FactSizes fact → AreSized facts → AreSized (fact ∷ facts)
+sized_more fact facts sizes are peer = elim (same_end (peer_of fact) peer) [
+  | inl d ↦ rw d.1 (sized_after fact (held peer facts) peer d.0 sizes (are peer))
+  | inr d ↦ rw d.1 (are peer)
 ]
 
--- ---- the tell of what is held meets its line
+-- ---- what was told
 
-pub may_tell : (of : List ℕ → ℕ) (own : List ℕ) (log : List Item) (peer : List ℕ) (h : Held) → held peer (facts log) ≡ Some h → HasFact (of own) log peer h → SentFits own log (tell_of of own peer h)
-may_tell of own log peer (Opening n near ni) e f = record { from = refl; attempt = e }
-may_tell of own log peer (HalfOpen j) e f =
-    record { from = refl; j = j; session = inl (ap (λ (p : List ℕ). held p (facts log)) f.0 ∙ e); born = f.1; near_i_is = refl; near_r_is = refl; nr_is = refl; k_is = refl; ni_is = refl }
-may_tell of own log peer (KeptAsResponder j) e f =
-    record { from = refl; j = j; session = inr (ap (λ (p : List ℕ). held p (facts log)) f.0 ∙ e); born = f.1; near_i_is = refl; near_r_is = refl; nr_is = refl; k_is = refl; ni_is = refl }
-may_tell of own log peer (KeptAsInitiator j) e f =
-    record { j = j; session = inl (ap (λ (p : List ℕ). held p (facts log)) f.0 ∙ e); opened = f.1; values_are = refl }
+-- a session that was born in this generation
+pub record BornTold (setup : Setup) (steps : List Step) (j : Joined) (generation : ℕ) : Type 0 where
+  pub stated : Among (Did (Born j) generation) (view (own_of setup) steps)
+  pub sent : WasSent (Answer j.far (own_of setup) j.near j.nr j.k j.ni generation) steps
+  pub sizes : BornSizes j
+
+-- An end that did this told of its sessions, in the generations in which they began.
+pub record EndTold (secrets : Secrets) (setup : Setup) (past : Past) (steps : List Step) : Type 0 where
+  pub born : (j : Joined) (generation : ℕ) → BegunUnder secrets setup (HalfOpen j) generation past → BornTold setup steps j generation
+  pub opened : (j : Joined) (generation : ℕ) → BegunUnder secrets setup (KeptAsInitiator j) generation past → WasSent (Under (as_initiator (own_of setup) j) true generation) steps
+  pub sized : AreSized (facts_of past)
+
+pub born_stays : (setup : Setup) (steps last : List Step) (j : Joined) (generation : ℕ) → IsTail steps last → BornTold setup steps j generation → BornTold setup last j generation
+born_stays setup steps last j generation tail b = record {
+  stated = tail_among (own_of setup) (Did (Born j) generation) steps last tail b.stated;
+  sent = tail_sent (Answer j.far (own_of setup) j.near j.nr j.k j.ni generation) steps last tail b.sent;
+  sizes = b.sizes;
+}
+
+pub told_stays : (secrets : Secrets) (setup : Setup) (past : Past) (steps last : List Step) → IsTail steps last → EndTold secrets setup past steps → EndTold secrets setup past last
+told_stays secrets setup past steps last tail told = record {
+  born = λ j g b. born_stays setup steps last j g tail (told.born j g b);
+  opened = λ j g b. tail_sent (Under (as_initiator (own_of setup) j) true g) steps last tail (told.opened j g b);
+  sized = told.sized;
+}
+
+pub nothing_told : (secrets : Secrets) (setup : Setup) (steps : List Step) → EndTold secrets setup [] steps
+nothing_told secrets setup steps = record { born = λ j g b. absurd b; opened = λ j g b. absurd b; sized = λ peer n near ni e. absurd (cc) }

@@ -1,5 +1,5 @@
--- What happens to the attempts of an end keeps its fingerprint, and that it has one secret of the group.
-use Rattle.std.proofs.Common.{◌≡◌, ℕ, List, [], ◌∷◌, Bool, true, false, cond, if◌then◌else◌, Option, Some, None, Result, Ok, Err, ◌⊎◌, inl, inr, refl, sym, ap, subst, ◌∙◌, ◌==◌}
+-- What happens to the attempts of an end keeps its fingerprint, and that all secrets of the group that it has are known.
+use Rattle.std.proofs.Common.{◌≡◌, ℕ, List, [], ◌∷◌, length, Bool, true, false, cond, if◌then◌else◌, Option, Some, None, Result, Ok, Err, ◌⊎◌, inl, inr, refl, sym, ap, subst, ◌∙◌, ◌==◌}
 use Rattle.std.specs.Ordering.{eq_by_cmp, nat_cmp}
 use Rattle.std.specs.Cmp.Lexicographic.{slice_cmp, nat_list_cmp_total}
 use Rattle.std.specs.FinMap.{get, insert, remove, get-insert, get-remove}
@@ -9,7 +9,8 @@ use Rattle.cookies.specs.declared.CookieTest.TheVariants.{Bad, Moved, Expired, C
 use Rattle.cookies.specs.Cookie.{cookie_test}
 use Rattle.sha2.specs.Sha256.{sha256}
 use Rattle.crypto_profile.specs.declared.group.GroupSecret.{GroupSecret}
-use Rattle.crypto_profile.specs.Keys.{sign_key_of, startup_keys_of}
+use Rattle.crypto_profile.specs.declared.keys.Context.TheVariants.{Startup as StartupContext}
+use Rattle.crypto_profile.specs.Keys.{sign_key_of, keys_of}
 use Rattle.crypto_profile.proofs.Streams.{length-hmac}
 use Rattle.glare_core.specs.declared.facts.Fact.{Fact}
 use Rattle.glare_core.specs.declared.facts.Joined.{Joined}
@@ -34,43 +35,64 @@ use Rattle.startup.specs.Keyings.{keying_of, born_session, kept_keying, repeated
 use Rattle.startup.specs.Redirects.{told_addresses, new_candidates, extended, after_extension, after_redirect_of, after_redirect}
 use Rattle.endpoint_model.specs.declared.place.Place.{Place}
 use Rattle.endpoint_model.specs.declared.place.Place.TheVariants.{Startup, Attempt, Session}
-use Rattle.endpoint_model.specs.Event.{Setup, first_group}
 use Rattle.endpoint_model.specs.State.{State, with_startup}
 use Rattle.endpoint_model.specs.Admission.{stage_group, attempt_group, known_group, group_at}
-use Rattle.endpoint_laws.specs.Groups.{IsKeptUnder, HasOneGroup}
+use Rattle.endpoint_laws.specs.Contexts.{Secrets}
+use Rattle.endpoint_laws.specs.Groups.{HasSecret}
 
--- ---- where there is one secret, it is that of each attempt and of each place
+-- ---- secrets of the group
 
-pub attempt_is_one : (setup : Setup) (s : State) → HasOneGroup setup s → (near : ℕ) → attempt_group s.group (get s.startup.attempts near) ≡ first_group setup
-attempt_is_one setup s one near = by (get s.startup.attempts near) refl
+-- What answers repeated keyings goes out under the secret of its generation.
+pub record IsKeptUnder (secrets : Secrets) (kept : KeptKeying) : Type 0 where
+  pub secret : List ℕ
+  pub known : get secrets kept.generation ≡ Some secret
+  pub keys : kept.keys ≡ keys_of secret (StartupContext kept.generation)
+  pub sign : length kept.sign ≡ 32
+
+-- The map has each secret that the end keeps.
+pub record HoldsSecrets (secrets : Secrets) (s : State) : Type 0 where
+  pub current : HasSecret secrets s.group
+  pub next : (g : GroupSecret) → s.next ≡ Some g → HasSecret secrets g
+  pub attempts : (near : ℕ) (a : AttemptState) → get s.startup.attempts near ≡ Some a → HasSecret secrets (attempt_group s.group (Some a))
+  pub kept : (peer : List ℕ) (kept : KeptKeying) → get s.startup.kept peer ≡ Some kept → IsKeptUnder secrets kept
+
+-- so it has that of each attempt and of each place
+
+attempt_known : (secrets : Secrets) (s : State) → HoldsSecrets secrets s → (near : ℕ) → HasSecret secrets (attempt_group s.group (get s.startup.attempts near))
+attempt_known secrets s holds near = by (get s.startup.attempts near) refl
   where
-    by : (o : Option AttemptState) → get s.startup.attempts near ≡ o → attempt_group s.group o ≡ first_group setup
-    by None is = one.group_is
-    by (Some a) is = one.attempts near a is
+    by : (o : Option AttemptState) → get s.startup.attempts near ≡ o → HasSecret secrets (attempt_group s.group o)
+    by None is = holds.current
+    by (Some a) is = holds.attempts near a is
 
-pub group_is_one : (setup : Setup) (s : State) → HasOneGroup setup s → (place : Place) → group_at s place ≡ first_group setup
-group_is_one setup s one (Startup generation) = ap (λ (o : Option GroupSecret). known_group generation o s.group) one.next_is ∙ one.group_is
-group_is_one setup s one (Attempt near generation) = attempt_is_one setup s one near
-group_is_one setup s one (Session near) = one.group_is
+next_or_current : (secrets : Secrets) (generation : ℕ) (next : Option GroupSecret) (current : GroupSecret) → HasSecret secrets current → ((g : GroupSecret) → next ≡ Some g → HasSecret secrets g) →
+    HasSecret secrets (known_group generation next current)
+next_or_current secrets generation None current has later = has
+next_or_current secrets generation (Some next) current has later = by (next.generation == generation)
+  where
+    by : (b : Bool) → HasSecret secrets (if b then next else current)
+    by true = later next refl
+    by false = has
 
--- what is no matter of startup and of its generations leaves them as they are
-pub one_still : (setup : Setup) (s t : State) → HasOneGroup setup s → t.group ≡ s.group → t.next ≡ s.next → t.startup ≡ s.startup → HasOneGroup setup t
-one_still setup s t one group next startup = record {
-  group_is = group ∙ one.group_is;
-  next_is = next ∙ one.next_is;
-  attempts = λ near a e. ap (λ (g : GroupSecret). attempt_group g (Some a)) group ∙ one.attempts near a (sym (ap (λ (x : StartupState). get x.attempts near) startup) ∙ e);
-  kept = λ peer k e. one.kept peer k (sym (ap (λ (x : StartupState). get x.kept peer) startup) ∙ e);
-}
+pub group_known : (secrets : Secrets) (s : State) → HoldsSecrets secrets s → (place : Place) → HasSecret secrets (group_at s place)
+group_known secrets s holds (Startup generation) = next_or_current secrets generation s.next s.group holds.current holds.next
+group_known secrets s holds (Attempt near generation) = attempt_known secrets s holds near
+group_known secrets s holds (Session near) = holds.current
 
--- and what leaves attempts, and keeps what answers under the one secret
-pub one_left : (setup : Setup) (s t : State) → HasOneGroup setup s → t.group ≡ s.group → t.next ≡ s.next → ((near : ℕ) (a : AttemptState) → get t.startup.attempts near ≡ Some a → get s.startup.attempts near ≡ Some a) →
-    ((peer : List ℕ) (kept : KeptKeying) → get t.startup.kept peer ≡ Some kept → IsKeptUnder (first_group setup) kept) → HasOneGroup setup t
-one_left setup s t one group next there kept = record {
-  group_is = group ∙ one.group_is;
-  next_is = next ∙ one.next_is;
-  attempts = λ near a e. ap (λ (g : GroupSecret). attempt_group g (Some a)) group ∙ one.attempts near a (there near a e);
+-- what leaves attempts, and keeps what answers under secrets that are known
+pub holds_left : (secrets : Secrets) (s t : State) → HoldsSecrets secrets s → t.group ≡ s.group → t.next ≡ s.next → ((near : ℕ) (a : AttemptState) → get t.startup.attempts near ≡ Some a → get s.startup.attempts near ≡ Some a) →
+    ((peer : List ℕ) (kept : KeptKeying) → get t.startup.kept peer ≡ Some kept → IsKeptUnder secrets kept) → HoldsSecrets secrets t
+holds_left secrets s t holds group next there kept = record {
+  current = subst (HasSecret secrets) (sym group) holds.current;
+  next = λ g e. holds.next g (sym next ∙ e);
+  attempts = λ near a e. subst (λ (g : GroupSecret). HasSecret secrets (attempt_group g (Some a))) (sym group) (holds.attempts near a (there near a e));
   kept = kept;
 }
+
+-- what is no matter of startup and of its generations leaves them as they are
+pub holds_still : (secrets : Secrets) (s t : State) → HoldsSecrets secrets s → t.group ≡ s.group → t.next ≡ s.next → t.startup ≡ s.startup → HoldsSecrets secrets t
+holds_still secrets s t holds group next startup =
+    holds_left secrets s t holds group next (λ near a e. sym (ap (λ (x : StartupState). get x.attempts near) startup) ∙ e) (λ peer k e. holds.kept peer k (sym (ap (λ (x : StartupState). get x.kept peer) startup) ∙ e))
 
 -- ---- the attempts that are found
 
@@ -96,10 +118,10 @@ changed_there attempts sid old e is = by (sid == 0) is
 
 pub record IsKin (s : State) (new : StartupState) : Type 0 where
   pub own : new.ledger.own ≡ s.startup.ledger.own
-  pub one : (setup : Setup) → HasOneGroup setup s → HasOneGroup setup (with_startup s new)
+  pub holds : (secrets : Secrets) → HoldsSecrets secrets s → HoldsSecrets secrets (with_startup s new)
 
 pub kin_itself : (s : State) → IsKin s s.startup
-kin_itself s = record { own = refl; one = λ setup one. one }
+kin_itself s = record { own = refl; holds = λ secrets holds. holds }
 
 noted_own : (l : Ledger) (o : Option Fact) → (noted_if l o).own ≡ l.own
 noted_own l None = refl
@@ -124,36 +146,36 @@ kept_left m p q v e = by (eq_by_cmp (slice_cmp nat_cmp) q p) (sym (get-remove na
 
 -- a change of the ledger alone
 pub kin_noted : (s : State) (ledger : Ledger) → ledger.own ≡ s.startup.ledger.own → IsKin s (with_ledger s.startup ledger)
-kin_noted s ledger own = record { own = own; one = λ setup one. one_left setup s (with_startup s (with_ledger s.startup ledger)) one refl refl (λ near a e. e) one.kept }
+kin_noted s ledger own = record { own = own; holds = λ secrets holds. holds_left secrets s (with_startup s (with_ledger s.startup ledger)) holds refl refl (λ near a e. e) holds.kept }
 
--- an attempt is put there that is under the one secret, too
-pub kin_put : (s : State) (ledger : Ledger) (near : ℕ) (a : AttemptState) → ledger.own ≡ s.startup.ledger.own → ((setup : Setup) → HasOneGroup setup s → attempt_group s.group (Some a) ≡ first_group setup) →
+-- an attempt is put there whose secret is known, too
+pub kin_put : (s : State) (ledger : Ledger) (near : ℕ) (a : AttemptState) → ledger.own ≡ s.startup.ledger.own → ((secrets : Secrets) → HoldsSecrets secrets s → HasSecret secrets (attempt_group s.group (Some a))) →
     IsKin s (with_attempt (with_ledger s.startup ledger) near a)
 kin_put s ledger near a own under = record {
   own = own;
-  one = λ setup one. record {
-    group_is = one.group_is;
-    next_is = one.next_is;
+  holds = λ secrets holds. record {
+    current = holds.current;
+    next = holds.next;
     attempts = λ q b e. elim (found_inserted s.startup.attempts near a q b e) [
-      | inl here ↦ subst (λ (x : AttemptState). attempt_group s.group (Some x) ≡ first_group setup) here.1 (under setup one)
-      | inr other ↦ one.attempts q b other.1
+      | inl here ↦ subst (λ (x : AttemptState). HasSecret secrets (attempt_group s.group (Some x))) here.1 (under secrets holds)
+      | inr other ↦ holds.attempts q b other.1
     ];
-    kept = one.kept;
+    kept = holds.kept;
   };
 }
 
 -- one that sends hellos is
 pub kin_begin : (s : State) (ledger : Ledger) (near : ℕ) (a : AttemptState) → ledger.own ≡ s.startup.ledger.own → a.stage ≡ Hello → IsKin s (with_attempt (with_ledger s.startup ledger) near a)
-kin_begin s ledger near a own hello = kin_put s ledger near a own (λ setup one. ap (stage_group s.group) hello ∙ one.group_is)
+kin_begin s ledger near a own hello = kin_put s ledger near a own (λ secrets holds. subst (λ (stage : Stage). HasSecret secrets (stage_group s.group stage)) (sym hello) holds.current)
 
 -- so is one that was answered in a datagram that came at a place
 pub kin_answered : (s : State) (place : Place) (ledger : Ledger) (near : ℕ) (a : AttemptState) (at : AddressParts) (cookie : List ℕ) → ledger.own ≡ s.startup.ledger.own → a.stage ≡ Keying at cookie (group_at s place) →
     IsKin s (with_attempt (with_ledger s.startup ledger) near a)
-kin_answered s place ledger near a at cookie own keying = kin_put s ledger near a own (λ setup one. ap (stage_group s.group) keying ∙ group_is_one setup s one place)
+kin_answered s place ledger near a at cookie own keying = kin_put s ledger near a own (λ secrets holds. subst (λ (stage : Stage). HasSecret secrets (stage_group s.group stage)) (sym keying) (group_known secrets s holds place))
 
 -- and one that goes on
 pub kin_goes_on : (s : State) (e : ℕ × AttemptState) → get s.startup.attempts e.0 ≡ Some e.1 → (a : AttemptState) → ((current : GroupSecret) → stage_group current a.stage ≡ stage_group current e.1.stage) → IsKin s (with_attempt s.startup e.0 a)
-kin_goes_on s e there a same = kin_put s s.startup.ledger e.0 a refl (λ setup one. same s.group ∙ one.attempts e.0 e.1 there)
+kin_goes_on s e there a same = kin_put s s.startup.ledger e.0 a refl (λ secrets holds. subst (HasSecret secrets) (sym (same s.group)) (holds.attempts e.0 e.1 there))
 
 pub kin_repeat : (s : State) (e : ℕ × AttemptState) → get s.startup.attempts e.0 ≡ Some e.1 → (moment : ℕ) → IsKin s (with_attempt s.startup e.0 (repeated e.1 moment))
 kin_repeat s e there moment = kin_goes_on s e there (repeated e.1 moment) (λ current. refl)
@@ -162,7 +184,7 @@ kin_repeat s e there moment = kin_goes_on s e there (repeated e.1 moment) (λ cu
 pub kin_without : (s : State) (near : ℕ) (fact : Option Fact) → IsKin s (without_attempt_by s.startup near fact)
 kin_without s near fact = record {
   own = noted_own s.startup.ledger fact;
-  one = λ setup one. one_left setup s (with_startup s (without_attempt_by s.startup near fact)) one refl refl (λ q a e. (found_left s.startup.attempts near q a e).1) one.kept;
+  holds = λ secrets holds. holds_left secrets s (with_startup s (without_attempt_by s.startup near fact)) holds refl refl (λ q a e. (found_left s.startup.attempts near q a e).1) holds.kept;
 }
 
 pub kin_confirm : (s : State) (peer : List ℕ) → IsKin s (after_confirm s.startup peer)
@@ -172,7 +194,7 @@ pub ended_kin : (s : State) (peer : List ℕ) (o : Option Fact) → IsKin s (aft
 ended_kin s peer None = kin_itself s
 ended_kin s peer (Some fact) = record {
   own = refl;
-  one = λ setup one. one_left setup s (with_startup s (after_end_by s.startup peer (Some fact))) one refl refl (λ q a e. e) (λ q k e. one.kept q k (kept_left s.startup.kept peer q k e));
+  holds = λ secrets holds. holds_left secrets s (with_startup s (after_end_by s.startup peer (Some fact))) holds refl refl (λ q a e. e) (λ q k e. holds.kept q k (kept_left s.startup.kept peer q k e));
 }
 
 pub kin_end : (s : State) (peer : List ℕ) (why : Why) → IsKin s (after_end s.startup peer why)
@@ -221,23 +243,23 @@ without_there attempts None near a e = e
 without_there attempts (Some k) near a e = (found_left attempts k near a e).1
 
 -- what is kept of a birth
-kept_under : (s : StartupState) (j : Joined) (g group : GroupSecret) → g ≡ group → IsKeptUnder group (kept_keying s j g)
-kept_under s j g group same = record { generation = ap (λ (x : GroupSecret). x.generation) same; keys = ap startup_keys_of same; sign = length-hmac (sign_key_of g.secret) _ }
+kept_under : (secrets : Secrets) (s : StartupState) (j : Joined) (g : GroupSecret) → HasSecret secrets g → IsKeptUnder secrets (kept_keying s j g)
+kept_under secrets s j g has = record { secret = g.secret; known = has; keys = refl; sign = length-hmac (sign_key_of g.secret) _ }
 
-pub born_kept : (setup : Setup) (s : State) → HasOneGroup setup s → (peer : List ℕ) (j : Joined) (g : GroupSecret) → g ≡ first_group setup → (q : List ℕ) (kept : KeptKeying) →
-    get (insert s.startup.kept peer (kept_keying s.startup j g)) q ≡ Some kept → IsKeptUnder (first_group setup) kept
-born_kept setup s one peer j g same q kept e = elim (kept_put s.startup.kept peer q (kept_keying s.startup j g) kept e) [
-  | inl here ↦ subst (IsKeptUnder (first_group setup)) here (kept_under s.startup j g (first_group setup) same)
-  | inr other ↦ one.kept q kept other
+pub born_kept : (secrets : Secrets) (s : State) → HoldsSecrets secrets s → (peer : List ℕ) (j : Joined) (g : GroupSecret) → HasSecret secrets g → (q : List ℕ) (kept : KeptKeying) →
+    get (insert s.startup.kept peer (kept_keying s.startup j g)) q ≡ Some kept → IsKeptUnder secrets kept
+born_kept secrets s holds peer j g has q kept e = elim (kept_put s.startup.kept peer q (kept_keying s.startup j g) kept e) [
+  | inl here ↦ subst (IsKeptUnder secrets) here (kept_under secrets s.startup j g has)
+  | inr other ↦ holds.kept q kept other
 ]
 
 module _ (s : State) (place : Place) where
   born_kin : (keying : OfferedKeying) (near : ℕ) (nr : List ℕ) → IsKin s (after_again_or_birth s.startup keying near nr (group_at s place) None)
   born_kin keying near nr = record {
     own = heard_own s.startup.ledger (heard s.startup.ledger keying near nr);
-    one = λ setup one. one_left setup s (with_startup s (after_again_or_birth s.startup keying near nr (group_at s place) None)) one refl refl
+    holds = λ secrets holds. holds_left secrets s (with_startup s (after_again_or_birth s.startup keying near nr (group_at s place) None)) holds refl refl
         (λ q a e. without_there s.startup.attempts (opening_id (held_with s.startup.ledger keying.peer)) q a e)
-        (born_kept setup s one keying.peer (born_session s.startup.ledger keying near nr) (group_at s place) (group_is_one setup s one place));
+        (born_kept secrets s holds keying.peer (born_session s.startup.ledger keying near nr) (group_at s place) (group_known secrets s holds place));
   }
 
   keyed_kin : (near : ℕ) (nr : List ℕ) (keying : InitiatorKeying) (test : CookieTest) → IsKin s (after_keyed_with s.startup near nr (group_at s place) keying test)

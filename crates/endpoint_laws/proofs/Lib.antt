@@ -1,17 +1,21 @@
 pub mod Kin
 mod Knowing
-mod ByMap
 pub mod Walks
 pub mod Small
 pub mod ByKind
 pub mod Made
+pub mod Succeeding
 pub mod Groups
 mod Matching
+mod OpensHere
+mod Begun
+mod Outset
 mod Tied
 mod Agrees
 mod Moving
 mod Lines
 mod Going
+mod Succeeded
 mod Facts
 mod Starting
 mod Searching
@@ -25,6 +29,8 @@ pub mod OutFacts
 mod OutNumbers
 mod OutPackets
 mod OutHeld
+pub mod Resealed
+mod Staged
 mod OutSends
 mod OutKeyings
 mod OutItems
@@ -44,6 +50,7 @@ mod HeardChunks
 mod Passing
 mod SessionChunks
 mod Chunked
+mod Coming
 mod OutSessions
 mod OutAcks
 mod Few
@@ -59,7 +66,6 @@ mod FlowData
 mod FlowTimes
 mod Orderly
 pub mod Logged
-pub mod OneContext
 pub mod Opened
 pub mod Drawn
 pub mod DrawnOnce
@@ -81,9 +87,9 @@ mod Heard
 mod HeldTold
 mod HistoryTold
 mod ReadsBack
-mod Since
 mod StatedFacts
-mod Generations
 mod Telling
+pub mod Unique
+mod Stating
 mod AcksFew
 mod NoneOwed

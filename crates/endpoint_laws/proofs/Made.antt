@@ -1,6 +1,6 @@
 -- All that an end does is made of small things: the structure of what goes out, of chunks, of datagrams, of timers and of calls is gone through here, once, for every law.
 use Rattle.endpoint_model.specs.declared.row_due.RowDue.TheVariants.{Abandon, Data, Keepalive, Session as SessionOf}
-use Rattle.endpoint_model.specs.Event.{AddRow, Answer as CallAnswer, Began, Call, Cancel, Close, Done, Introduce, NotAdded, NotOpened, NotSought, OnFlows, Open, OutOfMemory, Receive, Refused, Searching, Seek, Stopped, Tick, Unseek}
+use Rattle.endpoint_model.specs.Event.{AddRow, Advance, Answer as CallAnswer, Began, Call, Cancel, Close, Done, Introduce, Learn, NotAdded, NotOpened, NotSought, OnFlows, Open, OutOfMemory, Receive, Refused, Searching, Seek, Stopped, Succeeds, Tick, Unseek}
 use Rattle.rtmfp_forms.specs.Address.{AddressParts}
 use Rattle.crypto_profile.specs.declared.group.GroupSecret.{GroupSecret}
 use Rattle.crypto_profile.specs.Keys.{Keys, startup_keys_of}
@@ -57,7 +57,7 @@ use Rattle.glare_core.specs.declared.facts.Why.{Why}
 use Rattle.rtmfp_base.specs.declared.cause.Cause.TheVariants.{WrongPlace}
 use Rattle.endpoint_model.specs.FlowChunks.{acked, acks_body, flow_cause, flow_taken, flow_taken_by, taking_cause, unowed}
 use Rattle.mobility.specs.Tests.{address_for, after_reply, after_seen, asks}
-use Rattle.startup.specs.Attempts.{has_tag, answer_fact_as, answer_fact, answer_keying, after_answer, after_answer_as, seek_spread, after_seek, after_unseek, after_end_of, after_begin, after_confirm, after_end, begin_spread, end_fact, end_of, has_number, hello_spread, keying_under, lowest, session_in, answered, met, begun_attempt, begun_search}
+use Rattle.startup.specs.Attempts.{has_tag, rhello_fact, after_rhello, answer_fact_as, answer_fact, answer_keying, after_answer, after_answer_as, seek_spread, after_seek, after_unseek, after_end_of, after_begin, after_confirm, after_end, begin_spread, end_fact, end_of, has_number, hello_spread, keying_under, lowest, session_in, answered, met, begun_attempt, begun_search}
 use Rattle.startup.specs.Due.{repeat_of, repeat_under}
 use Rattle.session_core.specs.Closing.{first_due as session_first_due, after_due as after_due_in, asked_to_close, closed_near, is_held, is_near_close, kept_alive, needs_keepalive}
 use Rattle.endpoint_model.specs.FlowTimes.{end_due, abandon_due, all_late, data_body, row_due, row_due_done}
@@ -78,10 +78,11 @@ use Rattle.session_flows.specs.Packing.{is_data_due}
 use Rattle.endpoint_laws.proofs.Hearing.{descends_same}
 use Rattle.std.specs.FinMap.{get, insert}
 use Rattle.glare_core.specs.Ledger.{held_with, noted}
-use Rattle.endpoint_model.specs.Sending.{last_count, sent_answer, sent_by, sent_each, sent_if, sent_in_session, sent_spread, sent_startup}
+use Rattle.endpoint_model.specs.Succession.{advancing, advancing_to, no_next}
+use Rattle.endpoint_model.specs.Sending.{is_spent, last_count, sent_answer, sent_by, sent_each, sent_if, sent_in_session, sent_spread, sent_startup}
 use Rattle.sha2.specs.Sha256.{sha256}
 use Rattle.rtmfp_data_chunks.proofs.Fitting.{small_next, what_is_read_fits}
-use Rattle.endpoint_laws.proofs.Small.{FlowThing, GoesOn, Called, Came, Acked, Unowed, Late, Overdue, Packed, on_flows, birth, stated, began, MayBe, IsNoChunk, Any, Sends, Quiet, Timed, All, Begins, Enters}
+use Rattle.endpoint_laws.proofs.Small.{FlowThing, GoesOn, Called, Came, Acked, Unowed, Late, Overdue, Packed, on_flows, birth, stated, began, MayBe, IsNoChunk, Any, Sends, Quiet, Timed, All, Begins, Enters, Succession}
 use Rattle.startup.specs.Due.{repeated}
 use Rattle.startup.specs.Attempts.{with_attempt, without_attempt_by}
 use Rattle.endpoint_laws.proofs.Walks.{Steps, tick_walked, acked_walked, unowed_walked, tick_all_walked}
@@ -181,7 +182,7 @@ module _ {Body : List ℕ → Type 0} {P : State → Did → Type 0} (l : Sends 
   forwarded_made s None body carries = l.steps.does_nothing s
   forwarded_made s (Some near) body carries = home_made s near body carries
 
-  replied_made : (s : State) (place : Place) (from : AddressParts) (reply : Reply) → Carries Body reply → P s (replied s place from reply)
+  pub replied_made : (s : State) (place : Place) (from : AddressParts) (reply : Reply) → Carries Body reply → P s (replied s place from reply)
   replied_made s place from Silence carries = l.steps.does_nothing s
   replied_made s place from (InStartup answer) carries = answered_made s answer
   replied_made s place from (Hellos None) carries = l.steps.does_nothing s
@@ -523,11 +524,17 @@ module _ {Body : List ℕ → Type 0} {Q P : State → Did → Type 0} (q : Quie
   answer_first_made s place print None from cookie = b.steps.does_nothing s
   answer_first_made s place print (Some e) from cookie = met_made s place print e from cookie e.1.aim
 
+  -- but where no count of a startup packet is left
+  hello_first : (s : State) (place : Place) (from : AddressParts) (tag cookie cert : List ℕ) (spent : Bool) →
+      P s (record { state = if spent then s else with_startup s (after_rhello s.startup tag cookie cert from s.moment (group_at s place)); entries = fact_entries (if spent then None else rhello_fact s.startup tag cert) })
+  hello_first s place from tag cookie cert true = b.steps.does_nothing s
+  hello_first s place from tag cookie cert false = answer_first_made s place (sha256 cert) (lowest (has_tag tag) s.startup.attempts) from cookie
+
   pub hello_made : (s : State) (place : Place) (from : AddressParts) (tag cookie cert : List ℕ) → P s (read_done s place from (Ok (RHello tag cookie cert)))
   hello_made s place from tag cookie cert =
       let read : Result Chunk ChunkFault = Ok (RHello tag cookie cert) in
       let t : State = read_left s place from read in
-      b.steps.and_then s (read_first s place from read) (replied t place from (read_reply s place from read)) (answer_first_made s place (sha256 cert) (lowest (has_tag tag) s.startup.attempts) from cookie)
+      b.steps.and_then s (read_first s place from read) (replied t place from (read_reply s place from read)) (hello_first s place from tag cookie cert (is_spent s))
       (b.quiet t _ (answered_made q.sends t (answer_keying s.startup (sha256 cert) (lowest (has_tag tag) s.startup.attempts) from cookie (group_at s place))))
 
   pub read_made : (s : State) (place : Place) (from : AddressParts) (read : Result Chunk ChunkFault) → Carries Body (read_reply s place from read) → P s (read_done s place from read)
@@ -643,31 +650,53 @@ pub record Given (P : State → Did → Type 0) : Type 0 where
   pub whole : (s : State) (from : AddressParts) (draws : Draws) (datagram : List ℕ) → P s (received from draws (admission s datagram))
   pub part : (s : State) (from : AddressParts) (draws : Draws) (datagram : List ℕ) (stop : Stop) (acks : ℕ) → P s (stopped s from draws (admission s datagram) stop acks)
 
+-- The call doesn't learn a next secret or go over to it, or it is refused.
+abbrev pub IsNoSuccession : Call → CallAnswer → Type 0
+IsNoSuccession (Learn secret) (Succeeds generation) = ⊥
+IsNoSuccession Advance (Succeeds generation) = ⊥
+IsNoSuccession call answer = Unit {0}
+
 module _ {Body : List ℕ → Type 0} {Q P : State → Did → Type 0} (k : Timed Body Q) (calls : CallsDo Q) (b : Begins Q P) (e : Enters P) (given : Given P) where
   answer_is : (s t : State) (entries : List Entry) (d : Did) → P s d → Does d t [] entries → WasMade P s t entries
   answer_is s t entries d made does = record { did = d; made = made; does = does }
 
-  pub answers_by : (s t : State) (call : Call) (answer : CallAnswer) (entries : List Entry) → Answers s call answer entries t → WasMade P s t entries
-  answers_by s t (Open peer candidates draws) (Began n) entries h = answer_is s t entries _ (opening_made k.quiet b s peer candidates draws) h.2
-  answers_by s t (Open peer candidates draws) (NotOpened refusal) entries h = answer_is s t entries _ (b.steps.does_nothing s) h.1
-  answers_by s t (Seek name candidates draws) (Searching near) entries h = answer_is s t entries _ (seeking_made k.quiet b s name candidates draws) h.2
-  answers_by s t (Seek name candidates draws) (NotSought refusal) entries h = answer_is s t entries _ (b.steps.does_nothing s) h.1
-  answers_by s t (Unseek near) Done entries h = answer_is s t entries _ (b.quiet s _ (unseeking_made k.quiet s near)) h.1
-  answers_by s t (Unseek near) (Refused refusal) entries h = answer_is s t entries _ (b.steps.does_nothing s) h.1
-  answers_by s t (Cancel n) Done entries h = answer_is s t entries _ (b.quiet s _ (cancelling_made k.quiet s n)) h.1
-  answers_by s t (Cancel n) (Refused refusal) entries h = answer_is s t entries _ (b.steps.does_nothing s) h.2
-  answers_by s t (Close near) Done entries h = answer_is s t entries _ (b.quiet s _ (closing_made k.quiet s near)) h.1
-  answers_by s t (Close near) (Refused refusal) entries h = answer_is s t entries _ (b.steps.does_nothing s) h.2
-  answers_by s t (AddRow print addresses) Done entries h = answer_is s t entries _ (e.unseen s s.introduces (insert s.redirects print addresses)) h.1
-  answers_by s t (AddRow print addresses) (NotAdded refusal) entries h = answer_is s t entries _ (b.steps.does_nothing s) h.1
-  answers_by s t Introduce Done entries h = answer_is s t entries _ (e.unseen s true s.redirects) h
-  answers_by s t (OnFlows near call) Done entries h = answer_is s t entries _ (b.quiet s _ (call_made Q calls s near call h.0)) h.1
-  answers_by s t (OnFlows near call) (Refused refusal) entries h = answer_is s t entries _ (b.steps.does_nothing s) h.1
-  answers_by s t (Receive from datagram draws) Done entries h = answer_is s t entries _ (given.whole s from draws datagram) h
-  answers_by s t (Receive from datagram draws) (Stopped stop) entries h = answer_is s t entries _ (given.part s from draws datagram stop h.acks) h.left
-  answers_by s t (Tick draws) Done entries h = answer_is s t entries _ (b.quiet s _ (tick_all_made k h.0.0 s)) h.0.1
-  answers_by s t (Tick draws) OutOfMemory entries h = answer_is s t entries _ (b.quiet s _ (tick_all_made k h.0.0 s)) h.0.1
-  answers_by s t call answer entries h = absurd h
+  -- all calls but those that learn a next secret and go over to it
+  pub answers_beside : (s t : State) (call : Call) (answer : CallAnswer) (entries : List Entry) → IsNoSuccession call answer → Answers s call answer entries t → WasMade P s t entries
+  answers_beside s t (Open peer candidates draws) (Began n) entries other h = answer_is s t entries _ (opening_made k.quiet b s peer candidates draws) h.2
+  answers_beside s t (Open peer candidates draws) (NotOpened refusal) entries other h = answer_is s t entries _ (b.steps.does_nothing s) h.1
+  answers_beside s t (Seek name candidates draws) (Searching near) entries other h = answer_is s t entries _ (seeking_made k.quiet b s name candidates draws) h.2
+  answers_beside s t (Seek name candidates draws) (NotSought refusal) entries other h = answer_is s t entries _ (b.steps.does_nothing s) h.1
+  answers_beside s t (Unseek near) Done entries other h = answer_is s t entries _ (b.quiet s _ (unseeking_made k.quiet s near)) h.1
+  answers_beside s t (Unseek near) (Refused refusal) entries other h = answer_is s t entries _ (b.steps.does_nothing s) h.1
+  answers_beside s t (Cancel n) Done entries other h = answer_is s t entries _ (b.quiet s _ (cancelling_made k.quiet s n)) h.1
+  answers_beside s t (Cancel n) (Refused refusal) entries other h = answer_is s t entries _ (b.steps.does_nothing s) h.2
+  answers_beside s t (Close near) Done entries other h = answer_is s t entries _ (b.quiet s _ (closing_made k.quiet s near)) h.1
+  answers_beside s t (Close near) (Refused refusal) entries other h = answer_is s t entries _ (b.steps.does_nothing s) h.2
+  answers_beside s t (AddRow print addresses) Done entries other h = answer_is s t entries _ (e.unseen s s.introduces (insert s.redirects print addresses)) h.1
+  answers_beside s t (AddRow print addresses) (NotAdded refusal) entries other h = answer_is s t entries _ (b.steps.does_nothing s) h.1
+  answers_beside s t Introduce Done entries other h = answer_is s t entries _ (e.unseen s true s.redirects) h
+  answers_beside s t (Learn secret) (Succeeds generation) entries other h = absurd other
+  answers_beside s t (Learn secret) (Refused refusal) entries other h = answer_is s t entries _ (b.steps.does_nothing s) h.1
+  answers_beside s t Advance (Succeeds generation) entries other h = absurd other
+  answers_beside s t Advance (Refused refusal) entries other h = answer_is s t entries _ (b.steps.does_nothing s) h.1
+  answers_beside s t (OnFlows near call) Done entries other h = answer_is s t entries _ (b.quiet s _ (call_made Q calls s near call h.0)) h.1
+  answers_beside s t (OnFlows near call) (Refused refusal) entries other h = answer_is s t entries _ (b.steps.does_nothing s) h.1
+  answers_beside s t (Receive from datagram draws) Done entries other h = answer_is s t entries _ (given.whole s from draws datagram) h
+  answers_beside s t (Receive from datagram draws) (Stopped stop) entries other h = answer_is s t entries _ (given.part s from draws datagram stop h.acks) h.left
+  answers_beside s t (Tick draws) Done entries other h = answer_is s t entries _ (b.quiet s _ (tick_all_made k h.0.0 s)) h.0.1
+  answers_beside s t (Tick draws) OutOfMemory entries other h = answer_is s t entries _ (b.quiet s _ (tick_all_made k h.0.0 s)) h.0.1
+  answers_beside s t call answer entries other h = absurd h
+
+  module _ (succession : Succession P) where
+    -- a next secret is there to go over to
+    advancing_made : (s : State) (next : Option GroupSecret) → s.next ≡ next → no_next next ≡ None → P s (advancing_to s next)
+    advancing_made s None is none = absurd (cc)
+    advancing_made s (Some next) is none = succession.advances s next is
+
+    pub answers_by : (s t : State) (call : Call) (answer : CallAnswer) (entries : List Entry) → Answers s call answer entries t → WasMade P s t entries
+    answers_by s t (Learn secret) (Succeeds generation) entries h = answer_is s t entries _ (succession.learns s secret h.0) h.2
+    answers_by s t Advance (Succeeds generation) entries h = answer_is s t entries (advancing s) (advancing_made s s.next refl h.0) h.2
+    answers_by s t call answer entries h = answers_beside s t call answer entries tt h
 
 module _ {Body : List ℕ → Type 0} {Q P : State → Did → Type 0} (a : All Body Q) (b : Begins Q P) where
   -- ---- the chunks of a datagram
@@ -718,11 +747,14 @@ module _ {Body : List ℕ → Type 0} {Q P : State → Did → Type 0} (a : All 
         by true = part_made s from draws d stop.chunks acks entered
         by false = b.steps.does_nothing s
 
-    given_made : Given P
+    pub given_made : Given P
     given_made = record {
       whole = λ s from draws datagram. received_made s from draws (admission s datagram) (admission_made b.steps e s datagram);
       part = λ s from draws datagram stop acks. stopped_made s from draws (admission s datagram) stop acks (admission_made b.steps e s datagram);
     }
 
-    pub answers_made : (s t : State) (call : Call) (answer : CallAnswer) (entries : List Entry) → Answers s call answer entries t → WasMade P s t entries
-    answers_made s t call answer entries h = answers_by a.timed a.calls b e given_made s t call answer entries h
+    pub answers_made_beside : (s t : State) (call : Call) (answer : CallAnswer) (entries : List Entry) → IsNoSuccession call answer → Answers s call answer entries t → WasMade P s t entries
+    answers_made_beside s t call answer entries other h = answers_beside a.timed a.calls b e given_made s t call answer entries other h
+
+    pub answers_made : Succession P → (s t : State) (call : Call) (answer : CallAnswer) (entries : List Entry) → Answers s call answer entries t → WasMade P s t entries
+    answers_made succession s t call answer entries h = answers_by a.timed a.calls b e given_made succession s t call answer entries h

@@ -4,6 +4,7 @@ use Rattle.std.specs.FinMap.{get}
 use Rattle.glare_core.specs.declared.facts.Fact.{Fact}
 use Rattle.glare_core.specs.declared.facts.Fact.TheVariants.{Started, Born, Opened, Confirmed, Ended}
 use Rattle.glare_core.specs.declared.facts.Held.{Held}
+use Rattle.glare_core.specs.declared.facts.Joined.{Joined}
 use Rattle.glare_core.specs.Standing.{peer_of, after}
 use Rattle.glare_core.specs.Things.{near_of}
 use Rattle.glare_core.specs.Ledger.{Ledger, PeerRow, row_in, row_or_blank, row_after, held_with, knows, row_count, noted}
@@ -18,11 +19,14 @@ use Rattle.startup.specs.Attempts.{with_attempt}
 use Rattle.session_core.specs.Session.{SessionState}
 use Rattle.session_core.proofs.Keyed.{keyed_same}
 use Rattle.session_core.specs.Closing.{is_held}
+use Rattle.session_core.specs.declared.stage.Role.{Role}
+use Rattle.session_core.specs.declared.stage.Role.TheVariants.{Initiator, Responder}
 use Rattle.startup.proofs.Stepping.{held_after_own, held_after_other}
 use Rattle.endpoint_model.specs.declared.row.Row.{Row}
 use Rattle.endpoint_model.specs.declared.entry.Entry.TheVariants.{Fact as FactEntry, Closed}
 use Rattle.endpoint_model.specs.Event.{Setup}
-use Rattle.endpoint_laws.specs.Past.{Stamped, Search, stamped, is_close, Closes, GoesOn, IsClosing, IsSearch, WasSought, started_id, unsought_id, fact_done, fact_and, closed_done, sought_done, unsought_done, last_call, facts_of, ids_in_use, ids_after, ids_left, ids_sought, Past}
+use Rattle.endpoint_laws.specs.Contexts.{Secrets}
+use Rattle.endpoint_laws.specs.Past.{Stamped, Search, stamped, is_close, Closes, GoesOn, IsClosing, IsSearch, WasSought, started_id, unsought_id, fact_done, fact_and, closed_done, sought_done, unsought_done, learnt_done, advanced_done, current_after, current_of, next_left, next_after, next_of, last_call, facts_of, ids_in_use, ids_after, ids_left, ids_sought, Past}
 use Rattle.glare_core.specs.Standing.{count}
 use Rattle.endpoint_model.specs.Views.{NamedSearch, EndedSearch}
 use Rattle.endpoint_laws.specs.OfTheLog.{WasThing}
@@ -30,9 +34,12 @@ use Rattle.endpoint_model.specs.State.{State, uses, is_used, with_row, with_star
 use Rattle.endpoint_laws.proofs.Matching.{Found, of_peer, Matches, changed_matches, Ids, ids_same}
 use Rattle.glare_core.specs.Account.{StandsFor}
 use Rattle.endpoint_model.proofs.Members.{tested}
-use Rattle.endpoint_laws.proofs.Tied.{Tied, IsKept, IsKeptIn, AreBy, by_later, closing_by, StageFits, IsClosed, IsClosedThing, thing_of, found_in}
+use Rattle.endpoint_laws.proofs.Tied.{Tied, IsKept, IsKeptIn, AreBy, by_later, closing_by, StageFits, IsClosed, IsClosedThing, HasKeys, thing_of, found_in}
+use Rattle.endpoint_laws.proofs.Begun.{born_thing, born_fact, begun_after, begun_on, begun_like}
 use Rattle.endpoint_laws.proofs.Agrees.{Agrees, IsOurs, IsGiven, IsAt, Fits, GoesOnBeside, ClosesAt, SearchesAt, WasStarted, started_still, combined, thing_at, thing_here, thing_elsewhere, used_here, used_elsewhere, found_of_attempt, found_of_peer, found_at, held_row_is, closing_row_is, none_closes, no_attempt, agrees_changed, agrees_of, tied_of}
-use Rattle.endpoint_laws.proofs.Kin.{one_still, IsKin}
+use Rattle.crypto_profile.specs.declared.group.GroupSecret.{GroupSecret}
+use Rattle.endpoint_laws.specs.Groups.{number_in}
+use Rattle.endpoint_laws.proofs.Kin.{HoldsSecrets, holds_still, IsKin}
 
 -- ---- the ledger after a fact
 
@@ -77,11 +84,11 @@ noted_matches s t fact near oa os m at ledger was here id =
 
 -- ---- closings, after one entry
 
--- A fact ends nothing, and takes no search, but under this session ID.
+-- A fact ends nothing, takes no search and begins no session but under this session ID.
 abbrev pub EndsAt : ℕ → Fact → Type 0
 EndsAt near (Started peer n id ni) = id ≡ near
-EndsAt near (Born j) = Unit {0}
-EndsAt near (Opened j) = Unit {0}
+EndsAt near (Born j) = j.near ≡ near
+EndsAt near (Opened j) = j.near ≡ near
 EndsAt near (Confirmed peer id) = Unit {0}
 EndsAt near (Ended peer id why) = id ≡ near
 
@@ -117,6 +124,10 @@ goes_elsewhere near q (Opened j) ends other = tt
 goes_elsewhere near q (Confirmed peer id) ends other = tt
 goes_elsewhere near q (Ended peer id why) ends other = tt
 
+begins_at : (near : ℕ) (role : Role) (j : Joined) → EndsAt near (born_fact role j) → j.near ≡ near
+begins_at near Initiator j e = e
+begins_at near Responder j e = e
+
 pub beside_fact : (near moment : ℕ) (past : Past) (fact : Fact) → EndsAt near fact → GoesOnBeside near past (stamped moment (FactEntry fact) ∷ past)
 beside_fact near moment past fact ends = record {
   done = λ x w. inr w;
@@ -127,6 +138,8 @@ beside_fact near moment past fact ends = record {
   ];
   sought = λ q other which at there. inr (tt, goes_elsewhere near q fact ends other, there);
   before = λ q other which at there. elim there [ inl b ↦ absurd b.0 | inr p ↦ p.2 ];
+  begun = λ q other secrets setup role j id generation begun.
+      begun_after secrets setup role j generation past moment fact (λ e. other (sym id ∙ begins_at near role j (subst (EndsAt near) e ends))) begun;
 }
 
 pub beside_closed : (near moment : ℕ) (past : Past) → GoesOnBeside near past (stamped moment (Closed near) ∷ past)
@@ -136,10 +149,11 @@ beside_closed near moment past = record {
   back = λ q other thing at c. elim c [ inl b ↦ absurd b.0 | inr p ↦ p.1 ];
   sought = λ q other which at there. inr (tt, tt, there);
   before = λ q other which at there. elim there [ inl b ↦ absurd b.0 | inr p ↦ p.2 ];
+  begun = λ q other secrets setup role j id generation begun. begun_on secrets setup (born_thing role j) generation past (stamped moment (Closed near)) refl begun;
 }
 
 pub beside_same : (near : ℕ) (past : Past) → GoesOnBeside near past past
-beside_same near past = record { done = λ x w. w; closing = λ q other thing at c. c; back = λ q other thing at c. c; sought = λ q other which at there. there; before = λ q other which at there. there }
+beside_same near past = record { done = λ x w. w; closing = λ q other thing at c. c; back = λ q other thing at c. c; sought = λ q other which at there. there; before = λ q other which at there. there; begun = λ q other secrets setup role j id generation begun. begun }
 
 -- where no search was, none is after a fact
 pub still_unsought : (past : Past) (near moment : ℕ) (fact : Fact) → ((which : Search) (at : ℕ) → IsSearch near which at past → ⊥) → (o : Option AttemptState) → SearchesAt (stamped moment (FactEntry fact) ∷ past) near o
@@ -149,11 +163,11 @@ pub none_sought : (past : Past) (near : ℕ) (o : Option AttemptState) → Searc
 none_sought past near o searching none which at there = subst (λ (x : Option AttemptState). IsKeptIn x which at) none (searching which at there)
 
 -- where something was held, nothing closes after a fact that closes nothing
-pub still_none : (setup : Setup) (past : Past) (s : State) → Agrees setup past s → (near : ℕ) (p : List ℕ) (h : Held) → thing_at s near ≡ Some (p, h) → (moment : ℕ) (fact : Fact) → IsNoClose fact →
+pub still_none : (secrets : Secrets) (setup : Setup) (past : Past) (s : State) → Agrees secrets setup past s → (near : ℕ) (p : List ℕ) (h : Held) → thing_at s near ≡ Some (p, h) → (moment : ℕ) (fact : Fact) → IsNoClose fact →
     (o : Option Row) → ClosesAt (stamped moment (FactEntry fact) ∷ past) near o
-still_none setup past s a near p h is moment fact still o thing at c = elim c [
+still_none secrets setup past s a near p h is moment fact still o thing at c = elim c [
   | inl b ↦ absurd (closes_none near thing (facts_of past) fact still b.0)
-  | inr q ↦ absurd (none_closes setup past s a near p h is thing at q.1)
+  | inr q ↦ absurd (none_closes secrets setup past s a near p h is thing at q.1)
 ]
 
 -- nor where nothing stood
@@ -178,10 +192,10 @@ some_or false b (inl e) = absurd (cc)
 some_or false b (inr e) = e
 
 -- what stands under one session ID is replaced by the same thing
-pub agrees_same : (setup : Setup) (past : Past) (s t : State) (near : ℕ) (oa : Option AttemptState) (os : Option Row) → Agrees setup past s → IsGiven setup t → IsAt near oa os s t →
-    t.startup.ledger ≡ s.startup.ledger → combined near oa os ≡ thing_at s near → (is_some oa || is_some os) ≡ is_used s near → uses t ≡ uses s → t.moment ≡ s.moment → Fits setup past near oa os → ClosesAt past near os → SearchesAt past near oa →
-    Agrees setup past t
-agrees_same setup past s t near oa os a given at ledger same used count moment fits closes searches =
+pub agrees_same : (secrets : Secrets) (setup : Setup) (past : Past) (s t : State) (near : ℕ) (oa : Option AttemptState) (os : Option Row) → Agrees secrets setup past s → IsGiven secrets setup past t → IsAt near oa os s t →
+    t.startup.ledger ≡ s.startup.ledger → combined near oa os ≡ thing_at s near → (is_some oa || is_some os) ≡ is_used s near → uses t ≡ uses s → t.moment ≡ s.moment → Fits secrets setup past near oa os → ClosesAt past near os → SearchesAt past near oa →
+    Agrees secrets setup past t
+agrees_same secrets setup past s t near oa os a given at ledger same used count moment fits closes searches =
     let all : (q : ℕ) → thing_at t q ≡ thing_at s q = λ q. elim (same_number q near) [
       | inl is ↦ ap (thing_at t) is ∙ thing_here near oa os s t at ∙ same ∙ ap (thing_at s) (sym is)
       | inr is ↦ thing_elsewhere near oa os s t at q is
@@ -190,7 +204,7 @@ agrees_same setup past s t near oa os a given at ledger same used count moment f
       | inl is ↦ ap (is_used t) is ∙ used_here near oa os s t at ∙ used ∙ ap (is_used s) (sym is)
       | inr is ↦ used_elsewhere near oa os s t at q is
     ] in
-    agrees_changed setup past past s t near oa os a given at
+    agrees_changed secrets setup past past s t near oa os a given at
     (subst (λ (l : Ledger). Matches (thing_at t) (held_with l)) (sym ledger) (same_matches (thing_at s) (thing_at t) (held_with s.startup.ledger) all a.matches))
     fits (beside_same near past) closes searches (ids_same setup.config.max_sessions (ids_in_use past) s t a.ids all_used count)
     (subst (λ (m : ℕ). AreBy m past) (sym moment) a.by_now)
@@ -242,12 +256,16 @@ closed_alike moment past near old new a are e c = record {
   ];
 }
 
-pub ours_alike : (setup : Setup) (moment : ℕ) (past : Past) (near : ℕ) (old new : SessionState) → IsAlike moment old new → AreBy moment past → IsOurs setup past near old → IsOurs setup past near new
-ours_alike setup moment past near old new a are ours = record {
+pub known_alike : (secrets : Secrets) (moment : ℕ) (old new : SessionState) → IsAlike moment old new → HasKeys secrets old → HasKeys secrets new
+known_alike secrets moment old new a is =
+    record { secret = is.secret; known = ap (get secrets) a.generation ∙ is.known; keyed = keyed_same is.secret old new a.joined a.own a.role a.generation a.inward a.outward is.keyed }
+
+pub ours_alike : (secrets : Secrets) (setup : Setup) (moment : ℕ) (past : Past) (near : ℕ) (old new : SessionState) → IsAlike moment old new → AreBy moment past → IsOurs secrets setup past near old → IsOurs secrets setup past near new
+ours_alike secrets setup moment past near old new a are ours = record {
   id = ap (λ j. j.near) a.joined ∙ ours.id;
   own = a.own ∙ ours.own;
-  keyed = keyed_same setup.secret old new a.joined a.own a.role a.generation a.inward a.outward ours.keyed;
-  generation = a.generation ∙ ours.generation;
+  known = known_alike secrets moment old new a ours.known;
+  begun = begun_like secrets setup past old new a.role a.joined a.generation ours.begun;
   stage = a.stage ours.stage;
   closed = λ e. let before = sym a.held ∙ e in closed_alike moment past near old new a are before (ours.closed before);
 }
@@ -258,49 +276,51 @@ closes_alike moment past near o old new closes is a thing at c =
     (a.held ∙ before.0, was_alike moment old.session new.session thing a before.1)
 
 -- a session is replaced by one like it
-pub tied_session : (setup : Setup) (past : Past) (s : State) (near : ℕ) (old new : Row) → Tied setup past s → get s.sessions near ≡ Some old →
-    IsAlike s.moment old.session new.session → Tied setup past (with_row s near new)
-tied_session setup past s near old new tied is alike =
+pub tied_session : (secrets : Secrets) (setup : Setup) (past : Past) (s : State) (near : ℕ) (old new : Row) → Tied secrets setup past s → get s.sessions near ≡ Some old →
+    IsAlike s.moment old.session new.session → Tied secrets setup past (with_row s near new)
+tied_session secrets setup past s near old new tied is alike =
     let t : State = with_row s near new in
-    let a = agrees_of setup past s tied in
+    let a = agrees_of secrets setup past s tied in
     let none = no_attempt s near old (a.apart near) is in
-    tied_of setup past t (agrees_same setup past s t near None (Some new) a (record { config = a.given.config; cert = a.given.cert; one = one_still setup s t a.given.one refl refl refl; cookie_secret = a.given.cookie_secret; own = a.given.own; max_peers = a.given.max_peers }) (record {
+    tied_of secrets setup past t (agrees_same secrets setup past s t near None (Some new) a (record { config = a.given.config; cert = a.given.cert; holds = holds_still secrets s t a.given.holds refl refl refl; current = a.given.current; next = a.given.next; cookie_secret = a.given.cookie_secret; own = a.given.own; max_peers = a.given.max_peers }) (record {
       attempt = none;
       session = get_inserted s.sessions near new;
       attempts = λ q other. refl;
       sessions = λ q other. get_beside s.sessions near new q other;
     }) refl (alike_found s.moment old new alike ∙ sym (found_at s near old none is))
     (sym (some_or (is_some (get s.startup.attempts near)) (is_some (get s.sessions near)) (inr (ap (λ (o : Option Row). is_some o) is))))
-    (omega (arith, len_known s.sessions near new old is)) refl (ours_alike setup s.moment past near old.session new.session alike a.by_now (a.ours near old is))
+    (omega (arith, len_known s.sessions near new old is)) refl (ours_alike secrets setup s.moment past near old.session new.session alike a.by_now (a.ours near old is))
     (closes_alike s.moment past near (get s.sessions near) old new (a.closing near) is alike) (subst (λ (o : Option AttemptState). SearchesAt past near o) none (a.searching near))) tied.account tied.few
 
 -- what stands where an attempt is isn't closing
-attempt_is_open : (setup : Setup) (past : Past) (s : State) → Agrees setup past s → (near : ℕ) (old : AttemptState) (aim : Aim) → old.aim ≡ aim → get s.startup.attempts near ≡ Some old →
+attempt_is_open : (secrets : Secrets) (setup : Setup) (past : Past) (s : State) → Agrees secrets setup past s → (near : ℕ) (old : AttemptState) (aim : Aim) → old.aim ≡ aim → get s.startup.attempts near ≡ Some old →
     (thing : Held) (at : ℕ) → IsClosing near thing at past → ⊥
-attempt_is_open setup past s a near old (AtPeer peer n) aims is thing at c = none_closes setup past s a near peer (Opening n near old.ni) (found_of_peer s near old peer n is aims) thing at c
-attempt_is_open setup past s a near old (ByName name) aims is thing at c = subst (λ (o : Option Row). IsClosedThing o thing) (a.apart near old is) (a.closing near thing at c)
+attempt_is_open secrets setup past s a near old (AtPeer peer n) aims is thing at c = none_closes secrets setup past s a near peer (Opening n near old.ni) (found_of_peer s near old peer n is aims) thing at c
+attempt_is_open secrets setup past s a near old (ByName name) aims is thing at c = subst (λ (o : Option Row). IsClosedThing o thing) (a.apart near old is) (a.closing near thing at c)
 
 -- an attempt is replaced by one with the same values
-pub tied_attempt : (setup : Setup) (past : Past) (s : State) (near : ℕ) (old new : AttemptState) → Tied setup past s → get s.startup.attempts near ≡ Some old →
+pub tied_attempt : (secrets : Secrets) (setup : Setup) (past : Past) (s : State) (near : ℕ) (old new : AttemptState) → Tied secrets setup past s → get s.startup.attempts near ≡ Some old →
     combined near (Some new) None ≡ combined near (Some old) None → (WasStarted past near old → WasStarted past near new) → FitsStage new.aim new.stage → ((which : Search) (at : ℕ) → IsKept old which at → IsKept new which at) →
-    IsKin s (with_attempt s.startup near new) → Tied setup past (with_startup s (with_attempt s.startup near new))
-tied_attempt setup past s near old new tied is same was stage kept kin =
+    IsKin s (with_attempt s.startup near new) → Tied secrets setup past (with_startup s (with_attempt s.startup near new))
+tied_attempt secrets setup past s near old new tied is same was stage kept kin =
     let t : State = with_startup s (with_attempt s.startup near new) in
-    let a = agrees_of setup past s tied in
+    let a = agrees_of secrets setup past s tied in
     let there = found_of_attempt s near old is in
-    tied_of setup past t (agrees_same setup past s t near (Some new) None a (record { config = a.given.config; cert = a.given.cert; one = kin.one setup a.given.one; cookie_secret = a.given.cookie_secret; own = a.given.own; max_peers = a.given.max_peers }) (record {
+    tied_of secrets setup past t (agrees_same secrets setup past s t near (Some new) None a (record { config = a.given.config; cert = a.given.cert; holds = kin.holds secrets a.given.holds; current = a.given.current; next = a.given.next; cookie_secret = a.given.cookie_secret; own = a.given.own; max_peers = a.given.max_peers }) (record {
       attempt = get_inserted s.startup.attempts near new;
       session = a.apart near old is;
       attempts = λ q other. get_beside s.startup.attempts near new q other;
       sessions = λ q other. refl;
     }) refl (same ∙ sym there)
     (sym (some_or (is_some (get s.startup.attempts near)) (is_some (get s.sessions near)) (inl (ap (λ (o : Option AttemptState). is_some o) is))))
-    (omega (arith, len_known s.startup.attempts near new old is)) refl (was (a.started near old is), stage) (λ thing at c. attempt_is_open setup past s a near old old.aim refl is thing at c)
+    (omega (arith, len_known s.startup.attempts near new old is)) refl (was (a.started near old is), stage) (λ thing at c. attempt_is_open secrets setup past s a near old old.aim refl is thing at c)
     (λ which at there. kept which at (subst (λ (o : Option AttemptState). IsKeptIn o which at) is (a.searching near which at there)))) tied.account tied.few
 
--- more was done that states no fact, ends no closing, and says nothing of searches
-pub tied_more : (setup : Setup) (past : Past) (s : State) (x : Stamped) → x.moment ≤ s.moment → fact_done x.what ≡ None → closed_done x.what ≡ None → sought_done x.what ≡ None → unsought_done x.what ≡ None → Tied setup past s → Tied setup (x ∷ past) s
-tied_more setup past s x in_time no_fact no_closed no_sought no_unsought t =
+-- More was done that states no fact, ends no closing, and says nothing of searches, whatever it says of generations.
+pub tied_generations : (secrets : Secrets) (setup : Setup) (past : Past) (s : State) (x : Stamped) → x.moment ≤ s.moment → fact_done x.what ≡ None → closed_done x.what ≡ None → sought_done x.what ≡ None → unsought_done x.what ≡ None →
+    (group : GroupSecret) (next : Option GroupSecret) → HoldsSecrets secrets (record s { group = group; next = next }) → group.generation ≡ current_of setup (x ∷ past) → number_in next ≡ next_of (x ∷ past) → Tied secrets setup past s →
+    Tied secrets setup (x ∷ past) (record s { group = group; next = next })
+tied_generations secrets setup past s x in_time no_fact no_closed no_sought no_unsought group next holds current number t =
     let facts : facts_of (x ∷ past) ≡ facts_of past = ap (λ (o : Option Fact). fact_and o (facts_of past)) no_fact in
     let ids : ids_in_use (x ∷ past) ≡ ids_in_use past =
     ap (λ (o : Option NamedSearch). ids_sought o (ids_left (unsought_id (unsought_done x.what)) (ids_left (closed_done x.what) (ids_after (fact_done x.what) (ids_in_use past))))) no_sought
@@ -317,18 +337,28 @@ tied_more setup past s x in_time no_fact no_closed no_sought no_unsought t =
       | inl b ↦ absurd (subst (Closes q thing (facts_of past)) no_fact b.0)
       | inr p ↦ p.1
     ] in
-    let P : List ℕ → Type 0 = λ f. Ids setup.config.max_sessions f s in
-    let a = agrees_of setup past s t in
-    tied_of setup (x ∷ past) s (record {
-      given = a.given;
-      matches = a.matches;
+    let new : State = record s { group = group; next = next } in
+    let P : List ℕ → Type 0 = λ f. Ids setup.config.max_sessions f new in
+    let a = agrees_of secrets setup past s t in
+    tied_of secrets setup (x ∷ past) new (record {
+      given = record {
+        config = a.given.config;
+        cert = a.given.cert;
+        holds = holds;
+        current = current;
+        next = number;
+        cookie_secret = a.given.cookie_secret;
+        own = a.given.own;
+        max_peers = a.given.max_peers;
+      };
+      matches = record { found = a.matches.found; there = a.matches.there };
       ours = λ near row e.
           let o = a.ours near row e in
           record {
             id = o.id;
             own = o.own;
-            keyed = o.keyed;
-            generation = o.generation;
+            known = o.known;
+            begun = begun_on secrets setup (born_thing row.session.role row.session.joined) row.session.generation past x no_fact o.begun;
             stage = o.stage;
             closed = λ c. let d = o.closed c in record { thing = d.thing; at = d.at; was = d.was; closing = on near d.thing d.at d.closing; since = d.since };
           };
@@ -337,18 +367,27 @@ tied_more setup past s x in_time no_fact no_closed no_sought no_unsought t =
       started = λ near b e. started_still past (x ∷ past) near b b.aim (λ y was. inr was) (λ which at there. still near which at there) (a.started near b e);
       searching = λ near which at there. a.searching near which at (before near which at there);
       stages = a.stages;
-      ids = subst P (sym ids) a.ids;
+      ids = subst P (sym ids) (record { used = a.ids.used; count = a.ids.count; once = a.ids.once; not_zero = a.ids.not_zero; within = a.ids.within });
       by_now = (in_time, a.by_now);
       rows = a.rows;
     }) (subst (StandsFor 0 s.startup.ledger) (sym facts) t.account) (subst (λ (f : List Fact). count f < 2 ^ 64) (sym facts) t.few)
 
+-- and nothing of generations
+pub tied_more : (secrets : Secrets) (setup : Setup) (past : Past) (s : State) (x : Stamped) → x.moment ≤ s.moment → fact_done x.what ≡ None → closed_done x.what ≡ None → sought_done x.what ≡ None → unsought_done x.what ≡ None →
+    learnt_done x.what ≡ None → advanced_done x.what ≡ None → Tied secrets setup past s → Tied secrets setup (x ∷ past) s
+tied_more secrets setup past s x in_time no_fact no_closed no_sought no_unsought no_learnt no_advanced t =
+    tied_generations secrets setup past s x in_time no_fact no_closed no_sought no_unsought s.group s.next t.holds (t.current ∙ sym (ap (λ (o : Option ℕ). current_after o (current_of setup past)) no_advanced))
+    (t.next ∙ sym (ap (λ (o : Option ℕ). next_after o (next_left (advanced_done x.what) (next_of past))) no_learnt ∙ ap (λ (o : Option ℕ). next_left o (next_of past)) no_advanced)) t
+
 -- what doesn't touch what is held
-pub tied_alike : (setup : Setup) (past : Past) (s : State) (moment sealed : ℕ) → s.moment ≤ moment → Tied setup past s →
-    Tied setup past (record s { moment = moment; sealed = sealed })
-tied_alike setup past s moment sealed up t = record {
+pub tied_alike : (secrets : Secrets) (setup : Setup) (past : Past) (s : State) (moment sealed : ℕ) → s.moment ≤ moment → Tied secrets setup past s →
+    Tied secrets setup past (record s { moment = moment; sealed = sealed })
+tied_alike secrets setup past s moment sealed up t = record {
   config = t.config;
   cert = t.cert;
-  one = one_still setup s (record s { moment = moment; sealed = sealed }) t.one refl refl refl;
+  holds = holds_still secrets s (record s { moment = moment; sealed = sealed }) t.holds refl refl refl;
+  current = t.current;
+  next = t.next;
   cookie_secret = t.cookie_secret;
   own = t.own;
   max_peers = t.max_peers;
@@ -371,11 +410,13 @@ tied_alike setup past s moment sealed up t = record {
 }
 
 -- whom an end introduces touches nothing of it
-pub tied_unseen : (setup : Setup) (past : Past) (s : State) (introduces : Bool) (redirects : AddressRows) → Tied setup past s → Tied setup past (record s { introduces = introduces; redirects = redirects })
-tied_unseen setup past s introduces redirects t = record {
+pub tied_unseen : (secrets : Secrets) (setup : Setup) (past : Past) (s : State) (introduces : Bool) (redirects : AddressRows) → Tied secrets setup past s → Tied secrets setup past (record s { introduces = introduces; redirects = redirects })
+tied_unseen secrets setup past s introduces redirects t = record {
   config = t.config;
   cert = t.cert;
-  one = one_still setup s (record s { introduces = introduces; redirects = redirects }) t.one refl refl refl;
+  holds = holds_still secrets s (record s { introduces = introduces; redirects = redirects }) t.holds refl refl refl;
+  current = t.current;
+  next = t.next;
   cookie_secret = t.cookie_secret;
   own = t.own;
   max_peers = t.max_peers;

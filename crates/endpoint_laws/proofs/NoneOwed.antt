@@ -52,7 +52,7 @@ use Rattle.endpoint_laws.proofs.AcksFew.{chunk_short, acks_short, paid_short, ca
 use Rattle.endpoint_laws.proofs.AcksFew.{abandon_same, late_same}
 use Rattle.endpoint_laws.proofs.ByKind.{chunk_by_kind}
 use Rattle.endpoint_laws.proofs.EachRow.{IsKeptAlone, Each, Keeps, put, each_quiet, each_timed}
-use Rattle.endpoint_laws.proofs.EachRow.{each_calls, each_begins, each_enters, after_every_log}
+use Rattle.endpoint_laws.proofs.EachRow.{each_calls, each_begins, each_enters, each_succession, after_every_log}
 use Rattle.endpoint_laws.proofs.FlowsWithin.{sound_is_kept}
 use Rattle.endpoint_laws.proofs.Made.{Given, admission_made, answers_by, acked_made, carries_any}
 use Rattle.endpoint_laws.proofs.Made.{confirming_made, initiator_at, left_by}
@@ -397,7 +397,7 @@ no_ack_is_owed setup log s near stands = by (get s.sessions near) refl
 
     each : Each IsPaid s
     each = after_every_log IsPaid (answers_by (each_timed IsPaid k) (each_calls IsPaid k)
-        (each_begins IsPaid k) (each_enters IsPaid k) given_pays) setup log s stands
+        (each_begins IsPaid k) (each_enters IsPaid k) given_pays (each_succession IsPaid k)) setup log s stands
 
     by : (o : Option Row) → get s.sessions near ≡ o → owes_by o ≡ false
     by None is = refl

@@ -25,7 +25,9 @@ use Rattle.endpoint_laws.proofs.Tied.{Tied, WasStartedAs, IsKeptIn, StageFits, I
 use Rattle.endpoint_laws.proofs.Agrees.{found_row}
 use Rattle.endpoint_laws.proofs.Chunked.{either_way}
 use Rattle.session_core.specs.Closing.{is_held}
-use Rattle.endpoint_laws.proofs.Logged.{log_is, tied_to_log}
+use Rattle.endpoint_laws.specs.Contexts.{Secrets}
+use Rattle.endpoint_laws.proofs.Succeeding.{secrets_of_log}
+use Rattle.endpoint_laws.proofs.Logged.{log_is}
 
 is_thing : (role : Role) (stage : Stage) (j : Joined) → StageFits role stage → is_held stage ≡ true → IsThing role stage j (thing_of role stage j)
 is_thing Initiator Opening j fits e = fits
@@ -67,7 +69,7 @@ same_ni : (n n' near near' : ℕ) (ni ni' : List ℕ) → Some (AttemptHeld n ne
 unfolding ni_in
 same_ni n n' near near' ni ni' e = ap (ni_in ni) e
 
-module _ (setup : Setup) (past : Past) (s : State) (tied : Tied setup past s) where
+module _ (secrets : Secrets) (setup : Setup) (past : Past) (s : State) (tied : Tied secrets setup past s) where
   holds : (q : List ℕ) → held_with s.startup.ledger q ≡ held q (facts_of past)
   holds = reads_held 0 s.startup.ledger (facts_of past) tied.account
 
@@ -138,4 +140,6 @@ module _ (setup : Setup) (past : Past) (s : State) (tied : Tied setup past s) wh
 
 pub state_of_log : TheStateIsOfTheLog
 state_of_log setup log s is calls stands =
-    of_the_log setup (past_of 0 [] log) s (tied_to_log setup log s is calls stands) (last_moment 0 log) (log_is setup log s is calls stands).moment
+    let map = secrets_of_log setup log s stands in
+    let said = log_is map.0 setup log s map.1 is calls stands in
+    of_the_log map.0 setup (past_of 0 [] log) s said.holds.tied (last_moment 0 log) said.moment

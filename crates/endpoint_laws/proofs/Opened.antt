@@ -1,68 +1,155 @@
 -- The context in which a datagram opens: by what is kept it is the same as by what the end has stated.
-use Rattle.std.proofs.Common.{◌≡◌, ◌≢◌, ℕ, ◌≤◌, List, [], ◌∷◌, length, drop, length-drop, nat_lt, Bool, true, false, ◌||◌, if◌then◌else◌, Option, Some, None, is_some, inl, inr, ◌⊎◌, refl, sym, ap, subst, ◌∙◌, arith}
+use Rattle.std.proofs.Common.{◌≡◌, ◌≢◌, ℕ, ◌≤◌, List, [], ◌∷◌, map, length, drop, length-drop, nat_lt, Bool, true, false, ◌||◌, if◌then◌else◌, Option, Some, None, is_some, inl, inr, ◌⊎◌, refl, sym, ap, subst, ◌∙◌, arith}
 use Rattle.std.proofs.lemmas.Bool.Decides.{nat_tests}
-use Rattle.std.specs.FinMap.{get, contains_key}
+use Rattle.std.specs.FinMap.{get}
+use Rattle.rtmfp_base.proofs.Maps.{none_is_some}
+use Rattle.crypto_profile.specs.declared.group.GroupSecret.{GroupSecret}
 use Rattle.crypto_profile.specs.declared.keys.Context.{Context}
 use Rattle.crypto_profile.specs.declared.keys.Context.TheVariants.{Startup as StartupContext}
 use Rattle.crypto_profile.specs.declared.sealing.SealFault.{SealFault}
-use Rattle.crypto_profile.specs.Keys.{keys_of, startup_keys_of}
+use Rattle.crypto_profile.specs.Keys.{Keys, startup_keys_of}
 use Rattle.crypto_profile.specs.Sealing.{Opens}
 use Rattle.crypto_profile.specs.Opening.{open_refusal, plain_of}
-use Rattle.crypto_profile.proofs.Opened.{opens_by_its_tag}
 use Rattle.packet_scramble.specs.Datagram.{sid_of}
 use Rattle.glare_core.specs.declared.facts.Fact.{Fact}
 use Rattle.glare_core.specs.declared.facts.Held.{Held}
 use Rattle.glare_core.specs.declared.facts.Held.TheVariants.{Opening as OpeningHeld}
+use Rattle.glare_core.specs.declared.facts.Joined.{Joined}
+use Rattle.glare_core.specs.Things.{IsSession}
 use Rattle.glare_core.proofs.Accounts.{reads_held}
+use Rattle.rtmfp_base.specs.Reasons.{first_that_stands}
 use Rattle.startup.specs.declared.aim.Aim.{Aim}
 use Rattle.startup.specs.declared.aim.Aim.TheVariants.{AtPeer, ByName}
+use Rattle.startup.specs.declared.attempt.Stage.{Stage}
+use Rattle.startup.specs.declared.attempt.Stage.TheVariants.{Hello, Keying}
 use Rattle.startup.specs.State.{AttemptState}
-use Rattle.session_core.specs.Session.{context_between, context_of}
+use Rattle.session_core.specs.declared.stage.Role.{Role}
+use Rattle.session_core.specs.declared.stage.Role.TheVariants.{Initiator, Responder}
+use Rattle.session_core.specs.Session.{SessionState, context_between, context_of}
 use Rattle.session_core.specs.Hearing.{opens_in as opens_in_session}
+use Rattle.session_core.specs.Closing.{is_held as is_held_stage}
 use Rattle.session_core.proofs.Keyed.{opens_in_context}
 use Rattle.endpoint_model.specs.declared.row.Row.{Row}
 use Rattle.endpoint_model.specs.declared.place.Place.{Place}
 use Rattle.endpoint_model.specs.declared.place.Place.TheVariants.{Startup, Attempt, Session}
-use Rattle.endpoint_model.specs.Event.{Setup, Event}
-use Rattle.endpoint_laws.specs.Past.{Past, facts_of, IsClosing, past_of}
-use Rattle.endpoint_laws.specs.Contexts.{ContextsOf, HeldUnder, OpensFirst, SearchUnder, StandsUnder, inward, generation_of, Secrets, Knows}
-use Rattle.endpoint_laws.proofs.OneContext.{ContextOf, one_context, opens_first, the_context}
-use Rattle.endpoint_laws.specs.OfTheLog.{WasThing}
-use Rattle.session_core.specs.Closing.{is_held as is_held_stage}
+use Rattle.endpoint_model.specs.Event.{Setup, own_of, Event}
 use Rattle.endpoint_model.specs.State.{State, is_used}
-use Rattle.endpoint_model.specs.Admission.{places_of, sid_at, group_at}
+use Rattle.endpoint_model.specs.Admission.{attempt_group, next_places, places_of, sid_at, group_at, stage_group}
 use Rattle.endpoint_model.specs.Log.{StandsFor}
-use Rattle.endpoint_laws.specs.Laws.{IsSetup, AreCalls}
-use Rattle.endpoint_laws.specs.OpensIn.{startup_unless, context_in_startup, context_in_session, opens_in, OpensAt, IsContextAt, OpensByTheLog, context_first, context_at}
 use Rattle.endpoint_model.proofs.Members.{tested}
-use Rattle.endpoint_laws.proofs.Tied.{Tied, IsClosedThing, IsKeptIn, search_of, thing_of}
-use Rattle.endpoint_laws.proofs.Searching.{kept_as}
-use Rattle.endpoint_laws.proofs.InSessions.{was_itself}
-use Rattle.endpoint_laws.proofs.SessionChunks.{was_inward}
+use Rattle.endpoint_model.proofs.Naming.{places_by}
+use Rattle.endpoint_laws.specs.Past.{Past, facts_of, IsClosing, past_of, past_of_log, next_of}
+use Rattle.endpoint_laws.specs.Contexts.{Secrets, Knows, generation_of, inward, HeldUnder, StandsUnder, SearchUnder, AttemptUnder, OpensUnder, OpensFirst, IsAttemptIn, startup_contexts, next_contexts, StartupContextsOf, ContextsOf, BegunUnder}
+use Rattle.endpoint_laws.specs.Groups.{number_in, IsStageOf}
+use Rattle.endpoint_laws.specs.OfTheLog.{WasThing}
+use Rattle.endpoint_laws.specs.OpensIn.{startup_unless, context_in_startup, context_in_session, context_at, context_first, opens_in, OpensAt, IsContextAt, OpensByTheLog}
+use Rattle.endpoint_laws.specs.Laws.{IsSetup, AreCalls}
+use Rattle.endpoint_laws.proofs.Agrees.{agrees_of, combined, thing_at, in_row, found_as, found_of_peer, found_of_session}
+use Rattle.endpoint_laws.proofs.Begun.{begun_as}
 use Rattle.endpoint_laws.proofs.Chunked.{either_way}
-use Rattle.endpoint_laws.proofs.Agrees.{agrees_of, combined, thing_at, in_row, no_attempt, found_as, found_of_peer, found_of_session}
-use Rattle.endpoint_laws.proofs.Logged.{tied_to_log}
-use Rattle.endpoint_laws.proofs.Kin.{group_is_one}
-use Rattle.endpoint_laws.proofs.Groups.{startup_place, places_by}
-use Rattle.rtmfp_base.specs.Reasons.{first_that_stands}
-use Rattle.crypto_profile.specs.declared.group.GroupSecret.{GroupSecret}
-use Rattle.endpoint_laws.proofs.Knowing.{known_opens, opens_known}
-use Rattle.endpoint_laws.proofs.ByMap.{inward_own}
+use Rattle.endpoint_laws.proofs.InSessions.{was_itself}
+use Rattle.endpoint_laws.proofs.Kin.{group_known}
+use Rattle.endpoint_laws.proofs.Knowing.{opens_known, known_opens, context_generation}
+use Rattle.endpoint_laws.proofs.Logged.{log_is}
+use Rattle.endpoint_laws.proofs.OpensHere.{opens_plain, unrefused, current_number, next_is}
+use Rattle.endpoint_laws.proofs.Searching.{kept_as}
+use Rattle.endpoint_laws.proofs.Tied.{Tied, IsClosedThing, IsKeptIn, search_of, thing_of}
+use Rattle.endpoint_laws.proofs.Unique.{contexts_one, event_one}
 
--- ---- contexts
+-- ---- the generation in which a session began is one number
 
-unrefused : (generation : ℕ) (o : Option SealFault) (c : Context) → startup_unless generation o ≡ Some c → (o ≡ None) × ((StartupContext generation) ≡ c)
-unrefused generation None c e = (refl, let same : (StartupContext generation) ≡ c = cc in same)
-unrefused generation (Some fault) c e = absurd (cc)
+begun_one : (secrets : Secrets) (setup : Setup) (thing : Held) (g h : ℕ) (past : Past) → BegunUnder secrets setup thing g past → BegunUnder secrets setup thing h past → g ≡ h
+begun_one secrets setup thing g h [] a b = absurd a
+begun_one secrets setup thing g h (s ∷ earlier) (inl a) (inl b) = event_one secrets setup earlier g h a.1 b.1
+begun_one secrets setup thing g h (s ∷ earlier) (inl a) (inr b) = absurd (b.0 a.0)
+begun_one secrets setup thing g h (s ∷ earlier) (inr a) (inl b) = absurd (a.0 b.0)
+begun_one secrets setup thing g h (s ∷ earlier) (inr a) (inr b) = begun_one secrets setup thing g h earlier a.1 b.1
 
--- of one there is no other
-only_one : (o : Option Context) → first_that_stands (o ∷ []) ≡ o
-only_one None = refl
-only_one (Some c) = refl
+-- ---- the contexts of places
 
-chosen : (b : Bool) (own c : Context) → ◌≡◌ {A = Option Context} (if b then Some own else None) (Some c) → (b ≡ true) × (own ≡ c)
-chosen true own c e = (refl, let same : own ≡ c = cc in same)
-chosen false own c e = absurd (cc)
+abbrev row_context : Option Row → Context
+row_context None = StartupContext 0
+row_context (Some row) = context_of row.session false
+
+abbrev place_context : State → Place → Context
+place_context s (Startup generation) = StartupContext generation
+place_context s (Attempt near generation) = StartupContext generation
+place_context s (Session near) = row_context (get s.sessions near)
+
+abbrev contexts_here : State → List Place → List Context
+contexts_here s places = map (place_context s) places
+
+next_here : (s : State) (next : Option GroupSecret) → contexts_here s (next_places next) ≡ next_contexts (number_in next)
+next_here s None = refl
+next_here s (Some next) = refl
+
+-- the inward context of a session, by the thing that it is or was
+inward_is : (setup : Setup) (generation : ℕ) (role : Role) (j : Joined) (thing : Held) → WasThing role j thing → context_between generation j (own_of setup) role false ≡ inward setup generation thing
+inward_is setup generation Initiator j thing was = ap (inward setup generation) (sym was)
+inward_is setup generation Responder j thing (inl was) = ap (inward setup generation) (sym was)
+inward_is setup generation Responder j thing (inr was) = ap (inward setup generation) (sym was)
+
+is_session : (role : Role) (j : Joined) (thing : Held) → WasThing role j thing → IsSession thing
+is_session Initiator j thing was = subst IsSession (sym was) tt
+is_session Responder j thing (inl was) = subst IsSession (sym was) tt
+is_session Responder j thing (inr was) = subst IsSession (sym was) tt
+
+-- an attempt is none
+no_session : (near : ℕ) (ni : List ℕ) (aim : Aim) (peer : List ℕ) (thing : Held) → found_as near ni aim ≡ Some (peer, thing) → IsSession thing → ⊥
+no_session near ni (AtPeer q n) peer thing is session =
+    let same : (q, OpeningHeld n near ni) ≡ (peer, thing) = cc in
+    subst (λ (x : List ℕ × Held). IsSession x.1) (sym same) session
+no_session near ni (ByName name) peer thing is session = cc
+
+no_opening : (n near : ℕ) (ni : List ℕ) (thing : Held) → OpeningHeld n near ni ≡ thing → IsSession thing → ⊥
+no_opening n near ni thing is session = subst IsSession (sym is) session
+
+-- ---- whether it opens at a place, and so in its context
+
+module _ (secrets : Secrets) (s : State) (datagram : List ℕ) where
+  abbrev part : List ℕ
+  part = drop 4 datagram
+
+  -- It opens there and that is told, or it opens nowhere there and nothing is told.
+  abbrev JudgedAs : Context → Option Context → Type 0
+  JudgedAs context answer =
+      ((plain : List ℕ) × OpensUnder secrets context (sid_of datagram) datagram plain × (answer ≡ Some context)) ⊎ (((plain : List ℕ) → OpensUnder secrets context (sid_of datagram) datagram plain → ⊥) × (answer ≡ None))
+
+  abbrev Judged : Place → Type 0
+  Judged place = JudgedAs (place_context s place) (context_at s place part)
+
+  abbrev AllJudged : List Place → Type 0
+  AllJudged [] = Unit {0}
+  AllJudged (place ∷ rest) = Judged place × AllJudged rest
+
+  abbrev Told : List Place → List (Option Context)
+  Told places = map (λ p. context_at s p part) places
+
+  -- the first context in which it opens is told
+  first_found : (places : List Place) → AllJudged places → (c : Context) (plain : List ℕ) → OpensFirst secrets (contexts_here s places) (sid_of datagram) datagram c plain → context_first s places part ≡ Some c
+  first_found [] all c plain none = absurd none
+  first_found (place ∷ rest) all c plain opens = by (λ beside. first_found rest all.1 c plain beside) all.0 opens
+    where
+      by : (OpensFirst secrets (contexts_here s rest) (sid_of datagram) datagram c plain → context_first s rest part ≡ Some c) → Judged place → OpensFirst secrets (contexts_here s (place ∷ rest)) (sid_of datagram) datagram c plain →
+          context_first s (place ∷ rest) part ≡ Some c
+      by later (inl here) (inl first) = ap (λ (o : Option Context). first_that_stands (o ∷ Told rest)) here.2 ∙ ap (λ (k : Context). Some k) first.0
+      by later (inl here) (inr beside) = absurd (beside.0 here.0 here.1)
+      by later (inr shut) (inl first) = absurd (shut.0 plain (subst (λ (k : Context). OpensUnder secrets k (sid_of datagram) datagram plain) (sym first.0) first.1))
+      by later (inr shut) (inr beside) = ap (λ (o : Option Context). first_that_stands (o ∷ Told rest)) shut.1 ∙ later beside.1
+
+  -- and what is told is that
+  first_told : (places : List Place) → AllJudged places → (c : Context) → context_first s places part ≡ Some c → (plain : List ℕ) × OpensFirst secrets (contexts_here s places) (sid_of datagram) datagram c plain
+  first_told [] all c e = absurd (cc)
+  first_told (place ∷ rest) all c e = by (λ told. first_told rest all.1 c told) all.0
+    where
+      by : (context_first s rest part ≡ Some c → (plain : List ℕ) × OpensFirst secrets (contexts_here s rest) (sid_of datagram) datagram c plain) → Judged place → (plain : List ℕ) × OpensFirst secrets (contexts_here s (place ∷ rest)) (sid_of datagram) datagram c plain
+      by later (inl here) =
+          let told : Some (place_context s place) ≡ Some c = sym (ap (λ (o : Option Context). first_that_stands (o ∷ Told rest)) here.2) ∙ e in
+          let same : place_context s place ≡ c = cc in
+          (here.0, inl (same, subst (λ (k : Context). OpensUnder secrets k (sid_of datagram) datagram here.0) same here.1))
+      by later (inr shut) =
+          let beside = later (sym (ap (λ (o : Option Context). first_that_stands (o ∷ Told rest)) shut.1) ∙ e) in
+          (beside.0, inr (shut.0, beside.1))
 
 -- ---- what a session ID names
 
@@ -75,81 +162,23 @@ or_true : (a : Bool) → (a || true) ≡ true
 or_true true = refl
 or_true false = refl
 
-module _ (setup : Setup) (past : Past) (s : State) (tied : Tied setup past s) (part : List ℕ) where
+module _ (secrets : Secrets) (setup : Setup) (past : Past) (s : State) (tied : Tied secrets setup past s) (stages : (near : ℕ) (a : AttemptState) → get s.startup.attempts near ≡ Some a → IsStageOf secrets past near a.stage) where
   abbrev facts : List Fact
   facts = facts_of past
-
-  -- session ID 0 has one place, and so has that of an attempt, of a search or of a session
-  zero_place : (sid : ℕ) → sid ≡ 0 → places_of s sid ≡ Startup setup.generation ∷ []
-  zero_place sid zero = ap (places_of s) zero ∙ startup_place setup s tied.one
-
-  attempt_place : (sid : ℕ) → sid ≢ 0 → contains_key s.startup.attempts sid ≡ true → places_of s sid ≡ Attempt sid setup.generation ∷ []
-  attempt_place sid other there = places_by setup s sid true (contains_key s.sessions sid) tied.one other there refl
-
-  session_place : (sid : ℕ) → sid ≢ 0 → contains_key s.startup.attempts sid ≡ false → contains_key s.sessions sid ≡ true → places_of s sid ≡ Session sid ∷ []
-  session_place sid other none there = places_by setup s sid false true tied.one other none there
-
-  at_place : (sid : ℕ) (place : Place) → places_of s sid ≡ place ∷ [] → context_first s (places_of s sid) part ≡ context_at s place part
-  at_place sid place e = ap (λ (places : List Place). context_first s places part) e ∙ only_one (context_at s place part)
 
   -- what is held is what stands under its session ID
   stands_there : (sid : ℕ) (thing : Held) (under : HeldUnder facts sid thing) → thing_at s sid ≡ Some (under.peer, thing)
   stands_there sid thing under =
       ap (thing_at s) (sym under.id)
-      ∙ (agrees_of setup past s tied).matches.there under.peer thing (reads_held 0 s.startup.ledger facts tied.account under.peer ∙ under.is_held)
+      ∙ (agrees_of secrets setup past s tied).matches.there under.peer thing (reads_held 0 s.startup.ledger facts tied.account under.peer ∙ under.is_held)
+
+  attempt_there : (sid : ℕ) (under : AttemptUnder past sid) → thing_at s sid ≡ Some (under.peer, OpeningHeld under.n sid under.ni)
+  attempt_there sid under = stands_there sid (OpeningHeld under.n sid under.ni) (record { peer = under.peer; is_held = under.is_held; id = refl })
 
   is_held : (sid : ℕ) (peer : List ℕ) (thing : Held) → thing_at s sid ≡ Some (peer, thing) → HeldUnder facts sid thing
   is_held sid peer thing at =
-      let found = (agrees_of setup past s tied).matches.found sid peer thing at in
+      let found = (agrees_of secrets setup past s tied).matches.found sid peer thing at in
       record { peer = peer; is_held = sym (reads_held 0 s.startup.ledger facts tied.account peer) ∙ found.0; id = found.1 }
-
-  -- ---- what opens in the context of its session ID is found
-
-  startup_found : (place : Place) (plain : List ℕ) → Opens setup.secret (StartupContext setup.generation) (sid_at place) part plain → context_in_startup s place setup.generation part ≡ Some (StartupContext setup.generation)
-  startup_found place plain opens =
-      let none : open_refusal (keys_of setup.secret (StartupContext setup.generation)) (sid_at place) part ≡ None = ((opens_by_its_tag setup.secret (StartupContext setup.generation) (sid_at place) part plain).0 opens).0 in
-      ap (λ (g : GroupSecret). startup_unless setup.generation (open_refusal (startup_keys_of g) (sid_at place) part)) (group_is_one setup s tied.one place) ∙ ap (startup_unless setup.generation) none
-
-  session_found : (sid : ℕ) (row : Row) (thing : Held) (plain : List ℕ) → get s.sessions sid ≡ Some row → WasThing row.session.role row.session.joined thing →
-      Opens setup.secret (inward setup thing) sid part plain → context_in_session (get s.sessions sid) part ≡ Some (inward setup thing)
-  session_found sid row thing plain at was opens =
-      let ours = tied.sessions sid row at in
-      let context : context_of row.session false ≡ inward setup thing =
-      ap (λ (g : ℕ). context_between g row.session.joined row.session.own row.session.role false) ours.generation
-      ∙ ap (λ (o : List ℕ). context_between setup.generation row.session.joined o row.session.role false) ours.own ∙ was_inward setup row.session.role row.session.joined thing was in
-      let of_session : Opens setup.secret (context_of row.session false) row.session.joined.near part plain =
-      subst (λ (c : Context). Opens setup.secret c row.session.joined.near part plain) (sym context)
-      (subst (λ (near : ℕ). Opens setup.secret (inward setup thing) near part plain) (sym ours.id) opens) in
-      let is : opens_in_session row.session part ≡ true = (opens_in_context setup.secret row.session ours.keyed.towards part).1 (plain, of_session) in
-      ap (λ (o : Option Row). context_in_session o part) at
-      ∙ ap (λ (b : Bool). if b then Some (context_of row.session false) else None) is
-      ∙ ap (λ (c : Context). Some c) context
-
-  startup_context : (sid : ℕ) (ni : List ℕ) (aim : Aim) (peer : List ℕ) (thing : Held) → found_as sid ni aim ≡ Some (peer, thing) → (StartupContext setup.generation) ≡ inward setup thing
-  startup_context sid ni (AtPeer q n) peer thing is = let same : (q, OpeningHeld n sid ni) ≡ (peer, thing) = cc in ap (λ (x : List ℕ × Held). inward setup x.1) same
-  startup_context sid ni (ByName name) peer thing is = absurd (cc)
-
-  -- a search is where an attempt is
-  search_found : (sid : ℕ) (plain : List ℕ) → sid ≢ 0 → SearchUnder past sid → Opens setup.secret (StartupContext setup.generation) sid part plain → context_first s (places_of s sid) part ≡ Some (StartupContext setup.generation)
-  search_found sid plain other under opens = by (get s.startup.attempts sid) refl (tied.searching sid under.which under.at under.stands)
-    where
-      by : (o : Option AttemptState) → get s.startup.attempts sid ≡ o → IsKeptIn o under.which under.at → context_first s (places_of s sid) part ≡ Some (StartupContext setup.generation)
-      by None e kept = absurd kept
-      by (Some a) e kept = at_place sid (Attempt sid setup.generation) (attempt_place sid other (ap is_some e)) ∙ startup_found (Attempt sid setup.generation) plain opens
-
-  thing_found : (sid : ℕ) (oa : Option AttemptState) (os : Option Row) (peer : List ℕ) (thing : Held) (plain : List ℕ) → sid ≢ 0 →
-      get s.startup.attempts sid ≡ oa → get s.sessions sid ≡ os → combined sid oa os ≡ Some (peer, thing) → Opens setup.secret (inward setup thing) sid part plain →
-      context_first s (places_of s sid) part ≡ Some (inward setup thing)
-  thing_found sid (Some a) os peer thing plain other ea es is opens =
-      let context : (StartupContext setup.generation) ≡ inward setup thing = startup_context sid a.ni a.aim peer thing is in
-      at_place sid (Attempt sid setup.generation) (attempt_place sid other (ap is_some ea))
-      ∙ startup_found (Attempt sid setup.generation) plain (subst (λ (c : Context). Opens setup.secret c sid part plain) (sym context) opens)
-      ∙ ap (λ (c : Context). Some c) context
-  thing_found sid None (Some row) peer thing plain other ea es is opens =
-      let found = in_row row peer thing is in
-      let was : WasThing row.session.role row.session.joined thing = subst (λ (h : Held). WasThing row.session.role row.session.joined h) found.thing (was_itself row.session.role row.session.stage row.session.joined) in
-      at_place sid (Session sid) (session_place sid other (ap is_some ea) (ap is_some es)) ∙ session_found sid row thing plain es was opens
-  thing_found sid None None peer thing plain other ea es is opens = absurd (cc)
 
   -- one that closes is there
   closing_row : (sid : ℕ) (thing : Held) (at : ℕ) → IsClosing sid thing at past → (row : Row) × (get s.sessions sid ≡ Some row) × WasThing row.session.role row.session.joined thing
@@ -159,138 +188,238 @@ module _ (setup : Setup) (past : Past) (s : State) (tied : Tied setup past s) (p
       go None e closed = absurd closed
       go (Some row) e closed = (row, e, closed.1)
 
-  closing_found : (sid : ℕ) (thing : Held) (at : ℕ) (plain : List ℕ) → sid ≢ 0 → IsClosing sid thing at past → Opens setup.secret (inward setup thing) sid part plain → context_first s (places_of s sid) part ≡ Some (inward setup thing)
-  closing_found sid thing at plain other c opens =
-      let found = closing_row sid thing at c in
-      let row : Row = found.0 in
-      let none = no_attempt s sid row (tied.apart sid) found.1 in
-      at_place sid (Session sid) (session_place sid other (ap is_some none) (ap is_some found.1)) ∙ session_found sid row thing plain found.1 found.2 opens
+  -- ---- nothing stands under session ID 0
 
-  -- nothing stands under session ID 0
-  none_closes_at_zero : (sid : ℕ) (thing : Held) (at : ℕ) → sid ≡ 0 → IsClosing sid thing at past → ⊥
-  none_closes_at_zero sid thing at zero c =
-      let found = closing_row sid thing at c in
-      let used : is_used s sid ≡ true = ap (λ (b : Bool). is_some (get s.startup.attempts sid) || b) (ap is_some found.1) ∙ or_true (is_some (get s.startup.attempts sid)) in
-      let clash : true ≡ false = sym used ∙ ap (is_used s) zero ∙ tied.used 0 ∙ tied.not_zero in
-      cc
+  unused : (sid : ℕ) → sid ≡ 0 → is_used s sid ≡ true → ⊥
+  unused sid zero used = let clash : true ≡ false = sym used ∙ ap (is_used s) zero ∙ tied.used 0 ∙ tied.not_zero in cc
 
-  none_at_zero : (sid : ℕ) (thing : Held) → sid ≡ 0 → HeldUnder facts sid thing → ⊥
-  none_at_zero sid thing zero under =
-      let used : is_used s sid ≡ true = used_if_found sid (get s.startup.attempts sid) (get s.sessions sid) under.peer thing (stands_there sid thing under) in
-      let clash : true ≡ false = sym used ∙ ap (is_used s) zero ∙ tied.used 0 ∙ tied.not_zero in
-      cc
+  none_at_zero : (sid : ℕ) (thing : Held) → sid ≡ 0 → StandsUnder past sid thing → ⊥
+  none_at_zero sid thing zero (inl under) = unused sid zero (used_if_found sid (get s.startup.attempts sid) (get s.sessions sid) under.peer thing (stands_there sid thing under))
+  none_at_zero sid thing zero (inr closing) =
+      let found = closing_row sid thing closing.0 closing.1 in
+      unused sid zero (ap (λ (b : Bool). is_some (get s.startup.attempts sid) || b) (ap is_some found.1) ∙ or_true (is_some (get s.startup.attempts sid)))
 
-  found_at_zero : (sid : ℕ) (c : Context) (plain : List ℕ) → sid ≡ 0 → ContextOf setup past sid c → Opens setup.secret c sid part plain →
-      context_first s (places_of s sid) part ≡ Some c
-  found_at_zero sid c plain zero (inl named) opens =
-      at_place sid (Startup setup.generation) (zero_place sid zero)
-      ∙ startup_found (Startup setup.generation) plain (subst (λ (id : ℕ). Opens setup.secret (StartupContext setup.generation) id part plain) zero (subst (λ (x : Context). Opens setup.secret x sid part plain) named.1 opens))
-      ∙ ap (λ (x : Context). Some x) (sym named.1)
-  found_at_zero sid c plain zero (inr named) opens = absurd (stands named.1)
-    where
-      stands : StandsUnder past sid named.0 → ⊥
-      stands (inl held) = none_at_zero sid named.0 zero held
-      stands (inr closing) = none_closes_at_zero sid named.0 closing.0 zero closing.1
+  module _ (datagram : List ℕ) where
+    abbrev sid : ℕ
+    sid = sid_of datagram
 
-  found_elsewhere : (sid : ℕ) (c : Context) (plain : List ℕ) → sid ≢ 0 → ContextOf setup past sid c → Opens setup.secret c sid part plain → context_first s (places_of s sid) part ≡ Some c
-  found_elsewhere sid c plain other (inl named) opens = by named.0
-    where
-      by : (sid ≡ 0) ⊎ SearchUnder past sid → context_first s (places_of s sid) part ≡ Some c
-      by (inl zero) = absurd (other zero)
-      by (inr under) = search_found sid plain other under (subst (λ (x : Context). Opens setup.secret x sid part plain) named.1 opens) ∙ ap (λ (x : Context). Some x) (sym named.1)
-  found_elsewhere sid c plain other (inr named) opens = stands named.1 ∙ ap (λ (x : Context). Some x) (sym named.2)
-    where
-      here : Opens setup.secret (inward setup named.0) sid part plain
-      here = subst (λ (x : Context). Opens setup.secret x sid part plain) named.2 opens
+    -- ---- places outside of sessions
 
-      stands : StandsUnder past sid named.0 → context_first s (places_of s sid) part ≡ Some (inward setup named.0)
-      stands (inl held) = thing_found sid (get s.startup.attempts sid) (get s.sessions sid) held.peer named.0 plain other refl refl (stands_there sid named.0 held) here
-      stands (inr closing) = closing_found sid named.0 closing.0 plain other closing.1 here
+    abbrev keys_at : Place → Keys
+    keys_at place = startup_keys_of (group_at s place)
 
-  context_is_found : (sid : ℕ) (c : Context) (plain : List ℕ) → ContextOf setup past sid c → Opens setup.secret c sid part plain → context_first s (places_of s sid) part ≡ Some c
-  context_is_found sid c plain named opens = elim (tested sid 0) [
-    | inl is ↦ found_at_zero sid c plain is.0 named opens
-    | inr is ↦ found_elsewhere sid c plain is.0 named opens
-  ]
+    abbrev Under : ℕ → ℕ → List ℕ → Type 0
+    Under n at plain = OpensUnder secrets (StartupContext n) at datagram plain
 
-  -- ---- and what is found is such a context
+    judged_startup : (place : Place) (generation : ℕ) → (group_at s place).generation ≡ generation → sid ≡ sid_at place → JudgedAs secrets s datagram (StartupContext generation) (context_in_startup s place generation (drop 4 datagram))
+    judged_startup place generation number id = by (open_refusal (keys_at place) (sid_at place) (drop 4 datagram)) refl
+      where
+        by : (o : Option SealFault) → open_refusal (keys_at place) (sid_at place) (drop 4 datagram) ≡ o → JudgedAs secrets s datagram (StartupContext generation) (startup_unless generation o)
+        by None is =
+            let plain : List ℕ = plain_of (keys_at place) (drop 4 datagram) in
+            let under : Under (group_at s place).generation (sid_at place) plain = opens_plain secrets s place (group_known secrets s tied.holds place) datagram id is in
+            inl (plain, subst (λ (at : ℕ). Under generation at plain) (sym id) (subst (λ (n : ℕ). Under n (sid_at place) plain) number under), refl)
+        by (Some fault) is = inr (
+          (λ plain under.
+              let there : Under (group_at s place).generation (sid_at place) plain = subst (λ (n : ℕ). Under n (sid_at place) plain) (sym number) (subst (λ (at : ℕ). Under generation at plain) id under) in
+              let clash : Some fault ≡ None = sym is ∙ (unrefused secrets s place (group_known secrets s tied.holds place) datagram plain there).0 in
+              cc),
+          refl,
+        )
 
-  pub record Named (sid : ℕ) (c : Context) : Type 0 where
-    pub context : ContextOf setup past sid c
-    pub plain : List ℕ
-    pub opens : Opens setup.secret c sid part plain
+    -- ---- places of sessions
 
-  opens_in_startup : (place : Place) (c : Context) → context_in_startup s place setup.generation part ≡ Some c → ((StartupContext setup.generation) ≡ c) × ((plain : List ℕ) × Opens setup.secret c (sid_at place) part plain)
-  opens_in_startup place c e =
-      let own : GroupSecret = group_at s place in
-      let sid : ℕ = sid_at place in
-      let both = unrefused setup.generation (open_refusal (startup_keys_of own) sid part) c e in
-      let plain : List ℕ = plain_of (startup_keys_of own) part in
-      let opens : Opens own.secret (StartupContext own.generation) sid part plain = (opens_by_its_tag own.secret (StartupContext own.generation) sid part plain).1 (both.0, tt, refl) in
-      let one : Opens setup.secret (StartupContext setup.generation) sid part plain = subst (λ (g : GroupSecret). Opens g.secret (StartupContext g.generation) sid part plain) (group_is_one setup s tied.one place) opens in
-      (both.1, (plain, subst (λ (x : Context). Opens setup.secret x sid part plain) both.1 one))
+    module _ (row : Row) (there : get s.sessions sid ≡ Some row) where
+      abbrev session : SessionState
+      session = row.session
 
-  told_at_zero : (sid : ℕ) (c : Context) → sid ≡ 0 → context_in_startup s (Startup setup.generation) setup.generation part ≡ Some c → Named sid c
-  told_at_zero sid c zero e =
-      let found = opens_in_startup (Startup setup.generation) c e in
-      record {
-        context = inl (inl zero, sym found.0);
-        plain = found.1.0;
-        opens = subst (λ (id : ℕ). Opens setup.secret c id part found.1.0) (sym zero) found.1.1;
-      }
+      abbrev secret : List ℕ
+      secret = (tied.sessions sid row there).known.secret
 
-  told_in_session : (sid : ℕ) (row : Row) (c : Context) → get s.startup.attempts sid ≡ None → get s.sessions sid ≡ Some row → context_in_session (Some row) part ≡ Some c → Named sid c
-  told_in_session sid row c none at e =
-      let ours = tied.sessions sid row at in
-      let both = chosen (opens_in_session row.session part) (context_of row.session false) c e in
-      let found = (opens_in_context setup.secret row.session ours.keyed.towards part).0 both.0 in
-      let own_context : (thing : Held) → WasThing row.session.role row.session.joined thing → c ≡ inward setup thing =
-      λ thing was. sym both.1 ∙ ap (λ (g : ℕ). context_between g row.session.joined row.session.own row.session.role false) ours.generation
-      ∙ ap (λ (o : List ℕ). context_between setup.generation row.session.joined o row.session.role false) ours.own ∙ was_inward setup row.session.role row.session.joined thing was in
-      record {
-        context = elim (either_way (is_held_stage row.session.stage)) [
-          | inl e ↦
-              let thing : Held = thing_of row.session.role row.session.stage row.session.joined in
-              inr (thing, inl (is_held sid row.session.joined.peer thing (found_of_session s sid row none at e)), own_context thing (was_itself row.session.role row.session.stage row.session.joined))
-          | inr e ↦
-              let closed = ours.closed e in
-              inr (closed.thing, inr (closed.at, closed.closing), own_context closed.thing closed.was)
-        ];
-        plain = found.0;
-        opens =
-            subst (λ (near : ℕ). Opens setup.secret c near part found.0) ours.id
-            (subst (λ (x : Context). Opens setup.secret x row.session.joined.near part found.0) both.1 found.1);
-      }
+      abbrev At : ℕ → List ℕ → Type 0
+      At near plain = Opens secret (context_of session false) near (drop 4 datagram) plain
 
-  named_by : (sid : ℕ) (c : Context) (a : AttemptState) (aim : Aim) → a.aim ≡ aim → get s.startup.attempts sid ≡ Some a → (StartupContext setup.generation) ≡ c → (plain : List ℕ) × Opens setup.secret c sid part plain → Named sid c
-  named_by sid c a (AtPeer peer n) aims ea is opens = record {
-    context = inr (OpeningHeld n sid a.ni, inl (is_held sid peer (OpeningHeld n sid a.ni) (found_of_peer s sid a peer n ea aims)), sym is);
-    plain = opens.0;
-    opens = opens.1;
-  }
-  named_by sid c a (ByName name) aims ea is opens = record {
-    context = inl (inr (record { which = search_of name a; at = a.start; stands = (kept_as setup past s tied sid a name aims ea).0 }), sym is);
-    plain = opens.0;
-    opens = opens.1;
-  }
+      known : get secrets (generation_of (context_of session false)) ≡ Some secret
+      known = ap (get secrets) (context_generation session.generation session.joined session.own session.role false) ∙ (tied.sessions sid row there).known.known
 
-  told_elsewhere : (sid : ℕ) (oa : Option AttemptState) (os : Option Row) (c : Context) → sid ≢ 0 → get s.startup.attempts sid ≡ oa → get s.sessions sid ≡ os →
-      context_first s (places_of s sid) part ≡ Some c → Named sid c
-  told_elsewhere sid (Some a) os c other ea es e =
-      let found = opens_in_startup (Attempt sid setup.generation) c (sym (at_place sid (Attempt sid setup.generation) (attempt_place sid other (ap is_some ea))) ∙ e) in
-      named_by sid c a a.aim refl ea found.0 found.1
-  told_elsewhere sid None (Some row) c other ea es e =
-      told_in_session sid row c ea es (sym (at_place sid (Session sid) (session_place sid other (ap is_some ea) (ap is_some es)) ∙ ap (λ (o : Option Row). context_in_session o part) es) ∙ e)
-  told_elsewhere sid None None c other ea es e =
-      let places : places_of s sid ≡ [] = places_by setup s sid false false tied.one other (ap is_some ea) (ap is_some es) in
-      let clash : None ≡ Some c = sym (ap (λ (ps : List Place). context_first s ps part) places) ∙ e in
-      absurd (cc)
+      judged_row : JudgedAs secrets s datagram (context_of session false) (context_in_session (Some row) (drop 4 datagram))
+      judged_row = by (opens_in_session session (drop 4 datagram)) refl
+        where
+          by : (b : Bool) → opens_in_session session (drop 4 datagram) ≡ b → JudgedAs secrets s datagram (context_of session false) (if b then Some (context_of session false) else None)
+          by true is =
+              let ours = tied.sessions sid row there in
+              let found = (opens_in_context secret session ours.known.keyed.towards (drop 4 datagram)).0 is in
+              inl (found.0, opens_known secrets (context_of session false) secret known sid datagram found.0 refl (subst (λ (near : ℕ). At near found.0) ours.id found.1), refl)
+          by false is = inr (
+            (λ plain under.
+                let ours = tied.sessions sid row there in
+                let opens : At session.joined.near plain = subst (λ (near : ℕ). At near plain) (sym ours.id) (known_opens secrets (context_of session false) secret known sid datagram plain under) in
+                let clash : true ≡ false = sym ((opens_in_context secret session ours.known.keyed.towards (drop 4 datagram)).1 (plain, opens)) ∙ is in
+                cc),
+            refl,
+          )
 
-  context_is_told : (sid : ℕ) (c : Context) → context_first s (places_of s sid) part ≡ Some c → Named sid c
-  context_is_told sid c e = elim (tested sid 0) [
-    | inl is ↦ told_at_zero sid c is.0 (sym (at_place sid (Startup setup.generation) (zero_place sid is.0)) ∙ e)
-    | inr is ↦ told_elsewhere sid (get s.startup.attempts sid) (get s.sessions sid) c is.0 refl refl e
-  ]
+      judged_session : Judged secrets s datagram (Session sid)
+      judged_session = subst (λ (o : Option Row). JudgedAs secrets s datagram (row_context o) (context_in_session o (drop 4 datagram))) (sym there) judged_row
+
+      -- what it is or was
+      abbrev IsOrWas : Held → Type 0
+      IsOrWas thing = WasThing session.role session.joined thing
+
+      context_is : (thing : Held) → IsOrWas thing → place_context s (Session sid) ≡ inward setup session.generation thing
+      context_is thing was =
+          ap row_context there ∙ ap (λ (own : List ℕ). context_between session.generation session.joined own session.role false) (tied.sessions sid row there).own
+          ∙ inward_is setup session.generation session.role session.joined thing was
+
+      begun_in : (thing : Held) → IsOrWas thing → BegunUnder secrets setup thing session.generation past
+      begun_in thing was = begun_as secrets setup session.role session.joined thing session.generation past was (tied.sessions sid row there).begun
+
+      contexts_are : (thing : Held) → IsOrWas thing → StandsUnder past sid thing → ContextsOf secrets setup past sid (place_context s (Session sid) ∷ [])
+      contexts_are thing was stands = inr (thing, session.generation, stands, is_session session.role session.joined thing was, begun_in thing was, ap (λ (c : Context). c ∷ []) (context_is thing was))
+
+      named_session : get s.startup.attempts sid ≡ None → ContextsOf secrets setup past sid (place_context s (Session sid) ∷ [])
+      named_session none = elim (either_way (is_held_stage session.stage)) [
+        | inl held ↦
+            (let thing : Held = thing_of session.role session.stage session.joined in
+            contexts_are thing (was_itself session.role session.stage session.joined) (inl (is_held sid session.joined.peer thing (found_of_session s sid row none there held))))
+        | inr closes ↦
+            (let closed = (tied.sessions sid row there).closed closes in
+            contexts_are closed.thing closed.was (inr (closed.at, closed.closing)))
+      ]
+
+      -- and it is nothing else
+      stands_as : get s.startup.attempts sid ≡ None → (thing : Held) → StandsUnder past sid thing → IsOrWas thing
+      stands_as none thing (inl under) =
+          let found = in_row row under.peer thing (sym (ap (λ (o : Option AttemptState). combined sid o (get s.sessions sid)) none ∙ ap (combined sid None) there) ∙ stands_there sid thing under) in
+          subst IsOrWas found.thing (was_itself session.role session.stage session.joined)
+      stands_as none thing (inr closing) =
+          let found = closing_row sid thing closing.0 closing.1 in
+          let same : found.0 ≡ row = (let both : Some found.0 ≡ Some row = sym found.1 ∙ there in cc) in
+          subst (λ (r : Row). WasThing r.session.role r.session.joined thing) same found.2
+
+      only_session : sid ≢ 0 → get s.startup.attempts sid ≡ None → (contexts : List Context) → ContextsOf secrets setup past sid contexts → contexts ≡ place_context s (Session sid) ∷ []
+      only_session other none contexts (inl (inl zero)) = absurd (other zero.0)
+      only_session other none contexts (inl (inr outside)) = absurd (outsides outside.1)
+        where
+          outsides : SearchUnder past sid ⊎ AttemptUnder past sid → ⊥
+          outsides (inl under) = subst (λ (o : Option AttemptState). IsKeptIn o under.which under.at) none (tied.searching sid under.which under.at under.stands)
+          outsides (inr under) =
+              let thing : Held = OpeningHeld under.n sid under.ni in
+              is_session session.role session.joined thing (stands_as none thing (inl (record { peer = under.peer; is_held = under.is_held; id = refl })))
+      only_session other none contexts (inr named) =
+          let thing : Held = named.0 in
+          let was : IsOrWas thing = stands_as none thing named.2 in
+          let same : named.1 ≡ session.generation = begun_one secrets setup thing named.1 session.generation past named.4 (begun_in thing was) in
+          named.5 ∙ ap (λ (g : ℕ). inward setup g thing ∷ []) same ∙ ap (λ (c : Context). c ∷ []) (sym (context_is thing was))
+
+    -- ---- attempts and searches
+
+    module _ (a : AttemptState) (there : get s.startup.attempts sid ≡ Some a) where
+      abbrev number : ℕ
+      number = (attempt_group s.group (get s.startup.attempts sid)).generation
+
+      staged : (stage : Stage) → IsStageOf secrets past sid stage → IsAttemptIn secrets setup sid (stage_group s.group stage).generation past
+      staged Hello hello = inr (hello, tied.current)
+      staged (Keying at cookie under) went = inl went.0
+
+      is_in : IsAttemptIn secrets setup sid number past
+      is_in = subst (λ (o : Option AttemptState). IsAttemptIn secrets setup sid (attempt_group s.group o).generation past) (sym there) (staged a.stage (stages sid a there))
+
+      which_it_is : (aim : Aim) → a.aim ≡ aim → SearchUnder past sid ⊎ AttemptUnder past sid
+      which_it_is (AtPeer peer n) aims = let under = is_held sid peer (OpeningHeld n sid a.ni) (found_of_peer s sid a peer n there aims) in inr (record { peer = under.peer; n = n; ni = a.ni; is_held = under.is_held })
+      which_it_is (ByName name) aims = inl (record { which = search_of name a; at = a.start; stands = (kept_as secrets setup past s tied sid a name aims there).0 })
+
+      attempt_contexts : sid ≢ 0 → StartupContextsOf secrets setup past sid (StartupContext number ∷ [])
+      attempt_contexts other = inr (other, which_it_is a.aim refl, (number, is_in, refl))
+
+      only_attempt : sid ≢ 0 → (contexts : List Context) → ContextsOf secrets setup past sid contexts → contexts ≡ StartupContext number ∷ []
+      only_attempt other contexts (inl named) = contexts_one secrets setup past sid contexts (StartupContext number ∷ []) named (attempt_contexts other)
+      only_attempt other contexts (inr named) = absurd (stands named.2)
+        where
+          stands : StandsUnder past sid named.0 → ⊥
+          stands (inl under) = no_session sid a.ni a.aim under.peer named.0 (sym (ap (λ (o : Option AttemptState). combined sid o (get s.sessions sid)) there) ∙ stands_there sid named.0 under) named.3
+          stands (inr closing) = let found = closing_row sid named.0 closing.0 closing.1 in none_is_some found.0 (get s.sessions sid) (tied.apart sid a there) found.1
+
+    -- ---- session ID 0
+
+    zero_contexts : contexts_here s (Startup s.group.generation ∷ next_places s.next) ≡ startup_contexts setup past
+    zero_contexts =
+        ap (λ (cs : List Context). StartupContext s.group.generation ∷ cs) (next_here s s.next ∙ ap next_contexts tied.next)
+        ∙ ap (λ (g : ℕ). StartupContext g ∷ next_contexts (next_of past)) tied.current
+
+    judged_next : sid ≡ 0 → (next : Option GroupSecret) → s.next ≡ next → AllJudged secrets s datagram (next_places next)
+    judged_next zero None is = tt
+    judged_next zero (Some next) is = (judged_startup (Startup next.generation) next.generation (ap (λ (g : GroupSecret). g.generation) (next_is s next is)) zero, tt)
+
+    -- ---- all of them
+
+    -- The places name the contexts of the session ID, and they alone do; or it names none.
+    record Names (places : List Place) : Type 0 where
+      judged : AllJudged secrets s datagram places
+      named : ContextsOf secrets setup past sid (contexts_here s places)
+      only : (contexts : List Context) → ContextsOf secrets setup past sid contexts → contexts ≡ contexts_here s places
+
+    abbrev NamesSo : List Place → Type 0
+    NamesSo places = Names places ⊎ ((places ≡ []) × ((contexts : List Context) → ContextsOf secrets setup past sid contexts → ⊥))
+
+    names_zero : sid ≡ 0 → Names (places_of s sid)
+    names_zero zero = subst Names (sym (ap (places_of s) zero)) (record {
+      judged = (judged_startup (Startup s.group.generation) s.group.generation (current_number s) zero, judged_next zero s.next refl);
+      named = inl (inl (zero, zero_contexts));
+      only = by;
+    })
+      where
+        by : (contexts : List Context) → ContextsOf secrets setup past sid contexts → contexts ≡ contexts_here s (Startup s.group.generation ∷ next_places s.next)
+        by contexts (inl named) = contexts_one secrets setup past sid contexts (contexts_here s (Startup s.group.generation ∷ next_places s.next)) named (inl (zero, zero_contexts))
+        by contexts (inr named) = absurd (none_at_zero sid named.0 zero named.2)
+
+    names_nothing : sid ≢ 0 → get s.startup.attempts sid ≡ None → get s.sessions sid ≡ None → (contexts : List Context) → ContextsOf secrets setup past sid contexts → ⊥
+    names_nothing other none nowhere contexts (inl (inl zero)) = other zero.0
+    names_nothing other none nowhere contexts (inl (inr outside)) = by outside.1
+      where
+        by : SearchUnder past sid ⊎ AttemptUnder past sid → ⊥
+        by (inl under) = subst (λ (o : Option AttemptState). IsKeptIn o under.which under.at) none (tied.searching sid under.which under.at under.stands)
+        by (inr under) = none_is_some (under.peer, OpeningHeld under.n sid under.ni) (thing_at s sid) (ap (λ (o : Option AttemptState). combined sid o (get s.sessions sid)) none ∙ ap (combined sid None) nowhere) (attempt_there sid under)
+    names_nothing other none nowhere contexts (inr named) = by named.2
+      where
+        by : StandsUnder past sid named.0 → ⊥
+        by (inl under) = none_is_some (under.peer, named.0) (thing_at s sid) (ap (λ (o : Option AttemptState). combined sid o (get s.sessions sid)) none ∙ ap (combined sid None) nowhere) (stands_there sid named.0 under)
+        by (inr closing) = let found = closing_row sid named.0 closing.0 closing.1 in none_is_some found.0 (get s.sessions sid) nowhere found.1
+
+    names_by : sid ≢ 0 → (oa : Option AttemptState) (os : Option Row) → get s.startup.attempts sid ≡ oa → get s.sessions sid ≡ os → NamesSo (places_of s sid)
+    names_by other (Some a) os ea es =
+        let number : ℕ = (attempt_group s.group (get s.startup.attempts sid)).generation in
+        inl (subst Names (sym (places_by s sid true (is_some (get s.sessions sid)) other (ap is_some ea) refl)) (record {
+          judged = (judged_startup (Attempt sid number) number refl refl, tt);
+          named = inl (attempt_contexts a ea other);
+          only = only_attempt a ea other;
+        }))
+    names_by other None (Some row) ea es = inl (subst Names (sym (places_by s sid false true other (ap is_some ea) (ap is_some es))) (record {
+      judged = (judged_session row es, tt);
+      named = named_session row es ea;
+      only = only_session row es other ea;
+    }))
+    names_by other None None ea es = inr (places_by s sid false false other (ap is_some ea) (ap is_some es), names_nothing other ea es)
+
+    names_so : NamesSo (places_of s sid)
+    names_so = elim (tested sid 0) [
+      | inl is ↦ inl (names_zero is.0)
+      | inr is ↦ names_by is.0 (get s.startup.attempts sid) (get s.sessions sid) refl refl
+    ]
+
+    context_is_found : (contexts : List Context) (c : Context) (plain : List ℕ) → ContextsOf secrets setup past sid contexts → OpensFirst secrets contexts sid datagram c plain → context_first s (places_of s sid) (drop 4 datagram) ≡ Some c
+    context_is_found contexts c plain named opens = elim names_so [
+      | inl names ↦ first_found secrets s datagram (places_of s sid) names.judged c plain (subst (λ (cs : List Context). OpensFirst secrets cs sid datagram c plain) (names.only contexts named) opens)
+      | inr none ↦ absurd (none.1 contexts named)
+    ]
+
+    context_is_told : (c : Context) → context_first s (places_of s sid) (drop 4 datagram) ≡ Some c → OpensAt secrets setup past datagram c
+    context_is_told c e = elim names_so [
+      | inl names ↦
+          (let told = first_told secrets s datagram (places_of s sid) names.judged c e in
+          record { contexts = contexts_here s (places_of s sid); named = names.named; plain = told.0; opens = told.1 })
+      | inr none ↦ (let clash : None ≡ Some c = sym (ap (λ (ps : List Place). context_first s ps (drop 4 datagram)) none.0) ∙ e in absurd (cc))
+    ]
 
 -- ---- whole datagrams
 
@@ -298,37 +427,28 @@ long_if : (b : Bool) (o : Option Context) (c : Context) → (if b then None else
 long_if true o c e = absurd (cc)
 long_if false o c e = e
 
-whole : (secret : List ℕ) (datagram plain : List ℕ) (c : Context) (sid : ℕ) → Opens secret c sid (drop 4 datagram) plain → nat_lt (length datagram) 36 ≡ false
-whole secret datagram plain c sid opens =
-    let long : 36 ≤ length datagram = omega (arith, opens.0, length-drop 4 datagram) in
+-- what opens in some context is long enough
+whole : (secrets : Secrets) (contexts : List Context) (sid : ℕ) (datagram : List ℕ) (c : Context) (plain : List ℕ) → OpensFirst secrets contexts sid datagram c plain → nat_lt (length datagram) 36 ≡ false
+whole secrets [] sid datagram c plain none = absurd none
+whole secrets (first ∷ later) sid datagram c plain (inl here) =
+    let long : 36 ≤ length datagram = omega (arith, here.1.opens.0, length-drop 4 datagram) in
     grind (arith, nat_tests, long)
+whole secrets (first ∷ later) sid datagram c plain (inr beside) = whole secrets later sid datagram c plain beside.1
 
--- the generation of such a context
-own_of_context : (setup : Setup) (past : Past) (sid : ℕ) (c : Context) → ContextOf setup past sid c → generation_of c ≡ setup.generation
-own_of_context setup past sid c (inl startup) = ap generation_of startup.1
-own_of_context setup past sid c (inr thing) = ap generation_of thing.2 ∙ inward_own setup thing.0
-
-module _ (secrets : Secrets) (setup : Setup) (log : List Event) (s : State) (datagram : List ℕ) (knows : Knows secrets setup) (is : IsSetup setup) (calls : AreCalls log) (stands : StandsFor setup log s) where
+module _ (secrets : Secrets) (setup : Setup) (log : List Event) (s : State) (datagram : List ℕ) (knows : Knows secrets setup (past_of_log log)) (is : IsSetup setup) (calls : AreCalls log) (stands : StandsFor setup log s) where
   -- The first of the contexts of the datagram's session ID in which it opens is what the end finds.
-  pub opens_in_found : (contexts : List Context) (c : Context) (plain : List ℕ) → ContextsOf setup (past_of 0 [] log) (sid_of datagram) contexts →
+  pub opens_in_found : (contexts : List Context) (c : Context) (plain : List ℕ) → ContextsOf secrets setup (past_of 0 [] log) (sid_of datagram) contexts →
       OpensFirst secrets contexts (sid_of datagram) datagram c plain → opens_in s datagram ≡ Some c
   opens_in_found contexts c plain named first =
-      let one = the_context secrets setup (past_of 0 [] log) (sid_of datagram) contexts datagram c plain named first in
-      let opens : Opens setup.secret c (sid_of datagram) (drop 4 datagram) plain = known_opens setup secrets knows c (own_of_context setup (past_of 0 [] log) (sid_of datagram) c one.0) (sid_of datagram) datagram plain one.1 in
-      ap (λ (b : Bool). if b then None else context_first s (places_of s (sid_of datagram)) (drop 4 datagram)) (whole setup.secret datagram plain c (sid_of datagram) opens)
-      ∙ context_is_found setup (past_of 0 [] log) s (tied_to_log setup log s is calls stands) (drop 4 datagram) (sid_of datagram) c plain one.0 opens
+      let holds = (log_is secrets setup log s knows is calls stands).holds in
+      ap (λ (b : Bool). if b then None else context_first s (places_of s (sid_of datagram)) (drop 4 datagram)) (whole secrets contexts (sid_of datagram) datagram c plain first)
+      ∙ context_is_found secrets setup (past_of 0 [] log) s holds.tied holds.sent.staged.attempts datagram contexts c plain named first
 
   -- And what it finds is such a context.
   pub opens_in_told : (c : Context) → opens_in s datagram ≡ Some c → OpensAt secrets setup (past_of 0 [] log) datagram c
   opens_in_told c e =
-      let told = context_is_told setup (past_of 0 [] log) s (tied_to_log setup log s is calls stands) (drop 4 datagram) (sid_of datagram) c
-      (long_if (nat_lt (length datagram) 36) (context_first s (places_of s (sid_of datagram)) (drop 4 datagram)) c e) in
-      record {
-        contexts = c ∷ [];
-        named = one_context setup (past_of 0 [] log) (sid_of datagram) c told.context;
-        plain = told.plain;
-        opens = opens_first secrets (sid_of datagram) datagram c told.plain (opens_known setup secrets knows c (own_of_context setup (past_of 0 [] log) (sid_of datagram) c told.context) (sid_of datagram) datagram told.plain refl told.opens);
-      }
+      let holds = (log_is secrets setup log s knows is calls stands).holds in
+      context_is_told secrets setup (past_of 0 [] log) s holds.tied holds.sent.staged.attempts datagram c (long_if (nat_lt (length datagram) 36) (context_first s (places_of s (sid_of datagram)) (drop 4 datagram)) c e)
 
   pub is_context_at : IsContextAt secrets setup log datagram (opens_in s datagram)
   is_context_at = record { opens = opens_in_told; all = λ c at. opens_in_found at.contexts c at.plain at.named at.opens }

@@ -12,18 +12,19 @@ use Rattle.session_core.specs.declared.stage.Role.{Role}
 use Rattle.session_core.specs.declared.stage.Role.TheVariants.{Initiator, Responder}
 use Rattle.session_core.specs.declared.stage.Stage.{Stage}
 use Rattle.session_core.specs.declared.stage.Stage.TheVariants.{Opening as StageOpening, Open, NearClose, FarLinger, Closed}
-use Rattle.session_core.specs.Session.{SessionState, IsKeyed, context_between, context_of}
+use Rattle.session_core.specs.Session.{SessionState, context_between, context_of}
 use Rattle.session_core.specs.Closing.{is_held}
 use Rattle.std.specs.FinMap.{get}
 use Rattle.glare_core.proofs.Accounts.{reads_held}
 use Rattle.endpoint_model.specs.declared.row.Row.{Row}
 use Rattle.endpoint_model.specs.State.{State}
 use Rattle.endpoint_laws.specs.Past.{Past, facts_of, fact_and, fact_done, Closes, IsClosing}
-use Rattle.endpoint_laws.specs.Contexts.{outward}
+use Rattle.endpoint_laws.specs.Contexts.{Secrets, BegunUnder, outward}
 use Rattle.endpoint_laws.specs.OfTheLog.{WasThing}
 use Rattle.endpoint_model.specs.Event.{Setup, own_of}
 use Rattle.endpoint_laws.specs.Lawful.{nonces_of, InSession, IsFarOf}
-use Rattle.endpoint_laws.proofs.Tied.{Tied, thing_of}
+use Rattle.endpoint_laws.proofs.Begun.{born_thing, begun_as}
+use Rattle.endpoint_laws.proofs.Tied.{Tied, HasKeys, thing_of}
 use Rattle.endpoint_laws.proofs.OutFacts.{opened_nonces, nonce_stays, opened_stays}
 use Rattle.endpoint_laws.proofs.OutNumbers.{Known}
 
@@ -125,14 +126,14 @@ held_sized p facts thing sized is = subst (λ (o : Option Held). HasSizes p o) i
 
 -- ---- the session in whose context a datagram goes
 
-in_session : (setup : Setup) (past : Past) (role : Role) (stage : Stage) (j : Joined) → held j.peer (facts_of past) ≡ Some (thing_of role stage j) →
-    InSession setup past j.far (context_between setup.generation j (own_of setup) role true)
-in_session setup past Initiator stage j is = (KeptAsInitiator j, j.near, inl (record { peer = j.peer; is_held = is; id = refl }), refl, refl)
-in_session setup past Responder StageOpening j is = (HalfOpen j, j.near, inl (record { peer = j.peer; is_held = is; id = refl }), refl, refl)
-in_session setup past Responder Open j is = (KeptAsResponder j, j.near, inl (record { peer = j.peer; is_held = is; id = refl }), refl, refl)
-in_session setup past Responder NearClose j is = (KeptAsResponder j, j.near, inl (record { peer = j.peer; is_held = is; id = refl }), refl, refl)
-in_session setup past Responder FarLinger j is = (KeptAsResponder j, j.near, inl (record { peer = j.peer; is_held = is; id = refl }), refl, refl)
-in_session setup past Responder Closed j is = (KeptAsResponder j, j.near, inl (record { peer = j.peer; is_held = is; id = refl }), refl, refl)
+in_session : (secrets : Secrets) (setup : Setup) (past : Past) (g : ℕ) (role : Role) (stage : Stage) (j : Joined) → held j.peer (facts_of past) ≡ Some (thing_of role stage j) → BegunUnder secrets setup (born_thing role j) g past →
+    InSession secrets setup past j.far (context_between g j (own_of setup) role true)
+in_session secrets setup past g Initiator stage j is b = (KeptAsInitiator j, j.near, inl (record { peer = j.peer; is_held = is; id = refl }), b, refl, refl)
+in_session secrets setup past g Responder StageOpening j is b = (HalfOpen j, j.near, inl (record { peer = j.peer; is_held = is; id = refl }), b, refl, refl)
+in_session secrets setup past g Responder Open j is b = (KeptAsResponder j, j.near, inl (record { peer = j.peer; is_held = is; id = refl }), begun_as secrets setup Responder j (KeptAsResponder j) g past (inr refl) b, refl, refl)
+in_session secrets setup past g Responder NearClose j is b = (KeptAsResponder j, j.near, inl (record { peer = j.peer; is_held = is; id = refl }), begun_as secrets setup Responder j (KeptAsResponder j) g past (inr refl) b, refl, refl)
+in_session secrets setup past g Responder FarLinger j is b = (KeptAsResponder j, j.near, inl (record { peer = j.peer; is_held = is; id = refl }), begun_as secrets setup Responder j (KeptAsResponder j) g past (inr refl) b, refl, refl)
+in_session secrets setup past g Responder Closed j is b = (KeptAsResponder j, j.near, inl (record { peer = j.peer; is_held = is; id = refl }), begun_as secrets setup Responder j (KeptAsResponder j) g past (inr refl) b, refl, refl)
 
 -- one that is closing has a nonce of the facts, too
 
@@ -158,50 +159,48 @@ was_known g facts own Initiator j thing w h = subst (λ (t : Held). HasNonce fac
 was_known g facts own Responder j thing (inl w) h = subst (λ (t : Held). HasNonce facts (Some t)) w h
 was_known g facts own Responder j thing (inr w) h = subst (λ (t : Held). HasNonce facts (Some t)) w h
 
-was_in_session : (setup : Setup) (past : Past) (near : ℕ) (role : Role) (j : Joined) (thing : Held) (at : ℕ) → WasThing role j thing → IsClosing near thing at past →
-    InSession setup past j.far (context_between setup.generation j (own_of setup) role true)
-was_in_session setup past near Initiator j thing at w c = (thing, near, inr (at, c), ap (outward setup) (sym w), subst (λ (t : Held). IsFarOf t j.far) (sym w) refl)
-was_in_session setup past near Responder j thing at (inl w) c = (thing, near, inr (at, c), ap (outward setup) (sym w), subst (λ (t : Held). IsFarOf t j.far) (sym w) refl)
-was_in_session setup past near Responder j thing at (inr w) c = (thing, near, inr (at, c), ap (outward setup) (sym w), subst (λ (t : Held). IsFarOf t j.far) (sym w) refl)
+was_in_session : (secrets : Secrets) (setup : Setup) (past : Past) (g near : ℕ) (role : Role) (j : Joined) (thing : Held) (at : ℕ) → WasThing role j thing → IsClosing near thing at past → BegunUnder secrets setup (born_thing role j) g past →
+    InSession secrets setup past j.far (context_between g j (own_of setup) role true)
+was_in_session secrets setup past g near Initiator j thing at w c b = (thing, near, inr (at, c), begun_as secrets setup Initiator j thing g past w b, ap (outward setup g) (sym w), subst (λ (t : Held). IsFarOf t j.far) (sym w) refl)
+was_in_session secrets setup past g near Responder j thing at (inl w) c b = (thing, near, inr (at, c), begun_as secrets setup Responder j thing g past (inl w) b, ap (outward setup g) (sym w), subst (λ (t : Held). IsFarOf t j.far) (sym w) refl)
+was_in_session secrets setup past g near Responder j thing at (inr w) c b = (thing, near, inr (at, c), begun_as secrets setup Responder j thing g past (inr w) b, ap (outward setup g) (sym w), subst (λ (t : Held). IsFarOf t j.far) (sym w) refl)
 
--- A datagram may go out in the session: its nonce is known, and it is held or closing.
-pub record MaySend (setup : Setup) (past : Past) (session : SessionState) : Type 0 where
-  pub keyed : IsKeyed setup.secret session
-  pub generation : session.generation ≡ setup.generation
+-- A datagram may go out in the session: its keys are those of its generation, its nonce is known, and it is held or closing.
+pub record MaySend (secrets : Secrets) (setup : Setup) (past : Past) (session : SessionState) : Type 0 where
+  pub keyed : HasKeys secrets session
   pub known : Known (context_of session true) (facts_of past)
-  pub stands : InSession setup past session.joined.far (context_of session true)
+  pub stands : InSession secrets setup past session.joined.far (context_of session true)
 
 either_way : (b : Bool) → (b ≡ true) ⊎ (b ≡ false)
 either_way true = inl refl
 either_way false = inr refl
 
--- one that is held
-pub may_send_held : (setup : Setup) (past : Past) (session : SessionState) → IsKeyed setup.secret session → session.generation ≡ setup.generation → session.own ≡ own_of setup →
-    held session.joined.peer (facts_of past) ≡ Some (thing_of session.role session.stage session.joined) → MaySend setup past session
-may_send_held setup past session keyed generation own thing = record {
-  keyed = keyed;
-  generation = generation;
-  known = held_known session.generation (facts_of past) session.own session.role session.stage session.joined thing;
-  stands = subst (λ (g : ℕ). InSession setup past session.joined.far (context_between g session.joined session.own session.role true)) (sym generation)
-      (subst (λ (o : List ℕ). InSession setup past session.joined.far (context_between setup.generation session.joined o session.role true)) (sym own) (in_session setup past session.role session.stage session.joined thing));
-}
+-- in the end's own name
+module _ (secrets : Secrets) (setup : Setup) (past : Past) (session : SessionState) (own : session.own ≡ own_of setup) where
+  as_own : InSession secrets setup past session.joined.far (context_between session.generation session.joined (own_of setup) session.role true) → InSession secrets setup past session.joined.far (context_of session true)
+  as_own i = subst (λ (o : List ℕ). InSession secrets setup past session.joined.far (context_between session.generation session.joined o session.role true)) (sym own) i
 
-pub may_send : (setup : Setup) (past : Past) (s : State) (near : ℕ) (row : Row) → Tied setup past s → get s.sessions near ≡ Some row → MaySend setup past row.session
-may_send setup past s near row tied there =
+  -- one that is held
+  pub may_send_held : HasKeys secrets session → BegunUnder secrets setup (born_thing session.role session.joined) session.generation past →
+      held session.joined.peer (facts_of past) ≡ Some (thing_of session.role session.stage session.joined) → MaySend secrets setup past session
+  may_send_held keyed begun thing = record {
+    keyed = keyed;
+    known = held_known session.generation (facts_of past) session.own session.role session.stage session.joined thing;
+    stands = as_own (in_session secrets setup past session.generation session.role session.stage session.joined thing begun);
+  }
+
+pub may_send : (secrets : Secrets) (setup : Setup) (past : Past) (s : State) (near : ℕ) (row : Row) → Tied secrets setup past s → get s.sessions near ≡ Some row → MaySend secrets setup past row.session
+may_send secrets setup past s near row tied there =
     let session : SessionState = row.session in
     let j : Joined = session.joined in
     let is = tied.sessions near row there in
-    let in_own : InSession setup past j.far (context_between setup.generation j (own_of setup) session.role true) → InSession setup past j.far (context_of session true) =
-    λ i. subst (λ (g : ℕ). InSession setup past j.far (context_between g j session.own session.role true)) (sym is.generation)
-    (subst (λ (o : List ℕ). InSession setup past j.far (context_between setup.generation j o session.role true)) (sym is.own) i) in
     elim (either_way (is_held session.stage)) [
-      | inl e ↦ may_send_held setup past session is.keyed is.generation is.own (sym (reads_held 0 s.startup.ledger (facts_of past) tied.account j.peer) ∙ is.thing e)
+      | inl e ↦ may_send_held secrets setup past session is.own is.known is.begun (sym (reads_held 0 s.startup.ledger (facts_of past) tied.account j.peer) ∙ is.thing e)
       | inr e ↦
           let c = is.closed e in
           record {
-            keyed = is.keyed;
-            generation = is.generation;
+            keyed = is.known;
             known = was_known session.generation (facts_of past) session.own session.role j c.thing c.was (closing_nonce near c.thing c.at past c.closing);
-            stands = in_own (was_in_session setup past near session.role j c.thing c.at c.was c.closing);
+            stands = as_own secrets setup past session is.own (was_in_session secrets setup past session.generation near session.role j c.thing c.at c.was c.closing is.begun);
           }
     ]

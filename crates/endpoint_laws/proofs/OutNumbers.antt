@@ -68,7 +68,7 @@ pub record Numbered (own : List ℕ) (past : Past) (sealed : ℕ) (sessions : Se
 
 -- ---- contexts
 
-not_startup : (g : ℕ) (j : Joined) (own : List ℕ) (role : Role) (generation : ℕ) → context_between g j own role true ≡ Startup generation → ⊥
+pub not_startup : (g : ℕ) (j : Joined) (own : List ℕ) (role : Role) (generation : ℕ) → context_between g j own role true ≡ Startup generation → ⊥
 not_startup g j own Initiator generation e = cc
 not_startup g j own Responder generation e = cc
 

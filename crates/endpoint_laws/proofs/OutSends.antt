@@ -1,5 +1,5 @@
 -- One datagram meets its line, and leaves the numbers counted.
-use Rattle.std.proofs.Common.{◌≡◌, ◌≢◌, ◌==◌, ℕ, ◌+◌, ◌≤◌, List, [], ◌∷◌, ◌++◌, length, take, drop, Some, Ok, refl, sym, ap, subst, ◌∙◌, Bool, true, false, if◌then◌else◌, arith, length-append}
+use Rattle.std.proofs.Common.{◌≡◌, ◌≢◌, ◌==◌, ℕ, ◌+◌, ◌≤◌, List, [], ◌∷◌, ◌++◌, length, take, drop, Some, Ok, inl, inr, refl, sym, ap, subst, ◌∙◌, Bool, true, false, if◌then◌else◌, arith, length-append}
 use Rattle.std.specs.Int.{w64, to_be_bytes}
 use Rattle.std.specs.FinMap.{get}
 use Rattle.std.proofs.lemmas.List.{length-take-le}
@@ -9,8 +9,10 @@ use Rattle.sha2.proofs.Facts256.{length-sha256}
 use Rattle.rtmfp_forms.specs.Address.{AddressParts}
 use Rattle.rtmfp_packet.specs.Whole.{Whole}
 use Rattle.rtmfp_packet.specs.Reading.{PacketReading}
+use Rattle.rtmfp_packet.specs.Walk.{Placed}
+use Rattle.rtmfp_chunks.specs.Chunk.{IIKeying, Spells}
 use Rattle.crypto_profile.specs.declared.keys.Context.TheVariants.{Startup}
-use Rattle.crypto_profile.specs.Keys.{Keys, startup_keys_of}
+use Rattle.crypto_profile.specs.Keys.{Keys, keys_of, startup_keys_of}
 use Rattle.crypto_profile.specs.Sealing.{number_of, sealed, sealed_in}
 use Rattle.crypto_profile.proofs.Opened.{sealed_carries}
 use Rattle.packet_scramble.specs.Datagram.{datagram}
@@ -26,20 +28,26 @@ use Rattle.session_core.specs.Sealed.{number_bytes, after_seal}
 use Rattle.endpoint_model.specs.declared.row.Row.{Row}
 use Rattle.endpoint_model.specs.declared.entry.Entry.{Entry}
 use Rattle.endpoint_model.specs.declared.entry.Entry.TheVariants.{Out}
-use Rattle.endpoint_model.specs.Event.{Setup, own_of, Call, first_group}
+use Rattle.endpoint_model.specs.Event.{Setup, own_of, Call}
+use Rattle.endpoint_model.specs.Views.{Sending}
+use Rattle.endpoint_laws.specs.Contexts.{Secrets, OpensUnder, IsKeyingOf}
+use Rattle.endpoint_laws.specs.Groups.{HasSecret, IsStageOf}
 use Rattle.endpoint_laws.specs.Past.{Past, stamped, onto, facts_of}
 use Rattle.endpoint_model.specs.State.{State, Did, nothing, after_entries, then_do, with_sealed, with_session}
 use Rattle.endpoint_model.specs.Sending.{last_count, startup_number, startup_datagram, sent_startup, session_packet, session_datagram, sent_by}
-use Rattle.endpoint_model.specs.Keying.{KeyingsAre}
+use Rattle.endpoint_model.specs.Keying.{KeyingsAre, IsAmong, chunks_of}
 use Rattle.endpoint_laws.specs.Lawful.{OutLine, KeyingOfAttempt, KeyingOfBorn}
 use Rattle.endpoint_laws.proofs.Lines.{EntriesMeet, OutPart}
 use Rattle.endpoint_laws.proofs.Tied.{sealed_once}
 use Rattle.endpoint_laws.proofs.Going.{onto_append}
-use Rattle.endpoint_laws.proofs.OutNumbers.{Numbered, numbered_startup, once_startup, once_session, numbered_session}
+use Rattle.endpoint_laws.proofs.OutNumbers.{Numbered, not_startup, numbered_startup, once_startup, once_session, numbered_session}
 use Rattle.endpoint_laws.proofs.OutPackets.{IsModest, body_plain, no_keyings_among}
 use Rattle.endpoint_laws.proofs.OutHeld.{AreSized, MaySend}
 use Rattle.crypto_profile.specs.declared.group.GroupSecret.{GroupSecret}
-use Rattle.endpoint_laws.proofs.Knowing.{own_secrets, own_known, is_known, context_generation}
+use Rattle.endpoint_laws.proofs.Knowing.{context_generation}
+use Rattle.endpoint_laws.proofs.Resealed.{opens_again}
+use Rattle.endpoint_laws.proofs.Staged.{Staged, KeptAre, TagsAre, tags_quiet, StagesBeside, IsStartupOut, stage_beside, beside_session, beside_light, beside_other, kept_beside, staged_out, staged_alike}
+use Rattle.endpoint_model.proofs.Members.{tested}
 
 -- a cookie that an attempt keeps has 128 bytes or fewer
 abbrev pub IsNarrow : Stage → Type 0
@@ -63,129 +71,236 @@ AreShort attempts = (near : ℕ) (a : AttemptState) → get attempts near ≡ So
 abbrev pub AreFew : AddressRows → Type 0
 AreFew rows = (print : List ℕ) (addresses : List AddressParts) → get rows print ≡ Some addresses → length addresses ≤ 16
 
--- what is kept of what went out, and the sizes of what goes out
-pub record Sent (setup : Setup) (past : Past) (s : State) : Type 0 where
+-- what is counted of what went out, and the sizes of what goes out
+pub record Measured (setup : Setup) (past : Past) (s : State) : Type 0 where
   pub numbered : Numbered (own_of setup) past s.sealed s.sessions
   pub sized : AreSized (facts_of past)
   pub short : AreShort s.startup.attempts
   pub rows : AreFew s.redirects
 
+-- the same, and the generations in which things go out
+pub record Sent (secrets : Secrets) (setup : Setup) (past : Past) (s : State) : Type 0 where
+  pub numbered : Numbered (own_of setup) past s.sealed s.sessions
+  pub sized : AreSized (facts_of past)
+  pub short : AreShort s.startup.attempts
+  pub rows : AreFew s.redirects
+  pub staged : Staged secrets setup past s
+
+pub measured : (secrets : Secrets) (setup : Setup) (past : Past) (s : State) → Sent secrets setup past s → Measured setup past s
+measured secrets setup past s sent = record { numbered = sent.numbered; sized = sent.sized; short = sent.short; rows = sent.rows }
+
 -- what a thing adds meets its lines, and it leaves this
-pub record Meets (setup : Setup) (now : ℕ) (call : Call) (past : Past) (d : Did) : Type 0 where
-  pub lines : EntriesMeet OutPart setup now call past d.entries
-  pub sent : Sent setup (onto now d.entries past) d.state
+pub record Meets (secrets : Secrets) (setup : Setup) (now : ℕ) (call : Call) (past : Past) (d : Did) : Type 0 where
+  pub lines : EntriesMeet OutPart secrets setup now call past d.entries
+  pub sent : Sent secrets setup (onto now d.entries past) d.state
 
-pub meets_nothing : (setup : Setup) (now : ℕ) (call : Call) (past : Past) (s : State) → Sent setup past s → Meets setup now call past (nothing s)
-meets_nothing setup now call past s sent = record { lines = tt; sent = sent }
+pub meets_nothing : (secrets : Secrets) (setup : Setup) (now : ℕ) (call : Call) (past : Past) (s : State) → Sent secrets setup past s → Meets secrets setup now call past (nothing s)
+meets_nothing secrets setup now call past s sent = record { lines = tt; sent = sent }
 
-pub lines_append : (setup : Setup) (now : ℕ) (call : Call) (past : Past) (xs ys : List Entry) → EntriesMeet OutPart setup now call past xs →
-    EntriesMeet OutPart setup now call (onto now xs past) ys → EntriesMeet OutPart setup now call past (xs ++ ys)
-lines_append setup now call past [] ys p q = q
-lines_append setup now call past (x ∷ xs) ys p q = (p.0, lines_append setup now call (stamped now x ∷ past) xs ys p.1 q)
+pub lines_append : (secrets : Secrets) (setup : Setup) (now : ℕ) (call : Call) (past : Past) (xs ys : List Entry) → EntriesMeet OutPart secrets setup now call past xs →
+    EntriesMeet OutPart secrets setup now call (onto now xs past) ys → EntriesMeet OutPart secrets setup now call past (xs ++ ys)
+lines_append secrets setup now call past [] ys p q = q
+lines_append secrets setup now call past (x ∷ xs) ys p q = (p.0, lines_append secrets setup now call (stamped now x ∷ past) xs ys p.1 q)
 
 -- these entries first, and then what a thing adds
-pub meets_after : (setup : Setup) (now : ℕ) (call : Call) (past : Past) (entries : List Entry) (d : Did) → EntriesMeet OutPart setup now call past entries →
-    Meets setup now call (onto now entries past) d → Meets setup now call past (after_entries entries d)
-meets_after setup now call past entries d first later = record {
-  lines = lines_append setup now call past entries d.entries first later.lines;
-  sent = subst (λ (p : Past). Sent setup p d.state) (sym (onto_append now entries d.entries past)) later.sent;
+pub meets_after : (secrets : Secrets) (setup : Setup) (now : ℕ) (call : Call) (past : Past) (entries : List Entry) (d : Did) → EntriesMeet OutPart secrets setup now call past entries →
+    Meets secrets setup now call (onto now entries past) d → Meets secrets setup now call past (after_entries entries d)
+meets_after secrets setup now call past entries d first later = record {
+  lines = lines_append secrets setup now call past entries d.entries first later.lines;
+  sent = subst (λ (p : Past). Sent secrets setup p d.state) (sym (onto_append now entries d.entries past)) later.sent;
 }
 
-pub meets_then : (setup : Setup) (now : ℕ) (call : Call) (past : Past) (d : Did) (next : State → Did) → Meets setup now call past d →
-    Meets setup now call (onto now d.entries past) (next d.state) → Meets setup now call past (then_do d next)
-meets_then setup now call past d next first later = meets_after setup now call past d.entries (next d.state) first.lines later
+pub meets_then : (secrets : Secrets) (setup : Setup) (now : ℕ) (call : Call) (past : Past) (d : Did) (next : State → Did) → Meets secrets setup now call past d →
+    Meets secrets setup now call (onto now d.entries past) (next d.state) → Meets secrets setup now call past (then_do d next)
+meets_then secrets setup now call past d next first later = meets_after secrets setup now call past d.entries (next d.state) first.lines later
 
 unequal : (a b : ℕ) → (a == b) ≡ false → a ≢ b
 unequal a b h e = grind (arith, nat_tests)
 
 -- ---- a packet in the startup context
 
--- each keying of the packet is one that may go out under this session ID
-abbrev pub MayGo : Setup → Past → ℕ → List ℕ → Type 0
-MayGo setup past sid plain =
-    (packet : Whole) → PacketReading plain (Ok packet) →
-    KeyingsAre (λ near cookie cert part sign. KeyingOfAttempt setup (Startup setup.generation) (facts_of past) near cert part) (λ near part sign. KeyingOfBorn setup (Startup setup.generation) (facts_of past) sid near part) packet
-
 startup_sized : (setup : Setup) (count : ℕ) → length (startup_number (own_of setup) count) ≡ 16
 startup_sized setup count =
     omega (arith, length-append (take 8 (sha256 setup.cert)) (to_be_bytes w64 count), length-take-le 8 (sha256 setup.cert) (omega (arith, length-sha256 setup.cert)))
 
--- what goes out under the one secret: its generation and its keys
-pub record IsUnder (setup : Setup) (generation : ℕ) (keys : Keys) : Type 0 where
-  pub generation_is : generation ≡ setup.generation
-  pub keys_are : keys ≡ startup_keys_of (first_group setup)
+-- what goes out under the secret of its generation
+pub record IsUnder (secrets : Secrets) (generation : ℕ) (keys : Keys) : Type 0 where
+  pub secret : List ℕ
+  pub known : get secrets generation ≡ Some secret
+  pub keys_are : keys ≡ keys_of secret (Startup generation)
 
-pub under_one : (setup : Setup) (g : GroupSecret) → g ≡ first_group setup → IsUnder setup g.generation (startup_keys_of g)
-under_one setup g same = record { generation_is = ap (λ (x : GroupSecret). x.generation) same; keys_are = ap startup_keys_of same }
+pub under_has : (secrets : Secrets) (g : GroupSecret) → HasSecret secrets g → IsUnder secrets g.generation (startup_keys_of g)
+under_has secrets g has = record { secret = g.secret; known = has; keys_are = refl }
 
-module _ (setup : Setup) (now : ℕ) (call : Call) (past : Past) (s : State) (sent : Sent setup past s) (own : s.startup.ledger.own ≡ own_of setup) where
-  -- in the first generation
-  first_startup : (to : AddressParts) (sid : ℕ) (plain : List ℕ) → MayGo setup past sid plain → Meets setup now call past (sent_startup s setup.generation (startup_keys_of (first_group setup)) to sid plain)
-  first_startup to sid plain may = by_test (s.sealed == last_count) refl
+-- each keying of a responder in the packet is one that may go out under this session ID, and there is none of an initiator
+abbrev pub MayGo : Secrets → Setup → Past → ℕ → ℕ → List ℕ → Type 0
+MayGo secrets setup past generation sid plain =
+    (packet : Whole) → PacketReading plain (Ok packet) → KeyingsAre (λ near cookie cert part sign. ⊥) (λ near part sign. KeyingOfBorn secrets setup past (Startup generation) sid near part) packet
+
+-- The packet has a keying of the attempt under this session ID.
+pub record BearsKeying (near : ℕ) (plain : List ℕ) : Type 0 where
+  pub packet : Whole
+  pub reads : PacketReading plain (Ok packet)
+  pub chunk : Placed
+  pub among : IsAmong chunk (chunks_of packet)
+  pub cookie : List ℕ
+  pub cert : List ℕ
+  pub part : List ℕ
+  pub sign : List ℕ
+  pub spells : Spells (IIKeying near cookie cert part sign) chunk.kind chunk.payload
+
+-- It has that keying alone, which may go out.
+pub record KeyingMay (secrets : Secrets) (setup : Setup) (call : Call) (past : Past) (generation mine : ℕ) (plain : List ℕ) : Type 0 where
+  pub may : (packet : Whole) → PacketReading plain (Ok packet) →
+      KeyingsAre (λ near cookie cert part sign. (near ≡ mine) × KeyingOfAttempt secrets setup call past (Startup generation) near cert part) (λ near part sign. KeyingOfBorn secrets setup past (Startup generation) 0 near part) packet
+  pub bears : BearsKeying mine plain
+
+-- The attempt sends its keyings in this generation.
+pub record KeyedIn (secrets : Secrets) (generation : ℕ) (stage : Stage) : Type 0 where
+  pub at : AddressParts
+  pub cookie : List ℕ
+  pub under : GroupSecret
+  pub is : stage ≡ Keying at cookie under
+  pub generation_is : under.generation ≡ generation
+  pub has : HasSecret secrets under
+
+module _ (secrets : Secrets) (setup : Setup) (now : ℕ) (call : Call) (past : Past) (s : State) (own : s.startup.ledger.own ≡ own_of setup) (counted : Measured setup past s) (generation : ℕ) (keys : Keys) (to : AddressParts) (sid : ℕ) (plain : List ℕ) where
+  abbrev sending : Sending
+  sending = record { to = to; datagram = startup_datagram s keys sid plain; context = Startup generation }
+
+  abbrev after : Past
+  after = stamped now (Out to (startup_datagram s keys sid plain) (Startup generation)) ∷ past
+
+  abbrev KeyingsGo : Type 0
+  KeyingsGo = (packet : Whole) → PacketReading plain (Ok packet) →
+      KeyingsAre (λ near cookie cert part sign. KeyingOfAttempt secrets setup call past (Startup generation) near cert part) (λ near part sign. KeyingOfBorn secrets setup past (Startup generation) sid near part) packet
+
+  -- with what is kept of generations where it goes out, and where no count is left
+  sent_out : IsUnder secrets generation keys → KeyingsGo → ((s.sealed == last_count) ≡ true → Staged secrets setup past s) → (IsStartupOut secrets generation sid plain sending → Staged secrets setup after s) →
+      Meets secrets setup now call past (sent_startup s generation keys to sid plain)
+  sent_out under may spent staged = by_test (s.sealed == last_count) refl
     where
-      keys : Keys
-      keys = startup_keys_of (first_group setup)
+      number : List ℕ
+      number = startup_number (own_of setup) (s.sealed + 1)
 
-      is : startup_datagram s keys sid plain ≡ datagram sid (sealed_in setup.secret (Startup setup.generation) sid (startup_number (own_of setup) (s.sealed + 1)) plain)
-      is = ap (λ (o : List ℕ). datagram sid (sealed keys sid (startup_number o (s.sealed + 1)) plain)) own
+      is : startup_datagram s keys sid plain ≡ datagram sid (sealed_in under.secret (Startup generation) sid number plain)
+      is = ap (λ (k : Keys). startup_datagram s k sid plain) under.keys_are ∙ ap (λ (o : List ℕ). datagram sid (sealed (keys_of under.secret (Startup generation)) sid (startup_number o (s.sealed + 1)) plain)) own
 
-      carries : number_of (drop 4 (startup_datagram s keys sid plain)) ≡ startup_number (own_of setup) (s.sealed + 1)
-      carries = ap (λ (d : List ℕ). number_of (drop 4 d)) is
-          ∙ (sealed_carries keys sid (startup_number (own_of setup) (s.sealed + 1)) plain (startup_sized setup (s.sealed + 1))).0
+      carries : number_of (drop 4 (startup_datagram s keys sid plain)) ≡ number
+      carries = ap (λ (d : List ℕ). number_of (drop 4 d)) is ∙ (sealed_carries (keys_of under.secret (Startup generation)) sid number plain (startup_sized setup (s.sealed + 1))).0
 
-      line : s.sealed ≢ last_count → OutLine (own_secrets setup) setup past (startup_datagram s keys sid plain) (Startup setup.generation)
+      line : s.sealed ≢ last_count → OutLine secrets setup call past (startup_datagram s keys sid plain) (Startup generation)
       line some = record {
         sid = sid;
-        number = startup_number (own_of setup) (s.sealed + 1);
+        number = number;
         plain = plain;
         numbered = startup_sized setup (s.sealed + 1);
-        secret = setup.secret;
-        known = own_known setup;
+        secret = under.secret;
+        known = under.known;
         is = is;
-        once = λ far was. once_startup (own_of setup) past s.sealed s.sessions sent.numbered setup.generation some was;
+        once = λ far was. once_startup (own_of setup) past s.sealed s.sessions counted.numbered generation some was;
         keyings = may;
         session = tt;
       }
 
+      left : Staged secrets setup after s
+      left = staged (record { context = refl; secret = under.secret; known = under.known; number = number; size = startup_sized setup (s.sealed + 1); is = is })
+
       by_test : (b : Bool) → (s.sealed == last_count) ≡ b →
-          Meets setup now call past (if b then nothing s else record { state = with_sealed s (s.sealed + 1); entries = Out to (startup_datagram s keys sid plain) (Startup setup.generation) ∷ [] })
-      by_test true e = meets_nothing setup now call past s sent
+          Meets secrets setup now call past (if b then nothing s else record { state = with_sealed s (s.sealed + 1); entries = Out to (startup_datagram s keys sid plain) (Startup generation) ∷ [] })
+      by_test true e = meets_nothing secrets setup now call past s (record { numbered = counted.numbered; sized = counted.sized; short = counted.short; rows = counted.rows; staged = spent e })
       by_test false e = record {
         lines = (line (unequal s.sealed last_count e), tt);
         sent = record {
-          numbered = numbered_startup (own_of setup) past s.sealed s.sessions sent.numbered setup.generation now to (startup_datagram s keys sid plain) (unequal s.sealed last_count e) carries;
-          sized = sent.sized;
-          short = sent.short;
-          rows = sent.rows;
+          numbered = numbered_startup (own_of setup) past s.sealed s.sessions counted.numbered generation now to (startup_datagram s keys sid plain) (unequal s.sealed last_count e) carries;
+          sized = counted.sized;
+          short = counted.short;
+          rows = counted.rows;
+          staged = staged_alike secrets setup after s (with_sealed s (s.sealed + 1)) left refl;
         };
       }
 
-  pub meets_startup : (generation : ℕ) (keys : Keys) (to : AddressParts) (sid : ℕ) (plain : List ℕ) → IsUnder setup generation keys → MayGo setup past sid plain → Meets setup now call past (sent_startup s generation keys to sid plain)
-  meets_startup generation keys to sid plain under may =
-      subst (λ (k : Keys). Meets setup now call past (sent_startup s generation k to sid plain)) (sym under.keys_are)
-      (subst (λ (g : ℕ). Meets setup now call past (sent_startup s g (startup_keys_of (first_group setup)) to sid plain)) (sym under.generation_is) (first_startup to sid plain may))
+  -- one that has no keying of an initiator
+  light_out : IsUnder secrets generation keys → MayGo secrets setup past generation sid plain → Staged secrets setup past s → Meets secrets setup now call past (sent_startup s generation keys to sid plain)
+  light_out under may staged =
+      sent_out under
+      (λ packet reads. let k = may packet reads in record { initiators = λ c near cookie cert part sign among spells. absurd (k.initiators c near cookie cert part sign among spells); responders = k.responders })
+      (λ spent. staged)
+      (λ is. staged_out secrets setup past s staged now to (startup_datagram s keys sid plain) (Startup generation)
+      (beside_light secrets now to (startup_datagram s keys sid plain) (Startup generation) generation sid plain is (λ packet reads c near cookie cert part sign among spells. (may packet reads).initiators c near cookie cert part sign among spells)))
+
+-- the keying of an attempt, which is in the keying stage then; what is kept of the others is as before
+module _ (secrets : Secrets) (setup : Setup) (now : ℕ) (call : Call) (past : Past) (s : State) (own : s.startup.ledger.own ≡ own_of setup) (counted : Measured setup past s) (generation : ℕ) (keys : Keys) (to : AddressParts) (plain : List ℕ)
+    (mine : ℕ) (stage : (a : AttemptState) → get s.startup.attempts mine ≡ Some a → KeyedIn secrets generation a.stage) (others : StagesBeside secrets past s.startup.attempts mine) (kept : KeptAre secrets setup past s.startup.kept) (tags : TagsAre past s.startup.attempts) where
+  abbrev out : Sending
+  out = record { to = to; datagram = startup_datagram s keys 0 plain; context = Startup generation }
+
+  pub keying_out : IsUnder secrets generation keys → KeyingMay secrets setup call past generation mine plain → ((s.sealed == last_count) ≡ true → Staged secrets setup past s) → Meets secrets setup now call past (sent_startup s generation keys to 0 plain)
+  keying_out under may spent =
+      sent_out secrets setup now call past s own counted generation keys to 0 plain under
+      (λ packet reads. let k = may.may packet reads in record { initiators = λ c near cookie cert part sign among spells. (k.initiators c near cookie cert part sign among spells).1; responders = k.responders })
+      spent
+      (λ is. record {
+        tags = tags_quiet past s.startup.attempts tags (stamped now (Out to (startup_datagram s keys 0 plain) (Startup generation))) refl refl;
+        attempts = λ q a e. elim (tested q mine) [
+          | inl same ↦ subst (λ (n : ℕ). IsStageOf secrets (stamped now (Out to (startup_datagram s keys 0 plain) (Startup generation)) ∷ past) n a.stage) (sym same.0) (went is a (stage a (ap (get s.startup.attempts) (sym same.0) ∙ e)))
+          | inr other ↦
+              stage_beside secrets past q (stamped now (Out to (startup_datagram s keys 0 plain) (Startup generation)))
+              (beside_other secrets now to (startup_datagram s keys 0 plain) (Startup generation) generation 0 plain is mine
+              (λ packet reads c near cookie cert part sign among spells. ((may.may packet reads).initiators c near cookie cert part sign among spells).0) q other.0) a.stage (others q a other.0 e)
+        ];
+        kept = kept_beside secrets setup past s.startup.kept kept (stamped now (Out to (startup_datagram s keys 0 plain) (Startup generation))) refl;
+      })
+    where
+      keying_of : IsStartupOut secrets generation 0 plain out → IsKeyingOf secrets mine generation out
+      keying_of is = record {
+        context = refl;
+        sid = 0;
+        packet = may.bears.packet;
+        reads = record {
+          plain = plain;
+          opens = subst (λ (d : List ℕ). OpensUnder secrets (Startup generation) 0 d plain) (sym is.is) (opens_again secrets is.secret generation 0 is.number plain is.known (omega arith) is.size);
+          reads = may.bears.reads;
+        };
+        chunk = may.bears.chunk;
+        among = may.bears.among;
+        cookie = may.bears.cookie;
+        cert = may.bears.cert;
+        part = may.bears.part;
+        sign = may.bears.sign;
+        spells = may.bears.spells;
+      }
+
+      went : IsStartupOut secrets generation 0 plain out → (a : AttemptState) → KeyedIn secrets generation a.stage → IsStageOf secrets (stamped now (Out to (startup_datagram s keys 0 plain) (Startup generation)) ∷ past) mine a.stage
+      went is a in_stage =
+          subst (IsStageOf secrets (stamped now (Out to (startup_datagram s keys 0 plain) (Startup generation)) ∷ past) mine) (sym in_stage.is)
+          (inl (subst (λ (g : ℕ). IsKeyingOf secrets mine g out) (sym in_stage.generation_is) (keying_of is)), in_stage.has)
+
+module _ (secrets : Secrets) (setup : Setup) (now : ℕ) (call : Call) (past : Past) (s : State) (sent : Sent secrets setup past s) (own : s.startup.ledger.own ≡ own_of setup) where
+  pub meets_startup : (generation : ℕ) (keys : Keys) (to : AddressParts) (sid : ℕ) (plain : List ℕ) → IsUnder secrets generation keys → MayGo secrets setup past generation sid plain → Meets secrets setup now call past (sent_startup s generation keys to sid plain)
+  meets_startup generation keys to sid plain under may = light_out secrets setup now call past s own (measured secrets setup past s sent) generation keys to sid plain under may sent.staged
 
 -- ---- a packet in a session
 
-module _ (setup : Setup) (now : ℕ) (call : Call) (past : Past) (s : State) (sent : Sent setup past s) (near : ℕ) (row : Row) (there : get s.sessions near ≡ Some row) (may : MaySend setup past row.session) where
-  pub meets_session : (to : AddressParts) (body : List ℕ) → IsModest body → Meets setup now call past (sent_by s near to body (Some row))
+module _ (secrets : Secrets) (setup : Setup) (now : ℕ) (call : Call) (past : Past) (s : State) (sent : Sent secrets setup past s) (near : ℕ) (row : Row) (there : get s.sessions near ≡ Some row) (may : MaySend secrets setup past row.session) where
+  pub meets_session : (to : AddressParts) (body : List ℕ) → IsModest body → Meets secrets setup now call past (sent_by s near to body (Some row))
   meets_session to body modest = by_test (row.session.sealed == last_count) refl
     where
       is : session_datagram row.session s.moment body ≡
-          datagram row.session.joined.far (sealed_in setup.secret (context_of row.session true) row.session.joined.far (number_bytes (row.session.sealed + 1)) (session_packet row.session s.moment body))
-      is = ap (λ (k : Keys). datagram row.session.joined.far (sealed k row.session.joined.far (number_bytes (row.session.sealed + 1)) (session_packet row.session s.moment body))) may.keyed.away
+          datagram row.session.joined.far (sealed_in may.keyed.secret (context_of row.session true) row.session.joined.far (number_bytes (row.session.sealed + 1)) (session_packet row.session s.moment body))
+      is = ap (λ (k : Keys). datagram row.session.joined.far (sealed k row.session.joined.far (number_bytes (row.session.sealed + 1)) (session_packet row.session s.moment body))) may.keyed.keyed.away
 
       carries : number_of (drop 4 (session_datagram row.session s.moment body)) ≡ number_bytes (row.session.sealed + 1)
       carries = (sealed_carries row.session.outward row.session.joined.far (number_bytes (row.session.sealed + 1)) (session_packet row.session s.moment body) refl).0
 
-      line : row.session.sealed ≢ last_count → OutLine (own_secrets setup) setup past (session_datagram row.session s.moment body) (context_of row.session true)
+      line : row.session.sealed ≢ last_count → OutLine secrets setup call past (session_datagram row.session s.moment body) (context_of row.session true)
       line some = record {
         sid = row.session.joined.far;
         number = number_bytes (row.session.sealed + 1);
         plain = session_packet row.session s.moment body;
         numbered = refl;
-        secret = setup.secret;
-        known = is_known setup (own_secrets setup) (own_known setup) (context_of row.session true) (context_generation row.session.generation row.session.joined row.session.own row.session.role true ∙ may.generation);
+        secret = may.keyed.secret;
+        known = ap (get secrets) (context_generation row.session.generation row.session.joined row.session.own row.session.role true) ∙ may.keyed.known;
         is = is;
         once = λ far was. once_session (own_of setup) past s.sealed s.sessions sent.numbered near row there some far was;
         keyings = λ packet reads. no_keyings_among _ _ packet (body_plain row.session s.moment body packet modest reads);
@@ -196,8 +311,8 @@ module _ (setup : Setup) (now : ℕ) (call : Call) (past : Past) (s : State) (se
       sealed_more b e = ap (λ (t : Bool). if t then row.session else sealed_once row.session) e
 
       by_test : (b : Bool) → (row.session.sealed == last_count) ≡ b →
-          Meets setup now call past (if b then nothing s else record { state = with_session s near row (after_seal row.session); entries = Out to (session_datagram row.session s.moment body) (context_of row.session true) ∷ [] })
-      by_test true e = meets_nothing setup now call past s sent
+          Meets secrets setup now call past (if b then nothing s else record { state = with_session s near row (after_seal row.session); entries = Out to (session_datagram row.session s.moment body) (context_of row.session true) ∷ [] })
+      by_test true e = meets_nothing secrets setup now call past s sent
       by_test false e = record {
         lines = (line (unequal row.session.sealed last_count e), tt);
         sent = record {
@@ -206,5 +321,8 @@ module _ (setup : Setup) (now : ℕ) (call : Call) (past : Past) (s : State) (se
           sized = sent.sized;
           short = sent.short;
           rows = sent.rows;
+          staged = staged_alike secrets setup (stamped now (Out to (session_datagram row.session s.moment body) (context_of row.session true)) ∷ past) s (with_session s near row (after_seal row.session))
+              (staged_out secrets setup past s sent.staged now to (session_datagram row.session s.moment body) (context_of row.session true)
+              (beside_session secrets now to (session_datagram row.session s.moment body) (context_of row.session true) (not_startup row.session.generation row.session.joined row.session.own row.session.role))) refl;
         };
       }

@@ -1,6 +1,7 @@
 -- An admissible keying reads, and no cause stands against it.
 use Rattle.std.proofs.Common.{◌≡◌, ◌≢◌, ℕ, ◌+◌, ◌-◌, ◌^◌, ◌<◌, ◌≤◌, ◌==◌, List, [], ◌∷◌, ◌++◌, length, take, drop, nat_lt, nat_le, Bool, true, false, not, ◌&&◌, ◌||◌, cond, max, if◌then◌else◌, is_some, Option, Some, None, Ok, Err, inl, inr, ◌⊎◌, refl, sym, ap, subst, ◌∙◌, arith, append_assoc, length-append}
 use Rattle.std.specs.Prelude.{is_none}
+use Rattle.std.specs.FinMap.{get}
 use Rattle.std.specs.List.{list_any}
 use Rattle.std.specs.Int.{w64, to_be_bytes, from_be_bytes}
 use Rattle.std.specs.Str.{bytes_eq}
@@ -44,7 +45,7 @@ use Rattle.startup_packets.specs.Readings.{InitiatorKeying, part_offset, cert_of
 use Rattle.startup.specs.Keyings.{keying_of, heard_cause, named_cause, cookie_cause, initiator_cause, cause_by, iikeying_cause, repeated_session}
 use Rattle.startup.specs.Attempts.{is_own}
 use Rattle.crypto_profile.specs.declared.keys.Context.TheVariants.{Startup as StartupContext}
-use Rattle.endpoint_model.specs.Event.{Setup, own_of, first_group}
+use Rattle.endpoint_model.specs.Event.{Setup, own_of}
 use Rattle.endpoint_laws.specs.Past.{Past, facts_of, ids_in_use}
 use Rattle.endpoint_model.specs.Keying.{IsSigned, initiator_part}
 use Rattle.endpoint_laws.specs.Admissible.{Admissible, Offer}
@@ -52,7 +53,8 @@ use Rattle.endpoint_model.specs.State.{State, full, uses}
 use Rattle.endpoint_laws.proofs.Facts.{AllNone}
 use Rattle.endpoint_laws.proofs.Tied.{Tied}
 use Rattle.crypto_profile.specs.declared.group.GroupSecret.{GroupSecret}
-use Rattle.endpoint_laws.proofs.Knowing.{own_secrets, signed_own}
+use Rattle.endpoint_laws.specs.Contexts.{Secrets}
+use Rattle.endpoint_laws.proofs.Knowing.{known_signed}
 
 -- ---- small facts
 
@@ -249,8 +251,8 @@ pub record IsBearing (s : State) (group : GroupSecret) (from : AddressParts) (pa
   pub again : again_of (held_with s.startup.ledger (keying_of keying).peer) (keying_of keying) ≡ None
   pub repeated : repeated_session (held_with s.startup.ledger (keying_of keying).peer) (keying_of keying) ≡ None
 
-module _ (setup : Setup) (past : Past) (s : State) (tied : Tied setup past s) (from : AddressParts) (datagram : List ℕ) (offer : Offer) (before : Past) (now : ℕ) (a : Admissible (own_secrets setup) setup before now from datagram offer)
-    (same : facts_of past ≡ facts_of before) (same_ids : ids_in_use past ≡ ids_in_use before) (at : s.moment ≡ now) (other : offer.peer ≢ own_of setup) (group : GroupSecret) (one : group ≡ first_group setup) where
+module _ (secrets : Secrets) (setup : Setup) (past : Past) (s : State) (tied : Tied secrets setup past s) (from : AddressParts) (datagram : List ℕ) (offer : Offer) (before : Past) (now : ℕ) (a : Admissible secrets setup before now from datagram offer)
+    (same : facts_of past ≡ facts_of before) (same_ids : ids_in_use past ≡ ids_in_use before) (at : s.moment ≡ now) (other : offer.peer ≢ own_of setup) (group : GroupSecret) (known : get secrets a.generation ≡ Some group.secret) where
   abbrev l : Ledger
   l = s.startup.ledger
 
@@ -348,7 +350,7 @@ module _ (setup : Setup) (past : Past) (s : State) (tied : Tied setup past s) (f
       ∷ cookie_cause (cookie_test s.startup.cookie_secret read.cookie from s.moment) (named_cause s.startup read (full s))
       ∷ []) (
         where_false (not (is_signed group.secret a.chunk.payload read.sign)) BadSignature
-            (ap not (signed_again group.secret a.chunk.payload a.sign (subst (λ (x : GroupSecret). IsSigned x.secret a.chunk.payload a.sign) (sym one) (signed_own setup (StartupContext setup.generation) refl 0 datagram a.reads.plain a.reads.opens a.chunk.payload a.sign a.signed)))),
+            (ap not (signed_again group.secret a.chunk.payload a.sign (known_signed secrets (StartupContext a.generation) group.secret known 0 datagram a.reads.plain a.reads.opens a.chunk.payload a.sign a.signed))),
         (
           where_false (nat_lt 128 (length read.cookie)) (Wide (length read.cookie)) (narrow_is_false (length a.cookie) a.narrow),
           (ap (λ test. cookie_cause test (named_cause s.startup read (full s))) current ∙ named, tt),

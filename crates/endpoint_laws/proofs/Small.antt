@@ -28,6 +28,7 @@ use Rattle.introducer.specs.Directory.{AddressRows}
 use Rattle.endpoint_model.specs.declared.row.Row.{Row}
 use Rattle.endpoint_model.specs.declared.entry.Entry.TheVariants.{Fact as FactEntry, Moved, Sought, Unsought, Out}
 use Rattle.endpoint_model.specs.State.{State, Did, nothing, fact_entries, with_startup, with_row, with_session, without_row, with_sealed}
+use Rattle.endpoint_model.specs.Succession.{learn_refusal, learning, advancing_to}
 use Rattle.endpoint_model.specs.Sending.{packet_head, startup_datagram, session_datagram}
 use Rattle.endpoint_model.specs.InSessions.{closed}
 use Rattle.endpoint_model.specs.FlowCall.{FlowCall, flow_refusal, flow_did}
@@ -163,6 +164,11 @@ pub record Begins (Q P : State → Did → Type 0) : Type 0 where
 pub record Enters (P : State → Did → Type 0) : Type 0 where
   pub counts : (s : State) (near : ℕ) (row : Row) (session : SessionState) → get s.sessions near ≡ Some row → P s (nothing (with_session s near row session))
   pub unseen : (s : State) (introduces : Bool) (rows : AddressRows) → P s (nothing (record s { introduces = introduces; redirects = rows }))
+
+-- And of the succession of the group's secrets.
+pub record Succession (P : State → Did → Type 0) : Type 0 where
+  pub learns : (s : State) (secret : List ℕ) → learn_refusal s secret ≡ None → P s (learning s secret)
+  pub advances : (s : State) (next : GroupSecret) → s.next ≡ Some next → P s (advancing_to s (Some next))
 
 -- ---- bodies of which nothing is known
 

@@ -23,6 +23,7 @@ use Rattle.startup.specs.Attempts.{begin_spread, begun_attempt, after_begin}
 use Rattle.endpoint_model.specs.declared.config.Draws.{Draws}
 use Rattle.endpoint_model.specs.declared.entry.Entry.TheVariants.{Fact as FactEntry}
 use Rattle.endpoint_model.specs.Event.{Setup, Open, own_of}
+use Rattle.endpoint_laws.specs.Contexts.{Secrets}
 use Rattle.endpoint_laws.specs.Past.{Past, stamped, facts_of, ids_in_use}
 use Rattle.endpoint_laws.specs.Lawful.{IsFree}
 use Rattle.endpoint_model.specs.State.{State, Did, uses, is_used, is_free, free_from, full, with_startup}
@@ -66,8 +67,8 @@ pub record IsNew (s : State) (near : ℕ) : Type 0 where
   pub attempt : get s.startup.attempts near ≡ None
   pub session : get s.sessions near ≡ None
 
-pub new_id : (setup : Setup) (past : Past) (s : State) (word : ℕ) → Tied setup past s → setup.config.max_sessions ≤ 65536 → word < 2 ^ 32 → IsNew s (free_from s word)
-new_id setup past s word t most small =
+pub new_id : (secrets : Secrets) (setup : Setup) (past : Past) (s : State) (word : ℕ) → Tied secrets setup past s → setup.config.max_sessions ≤ 65536 → word < 2 ^ 32 → IsNew s (free_from s word)
+new_id secrets setup past s word t most small =
     let near : ℕ = free_from s word in
     let free : is_free s near ≡ true = free_from_is_free s word (omega (arith, most, t.within)) small in
     let parts = and_is (not (near == 0)) (not (is_used s near)) free in
@@ -80,16 +81,16 @@ new_id setup past s word t most small =
       session = none_there (get s.sessions near) both.1;
     }
 
-pub is_free_of : (setup : Setup) (past : Past) (s : State) (near : ℕ) → Tied setup past s → IsNew s near → IsFree near past
-is_free_of setup past s near t new = record { some = new.some; unused = sym (t.used near) ∙ new.unused }
+pub is_free_of : (secrets : Secrets) (setup : Setup) (past : Past) (s : State) (near : ℕ) → Tied secrets setup past s → IsNew s near → IsFree near past
+is_free_of secrets setup past s near t new = record { some = new.some; unused = sym (t.used near) ∙ new.unused }
 
 -- ---- room
 
 pub full_none : (s : State) → full s ≡ None → nat_le s.config.max_sessions (uses s) ≡ false
 full_none s e = test_fails (nat_le s.config.max_sessions (uses s)) s.config.max_sessions e
 
-pub room_left : (setup : Setup) (past : Past) (s : State) → Tied setup past s → full s ≡ None → uses s < setup.config.max_sessions
-room_left setup past s t none =
+pub room_left : (secrets : Secrets) (setup : Setup) (past : Past) (s : State) → Tied secrets setup past s → full s ≡ None → uses s < setup.config.max_sessions
+room_left secrets setup past s t none =
     let other : nat_le setup.config.max_sessions (uses s) ≡ false = ap (λ (m : ℕ). nat_le m (uses s)) (sym (ap (λ c. c.max_sessions) t.config)) ∙ full_none s none in
     below (uses s) setup.config.max_sessions other
   where
@@ -97,9 +98,9 @@ room_left setup past s t none =
     below n m e = grind (arith, nat_tests)
 
 -- a peer has a row, or there is room for one
-pub row_left : (setup : Setup) (past : Past) (s : State) (peer : List ℕ) → Tied setup past s → peers_full s.startup.ledger peer ≡ false →
+pub row_left : (secrets : Secrets) (setup : Setup) (past : Past) (s : State) (peer : List ℕ) → Tied secrets setup past s → peers_full s.startup.ledger peer ≡ false →
     (knows s.startup.ledger peer ≡ true) ⊎ (row_count s.startup.ledger < setup.config.max_peers)
-row_left setup past s peer t e =
+row_left secrets setup past s peer t e =
     room (knows s.startup.ledger peer) (row_count s.startup.ledger) setup.config.max_peers t.rows (ap (λ (m : ℕ). not (knows s.startup.ledger peer) && (row_count s.startup.ledger == m)) (sym t.max_peers) ∙ e)
   where
     room : (known : Bool) (n m : ℕ) → n ≤ m → (not known && (n == m)) ≡ false → (known ≡ true) ⊎ (n < m)
@@ -142,22 +143,22 @@ may_start s peer candidates none =
     }
 
 -- a number that is given is one of 64 bits
-pub few_more : (setup : Setup) (past : Past) (s : State) → Tied setup past s → (s.startup.ledger.started == 2 ^ 64 - 1) ≡ false → 1 + count (facts_of past) < 2 ^ 64
-few_more setup past s tied other =
+pub few_more : (secrets : Secrets) (setup : Setup) (past : Past) (s : State) → Tied secrets setup past s → (s.startup.ledger.started == 2 ^ 64 - 1) ≡ false → 1 + count (facts_of past) < 2 ^ 64
+few_more secrets setup past s tied other =
     let started : s.startup.ledger.started ≡ 0 + count (facts_of past) = reads_started 0 s.startup.ledger (facts_of past) tied.account in
     next_fits s.startup.ledger.started (count (facts_of past)) (omega (arith, started)) tied.few other
   where
     next_fits : (n m : ℕ) → n ≡ m → m < 2 ^ 64 → (n == 2 ^ 64 - 1) ≡ false → 1 + m < 2 ^ 64
     next_fits n m same few other = grind (arith, nat_tests)
 
-started_tied : (setup : Setup) (past : Past) (s : State) (peer : List ℕ) (candidates : List AddressParts) (near : ℕ) (ni tag : List ℕ) → Tied setup past s → MayStart s peer → IsNew s near →
-    Tied setup (stamped s.moment (FactEntry (started_fact s.startup.ledger peer near ni)) ∷ past) (with_startup s (after_begin s.startup peer candidates near ni tag s.moment))
-started_tied setup past s peer candidates near ni tag tied may new =
+started_tied : (secrets : Secrets) (setup : Setup) (past : Past) (s : State) (peer : List ℕ) (candidates : List AddressParts) (near : ℕ) (ni tag : List ℕ) → Tied secrets setup past s → MayStart s peer → IsNew s near →
+    Tied secrets setup (stamped s.moment (FactEntry (started_fact s.startup.ledger peer near ni)) ∷ past) (with_startup s (after_begin s.startup peer candidates near ni tag s.moment))
+started_tied secrets setup past s peer candidates near ni tag tied may new =
     let fact : Fact = started_fact s.startup.ledger peer near ni in
     let begun : AttemptState = begun_attempt s.startup peer candidates ni tag s.moment in
     let t : State = with_startup s (after_begin s.startup peer candidates near ni tag s.moment) in
     let now : Past = stamped s.moment (FactEntry fact) ∷ past in
-    let a = agrees_of setup past s tied in
+    let a = agrees_of secrets setup past s tied in
     let at : IsAt near (Some begun) None s t = record {
       attempt = get_inserted s.startup.attempts near begun;
       session = new.session;
@@ -166,34 +167,34 @@ started_tied setup past s peer candidates near ni tag tied may new =
     } in
     let was : thing_at s near ≡ of_peer peer (held_with s.startup.ledger peer) =
     ap (λ (o : Option AttemptState). combined near o (get s.sessions near)) new.attempt ∙ ap (combined near None) new.session ∙ sym (ap (of_peer peer) may.unheld) in
-    tied_of setup now t
-    (agrees_changed setup past now s t near (Some begun) None a
-    (record { config = a.given.config; cert = a.given.cert; one = (kin_begin s (noted s.startup.ledger fact) near begun refl refl).one setup a.given.one; cookie_secret = a.given.cookie_secret; own = a.given.own; max_peers = a.given.max_peers }) at
+    tied_of secrets setup now t
+    (agrees_changed secrets setup past now s t near (Some begun) None a
+    (record { config = a.given.config; cert = a.given.cert; holds = (kin_begin s (noted s.startup.ledger fact) near begun refl refl).holds secrets a.given.holds; current = a.given.current; next = a.given.next; cookie_secret = a.given.cookie_secret; own = a.given.own; max_peers = a.given.max_peers }) at
     (noted_matches s t fact near (Some begun) None a.matches at refl was refl (λ h e. let same : Opening (s.startup.ledger.started + 1) near ni ≡ h = cc in sym (ap near_of same)))
     (inl refl, tt) (beside_fact near s.moment past fact refl) (none_there_still past near (get s.sessions near) (a.closing near) new.session s.moment fact tt None)
     (still_unsought past near s.moment fact (none_sought past near (get s.startup.attempts near) (a.searching near) new.attempt) (Some begun))
     (ids_started setup.config.max_sessions (ids_in_use past) s t near (sym (a.ids.used near) ∙ new.unused)
     (ids_more setup.config.max_sessions (ids_in_use past) s t near a.ids (used_elsewhere near (Some begun) None s t at) (used_here near (Some begun) None s t at)
-    (omega (arith, len_new s.startup.attempts near begun new.attempt)) new.unused new.some (room_left setup past s tied may.place)))
+    (omega (arith, len_new s.startup.attempts near begun new.attempt)) new.unused new.some (room_left secrets setup past s tied may.place)))
     (omega arith, a.by_now)
-    (rows_after_either s.startup.ledger fact setup.config.max_peers peer refl tied.rows (row_left setup past s peer tied may.row)))
-    (gave_started s.startup.ledger peer near ni may.start 0 (facts_of past) tied.account) (few_more setup past s tied may.unspent)
+    (rows_after_either s.startup.ledger fact setup.config.max_peers peer refl tied.rows (row_left secrets setup past s peer tied may.row)))
+    (gave_started s.startup.ledger peer near ni may.start 0 (facts_of past) tied.account) (few_more secrets setup past s tied may.unspent)
 
-pub goes_opening : (setup : Setup) (past : Past) (s : State) (peer : List ℕ) (candidates : List AddressParts) (draws : Draws) → setup.config.max_sessions ≤ 65536 → draws.word < 2 ^ 32 →
-    open_refusal s peer candidates ≡ None → Tied setup past s → Goes setup (Open peer candidates draws) past s (opening s peer candidates draws)
-goes_opening setup past s peer candidates draws most small none tied =
+pub goes_opening : (secrets : Secrets) (setup : Setup) (past : Past) (s : State) (peer : List ℕ) (candidates : List AddressParts) (draws : Draws) → setup.config.max_sessions ≤ 65536 → draws.word < 2 ^ 32 →
+    open_refusal s peer candidates ≡ None → Tied secrets setup past s → Goes secrets setup (Open peer candidates draws) past s (opening s peer candidates draws)
+goes_opening secrets setup past s peer candidates draws most small none tied =
     let near : ℕ = free_from s draws.word in
     let fact : Fact = started_fact s.startup.ledger peer near draws.nonce in
     let may = may_start s peer candidates none in
-    let new = new_id setup past s draws.word tied most small in
+    let new = new_id secrets setup past s draws.word tied most small in
     let t : State = with_startup s (after_begin s.startup peer candidates near draws.nonce draws.tag s.moment) in
-    let after = started_tied setup past s peer candidates near draws.nonce draws.tag tied may new in
+    let after = started_tied secrets setup past s peer candidates near draws.nonce draws.tag tied may new in
     let first : Did = record { state = t; entries = FactEntry fact ∷ [] } in
     let spread = begin_spread s.startup peer candidates draws.nonce draws.tag s.moment in
-    goes_then setup (Open peer candidates draws) past s first (λ u. sent_spread u spread)
+    goes_then secrets setup (Open peer candidates draws) past s first (λ u. sent_spread u spread)
     (record {
-      meets = (((stands_of (own_of setup) t.startup.ledger fact (facts_of past) after.own after.account, inl ((refl, refl), is_free_of setup past s near tied new)), tt), tt);
+      meets = (((stands_of (own_of setup) t.startup.ledger fact (facts_of past) after.own after.account, inl ((refl, refl), is_free_of secrets setup past s near tied new)), tt), tt);
       tied = after;
       moment = refl;
     })
-    (spread_made (goes_sends setup (Open peer candidates draws)) t spread (stamped s.moment (FactEntry fact) ∷ past) after)
+    (spread_made (goes_sends secrets setup (Open peer candidates draws)) t spread (stamped s.moment (FactEntry fact) ∷ past) after)

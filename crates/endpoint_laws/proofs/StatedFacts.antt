@@ -1,5 +1,5 @@
 -- The list of all facts holds those of each end, and all nonces; and a log by its last event.
-use Rattle.std.proofs.Common.{ℕ, List, [], ◌∷◌, ◌++◌, ◌≡◌, inl, inr, refl, sym, ap, ◌∙◌, if◌then◌else◌, Bool, Option, Some, None}
+use Rattle.std.proofs.Common.{ℕ, List, [], ◌∷◌, ◌++◌, ◌≡◌, inl, inr, refl, sym, ap, subst, ◌∙◌, if◌then◌else◌, Bool, Option, Some, None}
 use Rattle.glare_core.specs.declared.facts.Fact.{Fact}
 use Rattle.glare_core.specs.declared.facts.Fact.TheVariants.{Started, Born, Opened, Confirmed, Ended}
 use Rattle.glare_core.specs.Steps.{Did, Step, view, facts}
@@ -11,8 +11,8 @@ use Rattle.endpoint_model.specs.Event.{Setup, own_of, Event, moment_at}
 use Rattle.endpoint_laws.specs.Past.{Past, stamped, onto, facts_of, last_moment, past_of, fact_and, begun, with_event}
 use Rattle.endpoint_laws.specs.Lawful.{EntriesLawful, LawfulFrom, nonces_of}
 use Rattle.endpoint_laws.specs.Laws.{IsCall, AreCalls}
-use Rattle.endpoint_laws.specs.History.{History, log_of, facts_at, TakesPart, nonces_in}
-use Rattle.endpoint_laws.specs.Agreed.{stated_onto, stated, stated_on}
+use Rattle.endpoint_laws.specs.History.{History, log_of, past_at, facts_at, TakesPart, nonces_in}
+use Rattle.endpoint_laws.specs.Agreed.{IsStatedOn, IsStatedOnto, EventStates, AreStated}
 use Rattle.endpoint_model.proofs.Members.{tested}
 use Rattle.endpoint_laws.specs.Contexts.{Secrets}
 
@@ -43,40 +43,44 @@ calls_more (x ∷ log) e l = let rest = calls_more log e l.1 in record { before 
 
 -- ---- the facts of one end
 
-facts_on : (own : List ℕ) (g : ℕ) (o : Option Fact) (before : List Step) (past : List Fact) → facts (view own before) ≡ past → facts (view own (stated_on own g o before)) ≡ fact_and o past
-facts_on own g None before past e = e
-facts_on own g (Some fact) before past e = ap facts (view_same own (Did fact g) before) ∙ ap (λ (fs : List Fact). fact ∷ fs) e
+facts_on : (secrets : Secrets) (setup : Setup) (at : Past) (o : Option Fact) (before steps : List Step) (past : List Fact) → IsStatedOn secrets setup at o before steps → facts (view (own_of setup) before) ≡ past → facts (view (own_of setup) steps) ≡ fact_and o past
+facts_on secrets setup at None before steps past is e = ap (λ (r : List Step). facts (view (own_of setup) r)) is ∙ e
+facts_on secrets setup at (Some fact) before steps past is e =
+    ap (λ (r : List Step). facts (view (own_of setup) r)) is.2 ∙ ap facts (view_same (own_of setup) (Did fact is.0) before) ∙ ap (λ (fs : List Fact). fact ∷ fs) e
 
-facts_onto : (own : List ℕ) (g : ℕ) (m : ℕ) (entries : List Entry) (before : List Step) (past : Past) → facts (view own before) ≡ facts_of past →
-    facts (view own (stated_onto own g entries before)) ≡ facts_of (onto m entries past)
-facts_onto own g m [] before past e = e
-facts_onto own g m (entry ∷ rest) before past e =
-    facts_onto own g m rest (stated_on own g (fact_in entry) before) (stamped m entry ∷ past) (facts_on own g (fact_in entry) before (facts_of past) e)
+facts_onto : (secrets : Secrets) (setup : Setup) (m : ℕ) (past : Past) (entries : List Entry) (before steps : List Step) → IsStatedOnto secrets setup m past entries before steps → facts (view (own_of setup) before) ≡ facts_of past →
+    facts (view (own_of setup) steps) ≡ facts_of (onto m entries past)
+facts_onto secrets setup m past [] before steps is e = ap (λ (r : List Step). facts (view (own_of setup) r)) is ∙ e
+facts_onto secrets setup m past (entry ∷ rest) before steps is e =
+    facts_onto secrets setup m (stamped m entry ∷ past) rest is.0 steps is.2 (facts_on secrets setup past (fact_in entry) before is.0 (facts_of past) is.1 e)
 
-beside_on : (own who : List ℕ) (g : ℕ) (o : Option Fact) (before : List Step) → (who ≡ own → ⊥) → facts (view own (stated_on who g o before)) ≡ facts (view own before)
-beside_on own who g None before ne = refl
-beside_on own who g (Some fact) before ne = ap facts (view_other own who (Did fact g) before ne)
+beside_on : (own : List ℕ) (secrets : Secrets) (setup : Setup) (at : Past) (o : Option Fact) (before steps : List Step) → IsStatedOn secrets setup at o before steps → (own_of setup ≡ own → ⊥) → facts (view own steps) ≡ facts (view own before)
+beside_on own secrets setup at None before steps is ne = ap (λ (r : List Step). facts (view own r)) is
+beside_on own secrets setup at (Some fact) before steps is ne = ap (λ (r : List Step). facts (view own r)) is.2 ∙ ap facts (view_other own (own_of setup) (Did fact is.0) before ne)
 
-facts_beside : (own who : List ℕ) (g : ℕ) (entries : List Entry) (before : List Step) → (who ≡ own → ⊥) → facts (view own (stated_onto who g entries before)) ≡ facts (view own before)
-facts_beside own who g [] before ne = refl
-facts_beside own who g (entry ∷ rest) before ne = facts_beside own who g rest (stated_on who g (fact_in entry) before) ne ∙ beside_on own who g (fact_in entry) before ne
+facts_beside : (own : List ℕ) (secrets : Secrets) (setup : Setup) (m : ℕ) (past : Past) (entries : List Entry) (before steps : List Step) → IsStatedOnto secrets setup m past entries before steps → (own_of setup ≡ own → ⊥) →
+    facts (view own steps) ≡ facts (view own before)
+facts_beside own secrets setup m past [] before steps is ne = ap (λ (r : List Step). facts (view own r)) is
+facts_beside own secrets setup m past (entry ∷ rest) before steps is ne =
+    facts_beside own secrets setup m (stamped m entry ∷ past) rest is.0 steps is.2 ne ∙ beside_on own secrets setup past (fact_in entry) before is.0 is.1 ne
 
 -- an end that has its fingerprint alone
-pub view_stated : (ends : ℕ → Setup) (who : ℕ) (history : History) → ((a : ℕ) → TakesPart a history → own_of (ends a) ≡ own_of (ends who) → a ≡ who) →
-    facts (view (own_of (ends who)) (stated ends history)) ≡ facts_at who history
-view_stated ends who [] alone = refl
-view_stated ends who (h ∷ earlier) alone =
+pub view_stated : (secrets : Secrets) (ends : ℕ → Setup) (who : ℕ) (history : History) (steps : List Step) → AreStated secrets ends history steps → ((a : ℕ) → TakesPart a history → own_of (ends a) ≡ own_of (ends who) → a ≡ who) →
+    facts (view (own_of (ends who)) steps) ≡ facts_at who history
+view_stated secrets ends who [] steps is alone = ap (λ (r : List Step). facts (view (own_of (ends who)) r)) is
+view_stated secrets ends who (h ∷ earlier) steps is alone =
     let own : List ℕ = own_of (ends who) in
     let log : List Event = log_of who earlier in
-    let ih : facts (view own (stated ends earlier)) ≡ facts_of (past_of 0 [] log) = view_stated ends who earlier (λ a part e. alone a (inr part) e) in
+    let ih : facts (view own is.0) ≡ facts_of (past_of 0 [] log) = view_stated secrets ends who earlier is.0 is.1 (λ a part e. alone a (inr part) e) in
     elim (tested h.who who) [
       | inl d ↦
           let m : ℕ = moment_at (last_moment 0 log) h.event in
-          ap (λ (w : ℕ). facts (view own (stated_onto (own_of (ends w)) (ends w).generation h.event.entries (stated ends earlier)))) d.0
-          ∙ facts_onto own (ends who).generation m h.event.entries (stated ends earlier) (begun m h.event ∷ past_of 0 [] log) ih ∙ ap facts_of (sym (past_more 0 [] log h.event))
+          let here : EventStates secrets (ends who) log h.event is.0 steps = subst (λ (w : ℕ). EventStates secrets (ends w) (log_of w earlier) h.event is.0 steps) d.0 is.2 in
+          facts_onto secrets (ends who) m (begun m h.event ∷ past_of 0 [] log) h.event.entries is.0 steps here ih ∙ ap facts_of (sym (past_more 0 [] log h.event))
           ∙ ap (λ (b : Bool). facts_of (past_of 0 [] (if b then log ++ h.event ∷ [] else log))) (sym d.1)
       | inr d ↦
-          facts_beside own (own_of (ends h.who)) (ends h.who).generation h.event.entries (stated ends earlier) (λ e. d.0 (alone h.who (inl refl) e)) ∙ ih
+          let m : ℕ = moment_at (last_moment 0 (log_of h.who earlier)) h.event in
+          facts_beside own secrets (ends h.who) m (begun m h.event ∷ past_at h.who earlier) h.event.entries is.0 steps is.2 (λ e. d.0 (alone h.who (inl refl) e)) ∙ ih
           ∙ ap (λ (b : Bool). facts_of (past_of 0 [] (if b then log ++ h.event ∷ [] else log))) (sym d.1)
     ]
 
@@ -89,18 +93,19 @@ nonce_more g (Opened j) drawn past older e = e
 nonce_more g (Confirmed peer near) drawn past older e = e
 nonce_more g (Ended peer near why) drawn past older e = e
 
-nonces_with : (own : List ℕ) (g : ℕ) (o : Option Fact) (before : List Step) (past : List Fact) (older : List (List ℕ)) → nonces before ≡ nonces_of past ++ older →
-    nonces (stated_on own g o before) ≡ nonces_of (fact_and o past) ++ older
-nonces_with own g None before past older e = e
-nonces_with own g (Some fact) before past older e = nonce_more g fact (nonces before) past older e
+nonces_with : (secrets : Secrets) (setup : Setup) (at : Past) (o : Option Fact) (before steps : List Step) (past : List Fact) (older : List (List ℕ)) → IsStatedOn secrets setup at o before steps → nonces before ≡ nonces_of past ++ older →
+    nonces steps ≡ nonces_of (fact_and o past) ++ older
+nonces_with secrets setup at None before steps past older is e = ap nonces is ∙ e
+nonces_with secrets setup at (Some fact) before steps past older is e = ap nonces is.2 ∙ nonce_more is.0 fact (nonces before) past older e
 
-nonces_onto : (own : List ℕ) (g : ℕ) (m : ℕ) (entries : List Entry) (before : List Step) (past : Past) (older : List (List ℕ)) → nonces before ≡ nonces_of (facts_of past) ++ older →
-    nonces (stated_onto own g entries before) ≡ nonces_of (facts_of (onto m entries past)) ++ older
-nonces_onto own g m [] before past older e = e
-nonces_onto own g m (entry ∷ rest) before past older e =
-    nonces_onto own g m rest (stated_on own g (fact_in entry) before) (stamped m entry ∷ past) older (nonces_with own g (fact_in entry) before (facts_of past) older e)
+nonces_onto : (secrets : Secrets) (setup : Setup) (m k : ℕ) (at past : Past) (entries : List Entry) (before steps : List Step) (older : List (List ℕ)) → IsStatedOnto secrets setup m at entries before steps → nonces before ≡ nonces_of (facts_of past) ++ older →
+    nonces steps ≡ nonces_of (facts_of (onto k entries past)) ++ older
+nonces_onto secrets setup m k at past [] before steps older is e = ap nonces is ∙ e
+nonces_onto secrets setup m k at past (entry ∷ rest) before steps older is e =
+    nonces_onto secrets setup m k (stamped m entry ∷ at) (stamped k entry ∷ past) rest is.0 steps older is.2 (nonces_with secrets setup at (fact_in entry) before is.0 (facts_of past) older is.1 e)
 
-pub nonces_stated : (ends : ℕ → Setup) (history : History) → nonces (stated ends history) ≡ nonces_in history
-nonces_stated ends [] = refl
-nonces_stated ends (h ∷ earlier) =
-    nonces_onto (own_of (ends h.who)) (ends h.who).generation (moment_at 0 h.event) h.event.entries (stated ends earlier) (begun (moment_at 0 h.event) h.event ∷ []) (nonces_in earlier) (nonces_stated ends earlier)
+pub nonces_stated : (secrets : Secrets) (ends : ℕ → Setup) (history : History) (steps : List Step) → AreStated secrets ends history steps → nonces steps ≡ nonces_in history
+nonces_stated secrets ends [] steps is = ap nonces is
+nonces_stated secrets ends (h ∷ earlier) steps is =
+    let m : ℕ = moment_at (last_moment 0 (log_of h.who earlier)) h.event in
+    nonces_onto secrets (ends h.who) m (moment_at 0 h.event) (begun m h.event ∷ past_at h.who earlier) (begun (moment_at 0 h.event) h.event ∷ []) h.event.entries is.0 steps (nonces_in earlier) is.2 (nonces_stated secrets ends earlier is.0 is.1)

@@ -26,11 +26,14 @@ use Rattle.session_core.specs.Session.{SessionState, IsKeyed}
 use Rattle.session_core.specs.Closing.{is_held}
 use Rattle.endpoint_model.specs.declared.row.Row.{Row}
 use Rattle.endpoint_model.specs.Event.{Setup, own_of}
-use Rattle.endpoint_laws.specs.Past.{Past, Search, facts_of, ids_in_use, is_in_use, IsClosing, IsSearch, WasStated}
+use Rattle.endpoint_laws.specs.Past.{Past, Search, facts_of, ids_in_use, is_in_use, IsClosing, IsSearch, WasStated, current_of, next_of}
 use Rattle.endpoint_laws.specs.OfTheLog.{WasThing}
-use Rattle.endpoint_laws.specs.Groups.{HasOneGroup}
+use Rattle.endpoint_laws.specs.Contexts.{Secrets, BegunUnder}
+use Rattle.endpoint_laws.specs.Groups.{number_in}
 use Rattle.endpoint_model.specs.State.{State, fresh, uses, is_used}
 use Rattle.endpoint_model.proofs.Members.{IsOnce}
+use Rattle.endpoint_laws.proofs.Kin.{HoldsSecrets}
+use Rattle.endpoint_laws.proofs.Begun.{born_thing}
 use Rattle.endpoint_laws.proofs.Matching.{Found, of_peer}
 
 -- what a session of this role and stage is while it is held
@@ -86,12 +89,18 @@ pub record IsClosed (past : Past) (near : ℕ) (session : SessionState) : Type 0
 abbrev pub sealed_once : SessionState → SessionState
 sealed_once session = record session { sealed = session.sealed + 1 }
 
+-- The keys of the session are those that the secret of its generation gives its contexts.
+pub record HasKeys (secrets : Secrets) (session : SessionState) : Type 0 where
+  pub secret : List ℕ
+  pub known : get secrets session.generation ≡ Some secret
+  pub keyed : IsKeyed secret session
+
 -- The session under this near id is one of this end, and the ledger holds it, or it is closing.
-pub record SessionTied (setup : Setup) (past : Past) (ledger : Ledger) (near : ℕ) (session : SessionState) : Type 0 where
+pub record SessionTied (secrets : Secrets) (setup : Setup) (past : Past) (ledger : Ledger) (near : ℕ) (session : SessionState) : Type 0 where
   pub id : session.joined.near ≡ near
   pub own : session.own ≡ own_of setup
-  pub keyed : IsKeyed setup.secret session
-  pub generation : session.generation ≡ setup.generation
+  pub known : HasKeys secrets session
+  pub begun : BegunUnder secrets setup (born_thing session.role session.joined) session.generation past
   pub stage : StageFits session.role session.stage
   pub thing : is_held session.stage ≡ true → held_with ledger session.joined.peer ≡ Some (thing_of session.role session.stage session.joined)
   pub closed : is_held session.stage ≡ false → IsClosed past near session
@@ -131,18 +140,21 @@ pub record AttemptsAreHeld (s : StartupState) : Type 0 where
   pub there : (peer : List ℕ) (n near : ℕ) (ni : List ℕ) → held_with s.ledger peer ≡ Some (OpeningHeld n near ni) → peer_of_attempt (get s.attempts near) ≡ Some peer
 
 -- The state agrees with what was done.
-pub record Tied (setup : Setup) (past : Past) (s : State) : Type 0 where
+pub record Tied (secrets : Secrets) (setup : Setup) (past : Past) (s : State) : Type 0 where
   -- what was given at the beginning
   pub config : s.config ≡ setup.config
   pub cert : s.startup.cert ≡ setup.cert
-  pub one : HasOneGroup setup s
+  -- the secrets that it keeps are known, and the current and the next generation are what was done
+  pub holds : HoldsSecrets secrets s
+  pub current : s.group.generation ≡ current_of setup past
+  pub next : number_in s.next ≡ next_of past
   pub cookie_secret : s.startup.cookie_secret ≡ setup.cookie_secret
   pub own : s.startup.ledger.own ≡ own_of setup
   pub max_peers : s.startup.ledger.max_peers ≡ setup.config.max_peers
   -- the ledger is of the facts, and the attempts and the sessions are what it holds
   pub account : StandsFor 0 s.startup.ledger (facts_of past)
   pub sound : AttemptsAreHeld s.startup
-  pub sessions : (near : ℕ) (row : Row) → get s.sessions near ≡ Some row → SessionTied setup past s.startup.ledger near row.session
+  pub sessions : (near : ℕ) (row : Row) → get s.sessions near ≡ Some row → SessionTied secrets setup past s.startup.ledger near row.session
   pub there : (peer : List ℕ) (thing : Held) → held_with s.startup.ledger peer ≡ Some thing → IsSession thing → found_in (get s.sessions (near_of thing)) ≡ Some (peer, thing)
   pub closing : (near : ℕ) (thing : Held) (at : ℕ) → IsClosing near thing at past → IsClosedThing (get s.sessions near) thing
   -- no attempt and session have one near id
@@ -164,8 +176,8 @@ pub record Tied (setup : Setup) (past : Past) (s : State) : Type 0 where
   pub few : started_in (facts_of past) < 2 ^ 64
 
 -- A new end has done nothing.
-pub fresh_tied : (setup : Setup) → Tied setup [] (fresh setup)
-fresh_tied setup =
+pub fresh_tied : (secrets : Secrets) (setup : Setup) → get secrets setup.generation ≡ Some setup.secret → Tied secrets setup [] (fresh setup)
+fresh_tied secrets setup first =
     let s : State = fresh setup in
     let no_attempt : (near : ℕ) → get s.startup.attempts near ≡ None = λ near. get-empty nat_cmp near in
     let no_session : (near : ℕ) → get s.sessions near ≡ None = λ near. get-empty nat_cmp near in
@@ -174,12 +186,14 @@ fresh_tied setup =
     record {
       config = refl;
       cert = refl;
-      one = record {
-        group_is = refl;
-        next_is = refl;
+      holds = record {
+        current = first;
+        next = λ g e. absurd (cc);
         attempts = λ near a e. absurd (none_is_some a (get s.startup.attempts near) (no_attempt near) e);
         kept = λ peer kept e. absurd (none_is_some kept (get s.startup.kept peer) (get-empty (slice_cmp nat_cmp) peer) e);
       };
+      current = refl;
+      next = refl;
       cookie_secret = refl;
       own = refl;
       max_peers = refl;

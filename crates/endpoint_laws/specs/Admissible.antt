@@ -18,7 +18,7 @@ use Rattle.glare_core.specs.Standing.{held, seen, peers_in}
 use Rattle.glare_core.specs.Things.{IsAttempt}
 use Rattle.endpoint_model.specs.Event.{Setup, own_of}
 use Rattle.endpoint_laws.specs.Past.{Past, facts_of, ids_in_use}
-use Rattle.endpoint_laws.specs.Contexts.{Secrets, ReadsUnder}
+use Rattle.endpoint_laws.specs.Contexts.{Secrets, ReadsUnder, OpensFirst, startup_contexts}
 use Rattle.endpoint_model.specs.Keying.{IsFirst, IsSigned, chunks_of, initiator_part}
 
 -- what the keying says: its peer, the number and the nonce of the attempt, and the peer's session
@@ -29,13 +29,16 @@ pub record Offer : Type 0 where
   pub ni : List ℕ
   pub far : ℕ
 
--- The datagram opens in the startup context under session ID 0 with the startup mode, its first
+-- The datagram opens in a startup context under session ID 0 with the startup mode, its first
 -- initiator's keying makes this offer, and what the end has done lets a session be born of it.
 pub record Admissible (secrets : Secrets) (setup : Setup) (past : Past) (now : ℕ)
     (from : AddressParts) (datagram : List ℕ) (offer : Offer) : Type 0 where
   -- the chunk
   pub packet : Whole
-  pub reads : ReadsUnder secrets (Startup setup.generation) 0 datagram packet
+  pub generation : ℕ
+  pub reads : ReadsUnder secrets (Startup generation) 0 datagram packet
+  pub opens : OpensFirst secrets (startup_contexts setup past) 0 datagram (Startup generation)
+      reads.plain
   pub mode : packet.head.mode ≡ StartupMode
   pub chunk : Placed
   pub first : IsFirst chunk (chunks_of packet)

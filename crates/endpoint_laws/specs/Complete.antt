@@ -26,7 +26,7 @@ use Rattle.endpoint_model.specs.declared.place.Place.TheVariants.{Startup as Sta
 use Rattle.endpoint_model.specs.declared.entry.Entry.{Entry}
 use Rattle.endpoint_model.specs.declared.entry.Entry.TheVariants.{Fact as FactEntry, Out}
 use Rattle.endpoint_model.specs.Views.{out_in}
-use Rattle.endpoint_model.specs.Event.{Setup, own_of, Receive, Answer, Began, Searching, Done, NotOpened, NotSought, Refused, NotAdded, Stopped, OutOfMemory, Event, moment_at}
+use Rattle.endpoint_model.specs.Event.{Setup, own_of, Receive, Answer, Began, Searching, Succeeds, Done, NotOpened, NotSought, Refused, NotAdded, Stopped, OutOfMemory, Event, moment_at}
 use Rattle.endpoint_laws.specs.Past.{Past, facts_of, onto, last_moment, past_of_log, out_count, outs_of}
 use Rattle.endpoint_laws.specs.Contexts.{Secrets, Knows, session_context}
 use Rattle.endpoint_model.specs.Keying.{chunks_of}
@@ -65,14 +65,13 @@ pub record IsOfOffer (offer : Offer) (nonce : List ℕ) (facts : List Fact) (j :
 
 -- Among these entries is the Born of the session, and directly after it a datagram to this address
 -- with the session's keying: at the initiator it answers the attempt.
-pub record IsBornAndTold (secrets : Secrets) (setup : Setup) (to : AddressParts) (j : Joined)
-    (entries : List Entry) : Type 0 where
+pub record IsBornAndTold (secrets : Secrets) (setup : Setup) (generation : ℕ) (to : AddressParts)
+    (j : Joined) (entries : List Entry) : Type 0 where
   pub before : List Entry
   pub sent : List ℕ
   pub later : List Entry
-  pub are : entries ≡ before ++ FactEntry (Born j) ∷ Out to sent (Startup setup.generation) ∷
-      later
-  pub answers : AnswersAttempt secrets setup.generation (at_initiator (own_of setup) j) sent
+  pub are : entries ≡ before ++ FactEntry (Born j) ∷ Out to sent (Startup generation) ∷ later
+  pub answers : AnswersAttempt secrets generation (at_initiator (own_of setup) j) sent
 
 -- a datagram that an end was given
 abbrev pub taken_event : ℕ → AddressParts → List ℕ → Draws → Answer → List Entry → Event
@@ -89,6 +88,7 @@ taken_event moment from datagram draws answer entries =
 abbrev pub WentThrough : Answer → List Placed → List Placed → Type 0
 WentThrough (Began n) chunks gone = ⊥
 WentThrough (Searching near) chunks gone = ⊥
+WentThrough (Succeeds generation) chunks gone = ⊥
 WentThrough Done chunks gone = gone ≡ chunks
 WentThrough (NotOpened refusal) chunks gone = ⊥
 WentThrough (NotSought refusal) chunks gone = ⊥
@@ -103,13 +103,14 @@ pub record IsBehind (front : List Placed) (chunk : Placed) (gone : List Placed) 
   pub whole : gone ≡ front ++ chunk ∷ back
   pub others : AllByRecursion (λ c. c.kind ≢ chunk.kind) front
 
--- What an end did up to a chunk of a datagram that it takes outside of sessions: what its log says,
--- and what the chunks before added. Where none of them answers a search, these state nothing.
-abbrev pub done_up_to : Setup → List Event → State → ℕ → AddressParts → Draws → List Placed →
+-- What an end did up to a chunk of a datagram that it takes outside of sessions in this
+-- generation: what its log says, and what the chunks before added. Where none of them answers a
+-- search, these state nothing.
+abbrev pub done_up_to : ℕ → List Event → State → ℕ → AddressParts → Draws → List Placed →
     Past
-done_up_to setup log s moment from draws front =
+done_up_to generation log s moment from draws front =
     onto (at_moment s moment).moment
-    (chunks_did (StartupPlace setup.generation) from draws outset (at_moment s moment)
+    (chunks_did (StartupPlace generation) from draws outset (at_moment s moment)
     front).entries
     (past_of_log log)
 
@@ -124,19 +125,20 @@ outs_in (entry ∷ rest) = out_count (out_in entry) + outs_in rest
 -- so that each has a number.
 abbrev pub AdmissibleKeyingsBear : Type 0
 AdmissibleKeyingsBear = (secrets : Secrets) (setup : Setup) (log : List Event) (s t : State)
-    (moment : ℕ) (from : AddressParts) (datagram : List ℕ) (draws : Draws) (answer : Answer)
-    (entries : List Entry) (offer : Offer) (front gone : List Placed)
-    → Knows secrets setup → IsSetup setup → AreCalls log → StandsFor setup log s
+    (moment generation : ℕ) (from : AddressParts) (datagram : List ℕ) (draws : Draws)
+    (answer : Answer) (entries : List Entry) (offer : Offer) (front gone : List Placed)
+    → Knows secrets setup (past_of_log log) → IsSetup setup → AreCalls log → StandsFor setup log s
     → IsCall (Receive from datagram draws)
     → Step s (taken_event moment from datagram draws answer entries) t
-    → (a : Admissible secrets setup (done_up_to setup log s moment from draws front)
+    → (a : Admissible secrets setup (done_up_to generation log s moment from draws front)
     (moment_at (last_moment 0 log) (taken_event moment from datagram draws answer entries)) from
     datagram offer)
-    → WentThrough answer (chunks_of a.packet) gone → IsBehind front a.chunk gone
+    → a.generation ≡ generation → WentThrough answer (chunks_of a.packet) gone
+    → IsBehind front a.chunk gone
     → offer.peer ≢ own_of setup → outs_of (past_of_log log) + outs_in entries < 2 ^ 64 - 1
     → (j : Joined) ×
-    IsOfOffer offer draws.nonce (facts_of (done_up_to setup log s moment from draws front)) j ×
-    IsBornAndTold secrets setup from j entries
+    IsOfOffer offer draws.nonce (facts_of (done_up_to generation log s moment from draws front)) j ×
+    IsBornAndTold secrets setup generation from j entries
 
 -- ---- responders' keyings
 

@@ -59,7 +59,7 @@ abbrev pub IsHonestReceive : Secrets → Setup → Past → History → Option R
 IsHonestReceive secrets setup past earlier None = Unit {0}
 IsHonestReceive secrets setup past earlier (Some r) =
     (contexts : List Context) (context : Context) (plain : List ℕ) →
-    ContextsOf setup past (sid_of r.datagram) contexts →
+    ContextsOf secrets setup past (sid_of r.datagram) contexts →
     OpensFirst secrets contexts (sid_of r.datagram) r.datagram context plain →
     WasSent r.datagram context earlier
 

@@ -1,6 +1,6 @@
 -- Lawful logs. Each entry meets its line of this table, judged by its event and by the entries
 -- before it.
-use Rattle.std.specs.Prelude.{ℕ, false, ◌≡◌, ◌≢◌, ◌+◌, ◌^◌, ◌<◌, ◌≤◌, ◌⊎◌, List, [], ◌∷◌, length, drop, Option, Some, None, Ok}
+use Rattle.std.specs.Prelude.{ℕ, true, false, ◌≡◌, ◌≢◌, ◌+◌, ◌^◌, ◌<◌, ◌≤◌, ◌⊎◌, List, [], ◌∷◌, length, drop, Option, Some, None, Ok}
 use Rattle.std.specs.FinMap.{get}
 use Rattle.crypto_profile.specs.declared.keys.Context.{Context}
 use Rattle.crypto_profile.specs.declared.keys.Context.TheVariants.{Startup, Session}
@@ -20,14 +20,15 @@ use Rattle.glare_core.specs.declared.facts.Held.{Held}
 use Rattle.glare_core.specs.declared.facts.Held.TheVariants.{Opening, HalfOpen, KeptAsResponder, KeptAsInitiator}
 use Rattle.glare_core.specs.declared.facts.Joined.{Joined}
 use Rattle.glare_core.specs.Standing.{held, count}
+use Rattle.glare_core.specs.Things.{IsSession}
 use Rattle.glare_core.specs.Stands.{Stands, IsBornOf, IsForBorn}
 use Rattle.glare_core.specs.Told.{AllDifferent}
 use Rattle.endpoint_model.specs.declared.entry.Entry.{Entry}
-use Rattle.endpoint_model.specs.Views.{Sending, NamedSearch, EndedSearch, fact_in, out_in, closed_in, sought_in, unsought_in}
+use Rattle.endpoint_model.specs.Views.{Sending, NamedSearch, EndedSearch, fact_in, out_in, closed_in, sought_in, unsought_in, learnt_in, advanced_in}
 use Rattle.endpoint_model.specs.declared.config.Draws.{Draws}
-use Rattle.endpoint_model.specs.Event.{Setup, own_of, Call, OpenCall, SeekCall, ReceiveCall, open_in, seek_in, unseek_in, cancel_in, close_in, receive_in, tick_in, Event, moment_at}
-use Rattle.endpoint_laws.specs.Past.{Past, Search, IsSearch, with_event, facts_of, is_in_use, IsClosing, taken_since, nothing_done, with_begun, with_entry, with_fact, WasStated, WentOut}
-use Rattle.endpoint_laws.specs.Contexts.{Secrets, generation_of, ReadsUnder, StandsUnder, inward, outward, OpensUnder}
+use Rattle.endpoint_model.specs.Event.{Setup, own_of, Call, OpenCall, SeekCall, ReceiveCall, open_in, seek_in, unseek_in, cancel_in, close_in, receive_in, tick_in, learn_in, is_advance, Event, moment_at}
+use Rattle.endpoint_laws.specs.Past.{Past, before_event, current_of, next_of, Search, IsSearch, tag_of, with_event, facts_of, is_in_use, IsClosing, taken_since, nothing_done, with_begun, with_entry, with_fact, WasStated, WentOut}
+use Rattle.endpoint_laws.specs.Contexts.{Secrets, generation_of, ReadsUnder, StandsUnder, inward, outward, OpensUnder, OpensFirst, startup_contexts, KeyingWent, IsInHello, OpensInStartup, BeganWith, BegunUnder}
 use Rattle.endpoint_laws.specs.Taken.{TookAt, TakesChunkIn}
 use Rattle.endpoint_model.specs.Keying.{IsSigned, IsAmong, KeyingsAre, chunks_of, initiator_part, responder_part}
 use Rattle.endpoint_laws.specs.Admissible.{Admissible, Offer}
@@ -109,12 +110,15 @@ pub record AnswersAttempt (secrets : Secrets) (generation : ℕ) (j : Joined)
   pub number : j.k < 2 ^ 64
   pub signed : IsSigned reads.opens.secret chunk.payload sign
 
-abbrev pub TakesAnswerIn : Secrets → Setup → Option ReceiveCall → Joined → Type 0
-TakesAnswerIn secrets setup None j = ⊥
-TakesAnswerIn secrets setup (Some r) j = AnswersAttempt secrets setup.generation j r.datagram
+-- The call takes such a datagram, which opens in that context by what was done before its event.
+abbrev pub TakesAnswerIn : Secrets → Setup → Past → Option ReceiveCall → Joined → Type 0
+TakesAnswerIn secrets setup past None j = ⊥
+TakesAnswerIn secrets setup past (Some r) j = (generation : ℕ) ×
+    OpensInStartup secrets setup (before_event past) r.datagram generation ×
+    AnswersAttempt secrets generation j r.datagram
 
-abbrev pub TakesAnswer : Secrets → Setup → Call → Joined → Type 0
-TakesAnswer secrets setup call j = TakesAnswerIn secrets setup (receive_in call) j
+abbrev pub TakesAnswer : Secrets → Setup → Past → Call → Joined → Type 0
+TakesAnswer secrets setup past call j = TakesAnswerIn secrets setup past (receive_in call) j
 
 -- The datagram opens in the startup context of this generation under session ID 0, and a
 -- responder's hello in it has the tag of a search under this session ID with this nonce, and a
@@ -140,21 +144,34 @@ pub record AnswersSearch (secrets : Secrets) (generation : ℕ) (past : Past)
 abbrev pub TakesHelloIn : Secrets → Setup → Past → Option ReceiveCall → List ℕ → ℕ → ℕ → List ℕ →
     Type 0
 TakesHelloIn secrets setup past None peer n near ni = ⊥
-TakesHelloIn secrets setup past (Some r) peer n near ni =
-    AnswersSearch secrets setup.generation past r.datagram peer n near ni
+TakesHelloIn secrets setup past (Some r) peer n near ni = (generation : ℕ) ×
+    OpensInStartup secrets setup (before_event past) r.datagram generation ×
+    AnswersSearch secrets generation past r.datagram peer n near ni
 
 abbrev pub TakesHello : Secrets → Setup → Past → Call → List ℕ → ℕ → ℕ → List ℕ → Type 0
 TakesHello secrets setup past call peer n near ni =
     TakesHelloIn secrets setup past (receive_in call) peer n near ni
 
--- The call takes a datagram that opens under this session ID, in the context of this thing.
-abbrev pub TakesUnderIn : Secrets → Setup → Option ReceiveCall → ℕ → Held → Type 0
-TakesUnderIn secrets setup None near thing = ⊥
-TakesUnderIn secrets setup (Some r) near thing = (plain : List ℕ) ×
-    OpensUnder secrets (inward setup thing) near r.datagram plain
+-- The datagram opens under this session ID, in the context of this session of an end that did
+-- this.
+pub record OpensInSession (secrets : Secrets) (setup : Setup) (past : Past) (near : ℕ)
+    (thing : Held) (datagram : List ℕ) : Type 0 where
+  pub stands : StandsUnder past near thing
+  pub is_session : IsSession thing
+  pub generation : ℕ
+  pub begun : BegunUnder secrets setup thing generation past
+  pub plain : List ℕ
+  pub opens : OpensUnder secrets (inward setup generation thing) near datagram plain
 
-abbrev pub TakesUnder : Secrets → Setup → Call → ℕ → Held → Type 0
-TakesUnder secrets setup call near thing = TakesUnderIn secrets setup (receive_in call) near thing
+-- The call takes such a datagram, by what was done before its event.
+abbrev pub TakesUnderIn : Secrets → Setup → Past → Option ReceiveCall → ℕ → Held → Type 0
+TakesUnderIn secrets setup past None near thing = ⊥
+TakesUnderIn secrets setup past (Some r) near thing =
+    OpensInSession secrets setup (before_event past) near thing r.datagram
+
+abbrev pub TakesUnder : Secrets → Setup → Past → Call → ℕ → Held → Type 0
+TakesUnder secrets setup past call near thing =
+    TakesUnderIn secrets setup past (receive_in call) near thing
 
 -- ---- the lines of facts
 
@@ -178,11 +195,11 @@ pub record BornLine (secrets : Secrets) (setup : Setup) (now : ℕ) (call : Call
       (record { peer = j.peer; n = j.n; ni = j.ni; far = j.far }) j.nr
   pub id : IsFree j.near past
 
-pub record ConfirmedLine (secrets : Secrets) (setup : Setup) (call : Call) (facts : List Fact)
+pub record ConfirmedLine (secrets : Secrets) (setup : Setup) (call : Call) (past : Past)
     (peer : List ℕ) (near : ℕ) : Type 0 where
   pub j : Joined
-  pub session : held peer facts ≡ Some (HalfOpen j)
-  pub by : TakesUnder secrets setup call near (HalfOpen j)
+  pub session : held peer (facts_of past) ≡ Some (HalfOpen j)
+  pub by : TakesUnder secrets setup past call near (HalfOpen j)
 
 -- so many milliseconds after its start, an attempt expires
 abbrev pub lifetime : ℕ
@@ -229,13 +246,6 @@ pub record FarLine (secrets : Secrets) (setup : Setup) (call : Call) (past : Pas
   pub is_held : held peer (facts_of past) ≡ Some thing
   pub by : TakesChunkIn secrets setup past thing near (receive_in call) CloseChunk
 
--- the fact with which a session that is kept began here
-abbrev pub BeganWith : Held → Fact → Type 0
-BeganWith (Opening n near ni) fact = ⊥
-BeganWith (HalfOpen j) fact = fact ≡ Born j
-BeganWith (KeptAsResponder j) fact = fact ≡ Born j
-BeganWith (KeptAsInitiator j) fact = fact ≡ Opened j
-
 -- The session began at least 120,000 ms ago, and took nothing since then.
 pub record IsIdle (secrets : Secrets) (setup : Setup) (now : ℕ) (past : Past) (peer : List ℕ)
     (near : ℕ) : Type 0 where
@@ -246,7 +256,10 @@ pub record IsIdle (secrets : Secrets) (setup : Setup) (now : ℕ) (past : Past) 
   pub began_with : BeganWith thing fact
   pub began : WasStated first fact past
   pub old : first + 120000 ≤ now
-  pub quiet : (moment : ℕ) → TookAt secrets setup thing near moment (taken_since near past) →
+  pub generation : ℕ
+  pub begun : BegunUnder secrets setup thing generation past
+  pub quiet : (moment : ℕ) →
+      TookAt secrets setup generation thing near moment (taken_since near past) →
       moment + 120000 ≤ now
 
 abbrev pub EndedLine : Secrets → Setup → ℕ → Call → Past → List Entry → List ℕ → ℕ → Why → Type 0
@@ -268,9 +281,9 @@ abbrev pub FactLine : Secrets → Setup → ℕ → Call → Past → List Entry
 FactLine secrets setup now call past rest (Started peer n near ni) =
     StartedLine secrets setup call past peer n near ni
 FactLine secrets setup now call past rest (Born j) = BornLine secrets setup now call past j
-FactLine secrets setup now call past rest (Opened j) = TakesAnswer secrets setup call j
+FactLine secrets setup now call past rest (Opened j) = TakesAnswer secrets setup past call j
 FactLine secrets setup now call past rest (Confirmed peer near) =
-    ConfirmedLine secrets setup call (facts_of past) peer near
+    ConfirmedLine secrets setup call past peer near
 FactLine secrets setup now call past rest (Ended peer near why) =
     EndedLine secrets setup now call past rest peer near why
 
@@ -309,29 +322,62 @@ AsFarAs (Startup generation) facts = Unit {0}
 AsFarAs (Session generation ni nr fp_i fp_r sid_i sid_r to_responder) facts =
     AllDifferent (nonces_of facts)
 
--- An initiator's keying goes out in the startup context alone, with the certificate of this end,
--- and the session ID and the component of an attempt that is held.
-pub record KeyingOfAttempt (setup : Setup) (context : Context) (facts : List Fact) (near : ℕ)
-    (cert part : List ℕ) : Type 0 where
-  pub startup : context ≡ Startup setup.generation
+-- The call takes a datagram that opens in the startup context of this generation under session ID
+-- 0, with a responder's hello in it that has the tag of the attempt or search under this session
+-- ID.
+pub record HasHello (secrets : Secrets) (setup : Setup) (past : Past) (near generation : ℕ)
+    (datagram : List ℕ) : Type 0 where
+  pub packet : Whole
+  pub reads : ReadsUnder secrets (Startup generation) 0 datagram packet
+  pub opens : OpensFirst secrets (startup_contexts setup past) 0 datagram (Startup generation)
+      reads.plain
+  pub chunk : Placed
+  pub among : IsAmong chunk (chunks_of packet)
+  pub tag : List ℕ
+  pub cookie : List ℕ
+  pub cert : List ℕ
+  pub spells : Spells (RHello tag cookie cert) chunk.kind chunk.payload
+  pub tag_is : tag_of near past ≡ Some tag
+
+abbrev pub TakesHelloOf : Secrets → Setup → Past → ℕ → ℕ → Option ReceiveCall → Type 0
+TakesHelloOf secrets setup past near generation None = ⊥
+TakesHelloOf secrets setup past near generation (Some r) =
+    HasHello secrets setup past near generation r.datagram
+
+-- The keying of an attempt goes out in the generation of those before, and the first one in that in
+-- which the responder's hello came that has its tag.
+abbrev pub KeyingGoesIn : Secrets → Setup → Past → Call → ℕ → ℕ → Type 0
+KeyingGoesIn secrets setup past call near generation = KeyingWent secrets near generation past ⊎
+    (IsInHello secrets near past ×
+    TakesHelloOf secrets setup past near generation (receive_in call))
+
+-- An initiator's keying goes out in the startup context of its attempt alone, with the certificate
+-- of this end, and the session ID and the component of an attempt that is held.
+pub record KeyingOfAttempt (secrets : Secrets) (setup : Setup) (call : Call) (past : Past)
+    (context : Context) (near : ℕ) (cert part : List ℕ) : Type 0 where
+  pub generation : ℕ
+  pub goes : KeyingGoesIn secrets setup past call near generation
+  pub startup : context ≡ Startup generation
   pub own : cert ≡ setup.cert
   pub peer : List ℕ
   pub n : ℕ
   pub ni : List ℕ
-  pub is_held : held peer facts ≡ Some (Opening n near ni)
+  pub is_held : held peer (facts_of past) ≡ Some (Opening n near ni)
   pub values : part ≡ initiator_part ni n peer
 
 -- The session is held, and was born here.
 abbrev pub IsBornHere : Option Held → Joined → Type 0
 IsBornHere thing j = (thing ≡ Some (HalfOpen j)) ⊎ (thing ≡ Some (KeptAsResponder j))
 
--- A responder's keying goes out in the startup context alone, under the far session ID of a session
--- that was born here and is held, with its values.
-pub record KeyingOfBorn (setup : Setup) (context : Context) (facts : List Fact) (sid near : ℕ)
-    (part : List ℕ) : Type 0 where
-  pub startup : context ≡ Startup setup.generation
+-- A responder's keying goes out in the startup context alone in which the session was born, under
+-- the far session ID of a session that was born here and is held, with its values.
+pub record KeyingOfBorn (secrets : Secrets) (setup : Setup) (past : Past) (context : Context)
+    (sid near : ℕ) (part : List ℕ) : Type 0 where
   pub j : Joined
-  pub is_held : IsBornHere (held j.peer facts) j
+  pub generation : ℕ
+  pub born : BegunUnder secrets setup (HalfOpen j) generation past
+  pub startup : context ≡ Startup generation
+  pub is_held : IsBornHere (held j.peer (facts_of past)) j
   pub sid_is : sid ≡ j.far
   pub near_is : near ≡ j.near
   pub values : part ≡ responder_part j.nr j.k (own_of setup) j.ni
@@ -344,16 +390,17 @@ IsFarOf (KeptAsResponder j) sid = sid ≡ j.far
 IsFarOf (KeptAsInitiator j) sid = sid ≡ j.far
 
 -- A datagram in a session's context goes under the far ID of a session that is held or closing, in
--- the direction away from this end.
-abbrev pub InSession : Setup → Past → ℕ → Context → Type 0
-InSession setup past sid (Startup generation) = Unit {0}
-InSession setup past sid (Session generation ni nr fp_i fp_r sid_i sid_r to_responder) =
+-- the direction away from this end, in the generation in which the session began.
+abbrev pub InSession : Secrets → Setup → Past → ℕ → Context → Type 0
+InSession secrets setup past sid (Startup generation) = Unit {0}
+InSession secrets setup past sid (Session generation ni nr fp_i fp_r sid_i sid_r to_responder) =
     (thing : Held) × (near : ℕ) × StandsUnder past near thing ×
-    (Session generation ni nr fp_i fp_r sid_i sid_r to_responder ≡ outward setup thing) ×
-    IsFarOf thing sid
+    BegunUnder secrets setup thing generation past ×
+    (Session generation ni nr fp_i fp_r sid_i sid_r to_responder
+    ≡ outward setup generation thing) × IsFarOf thing sid
 
-pub record OutLine (secrets : Secrets) (setup : Setup) (past : Past) (sent : List ℕ)
-    (context : Context) : Type 0 where
+pub record OutLine (secrets : Secrets) (setup : Setup) (call : Call) (past : Past)
+    (sent : List ℕ) (context : Context) : Type 0 where
   pub sid : ℕ
   pub number : List ℕ
   pub plain : List ℕ
@@ -364,10 +411,9 @@ pub record OutLine (secrets : Secrets) (setup : Setup) (past : Past) (sent : Lis
   pub is : sent ≡ datagram sid (sealed_in secret context sid number plain)
   pub once : AsFarAs context (facts_of past) → WasNumbered context number past → ⊥
   pub keyings : (packet : Whole) → PacketReading plain (Ok packet) →
-      KeyingsAre (λ near cookie cert part sign. KeyingOfAttempt setup context (facts_of past) near
-      cert part) (λ near part sign. KeyingOfBorn setup context (facts_of past) sid near part)
-      packet
-  pub session : InSession setup past sid context
+      KeyingsAre (λ near cookie cert part sign. KeyingOfAttempt secrets setup call past context near
+      cert part) (λ near part sign. KeyingOfBorn secrets setup past context sid near part) packet
+  pub session : InSession secrets setup past sid context
 
 -- ---- the line of a session that is over
 
@@ -407,6 +453,24 @@ pub record UnsoughtLine (now : ℕ) (call : Call) (past : Past) (near : ℕ) (wh
   pub stands : IsSearch near which at past
   pub by : SearchEnds call near at now why
 
+-- ---- the lines of generations
+
+abbrev pub LearnsIn : Option (List ℕ) → Type 0
+LearnsIn None = ⊥
+LearnsIn (Some secret) = Unit {0}
+
+-- The call is a learn, no next generation is known, and the number is the current one plus 1.
+pub record LearntLine (setup : Setup) (call : Call) (past : Past) (generation : ℕ)
+    : Type 0 where
+  pub by : LearnsIn (learn_in call)
+  pub none : next_of past ≡ None
+  pub number : generation ≡ current_of setup past + 1
+
+-- The call is an advance, and the number is that of the next generation, which is known.
+pub record AdvancedLine (call : Call) (past : Past) (generation : ℕ) : Type 0 where
+  pub by : is_advance call ≡ true
+  pub number : next_of past ≡ Some generation
+
 -- ---- the table
 
 -- the line of what an entry says of a search, if it does: that it begins, or that it is over
@@ -415,24 +479,31 @@ SearchLine now call past (Some sought) ended = SoughtLine call past sought.near 
 SearchLine now call past None (Some ended) = UnsoughtLine now call past ended.near ended.why
 SearchLine now call past None None = Unit {0}
 
+-- the line of what an entry says of the group's generations, if it does
+abbrev pub GenerationLine : Setup → Call → Past → Option ℕ → Option ℕ → Type 0
+GenerationLine setup call past (Some learnt) advanced = LearntLine setup call past learnt
+GenerationLine setup call past None (Some advanced) = AdvancedLine call past advanced
+GenerationLine setup call past None None = Unit {0}
+
 -- the line of an entry, which is a fact, a datagram that goes out, the end of a closing, the
--- beginning or the end of a search, or none of these
+-- beginning or the end of a search, a generation that was learnt or became the current one, or none
+-- of these
 abbrev pub LineOf : Secrets → Setup → ℕ → Call → Past → List Entry → Option Fact → Option Sending →
-    Option ℕ → Option NamedSearch → Option EndedSearch → Type 0
-LineOf secrets setup now call past rest (Some fact) sent over sought ended =
+    Option ℕ → Option NamedSearch → Option EndedSearch → Option ℕ → Option ℕ → Type 0
+LineOf secrets setup now call past rest (Some fact) sent over sought ended learnt advanced =
     Stands (own_of setup) (count (facts_of past)) (facts_of past) fact ×
     FactLine secrets setup now call past rest fact × IsCounted fact
-LineOf secrets setup now call past rest None (Some sent) over sought ended =
-    OutLine secrets setup past sent.datagram sent.context
-LineOf secrets setup now call past rest None None (Some near) sought ended =
+LineOf secrets setup now call past rest None (Some sent) over sought ended learnt advanced =
+    OutLine secrets setup call past sent.datagram sent.context
+LineOf secrets setup now call past rest None None (Some near) sought ended learnt advanced =
     ClosedLine secrets setup now call past near
-LineOf secrets setup now call past rest None None None sought ended =
-    SearchLine now call past sought ended
+LineOf secrets setup now call past rest None None None sought ended learnt advanced =
+    SearchLine now call past sought ended × GenerationLine setup call past learnt advanced
 
 abbrev pub Line : Secrets → Setup → ℕ → Call → Past → List Entry → Entry → Type 0
 Line secrets setup now call past rest entry =
     LineOf secrets setup now call past rest (fact_in entry) (out_in entry) (closed_in entry)
-    (sought_in entry) (unsought_in entry)
+    (sought_in entry) (unsought_in entry) (learnt_in entry) (advanced_in entry)
 
 -- the entries of an event, in order
 abbrev pub EntriesLawful : Secrets → Setup → ℕ → Call → Past → List Entry → Type 0

@@ -4,7 +4,7 @@ use Rattle.identity.specs.Certificates.{IsCertificate}
 use Rattle.glare_core.specs.Account.{StandsFor as AccountStandsFor}
 use Rattle.glare_core.specs.Ledger.{row_count}
 use Rattle.identity.specs.ServiceNames.{IsServiceName}
-use Rattle.endpoint_model.specs.Event.{Setup, Call, Open, Seek, Receive, Event}
+use Rattle.endpoint_model.specs.Event.{Setup, Call, Open, Seek, Receive, Learn, Event}
 use Rattle.endpoint_laws.specs.Past.{facts_of, past_of_log}
 use Rattle.endpoint_model.specs.State.{State, uses}
 use Rattle.endpoint_model.specs.Log.{StandsFor}
@@ -30,16 +30,18 @@ IsCall (Seek name candidates draws) = IsServiceName name × (length draws.nonce 
     (draws.word < 2 ^ 32) × (length draws.tag ≡ 16)
 IsCall (Receive from datagram draws) = AreBytes datagram × (length draws.nonce ≡ 16) ×
     (draws.word < 2 ^ 32) × (length draws.token ≡ 16)
+IsCall (Learn secret) = length secret ≡ 32
 IsCall call = Unit {0}
 
 abbrev pub AreCalls : List Event → Type 0
 AreCalls [] = Unit {0}
 AreCalls (e ∷ events) = IsCall e.call × AreCalls events
 
--- Each log that an end stands for is lawful by each map of secrets that has what the end was given.
+-- Each log that an end stands for is lawful by each map of secrets that has what the end was given
+-- and learnt.
 abbrev pub EveryLogIsLawful : Type 0
 EveryLogIsLawful = (secrets : Secrets) (setup : Setup) (log : List Event) (s : State) →
-    Knows secrets setup → IsSetup setup → AreCalls log → StandsFor setup log s →
+    Knows secrets setup (past_of_log log) → IsSetup setup → AreCalls log → StandsFor setup log s →
     IsLawful secrets setup log
 
 -- What an end holds and counts is what the facts of its log say, and each of these facts is lawful.

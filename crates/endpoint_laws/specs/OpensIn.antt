@@ -63,7 +63,7 @@ opens_in s datagram = if nat_lt (length datagram) 36 then None
 pub record OpensAt (secrets : Secrets) (setup : Setup) (past : Past) (datagram : List ℕ)
     (context : Context) : Type 0 where
   pub contexts : List Context
-  pub named : ContextsOf setup past (sid_of datagram) contexts
+  pub named : ContextsOf secrets setup past (sid_of datagram) contexts
   pub plain : List ℕ
   pub opens : OpensFirst secrets contexts (sid_of datagram) datagram context plain
 
@@ -79,6 +79,6 @@ pub record IsContextAt (secrets : Secrets) (setup : Setup) (log : List Event) (d
 -- It is so for every log that the end stands for.
 abbrev pub OpensByTheLog : State → List ℕ → Option Context → Type 0
 OpensByTheLog s datagram answer =
-    (secrets : Secrets) (setup : Setup) (log : List Event) → Knows secrets setup →
-    IsSetup setup → AreCalls log → StandsFor setup log s →
+    (secrets : Secrets) (setup : Setup) (log : List Event) →
+    Knows secrets setup (past_of_log log) → IsSetup setup → AreCalls log → StandsFor setup log s →
     IsContextAt secrets setup log datagram answer

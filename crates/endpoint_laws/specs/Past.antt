@@ -11,8 +11,8 @@ use Rattle.glare_core.specs.declared.facts.Fact.TheVariants.{Started, Born, Open
 use Rattle.glare_core.specs.Standing.{held}
 use Rattle.endpoint_model.specs.declared.entry.Entry.{Entry}
 use Rattle.endpoint_model.specs.declared.entry.Entry.TheVariants.{Fact as FactEntry}
-use Rattle.endpoint_model.specs.Event.{SeekCall, ReceiveCall, seek_in, receive_in, Call, Answer, Began, Searching, Done, NotOpened, NotSought, Refused, NotAdded, Stopped, OutOfMemory, Event, moment_at}
-use Rattle.endpoint_model.specs.Views.{Sending, NamedSearch, EndedSearch, fact_in, out_in, closed_in, sought_in, unsought_in}
+use Rattle.endpoint_model.specs.Event.{Setup, OpenCall, SeekCall, ReceiveCall, open_in, seek_in, receive_in, learn_in, Call, Answer, Began, Searching, Succeeds, Done, NotOpened, NotSought, Refused, NotAdded, Stopped, OutOfMemory, Event, moment_at}
+use Rattle.endpoint_model.specs.Views.{Sending, NamedSearch, EndedSearch, fact_in, out_in, closed_in, sought_in, unsought_in, learnt_in, advanced_in}
 
 -- what happened: an event began, or an entry was added in it
 pub data Happening : Type 0 where
@@ -200,7 +200,8 @@ WasSought near which None call = ⊥
 WasSought near which (Some sought) call = (sought.near ≡ near) × (sought.name ≡ which.name) ×
     DrawsFor which (seek_of call)
 
--- the session ID of a search that is over, and that of an attempt that starts
+-- the session ID of a search that is over, that of an attempt that starts, and that of a search that
+-- begins
 abbrev pub unsought_id : Option EndedSearch → Option ℕ
 unsought_id None = None
 unsought_id (Some ended) = Some ended.near
@@ -213,6 +214,10 @@ started_id (Some (Opened j)) = None
 started_id (Some (Confirmed peer near)) = None
 started_id (Some (Ended peer near why)) = None
 
+abbrev pub sought_id : Option NamedSearch → Option ℕ
+sought_id None = None
+sought_id (Some sought) = Some sought.near
+
 -- A search stands under this session ID, which began at this moment: it was sought, and since then
 -- neither was it over nor did an attempt start under its session ID.
 abbrev pub IsSearch : ℕ → Search → ℕ → Past → Type 0
@@ -221,6 +226,37 @@ IsSearch near which at (s ∷ earlier) =
     (WasSought near which (sought_done s.what) (last_call earlier) × (s.moment ≡ at)) ⊎
     (GoesOn near (unsought_id (unsought_done s.what)) ×
     GoesOn near (started_id (fact_done s.what)) × IsSearch near which at earlier)
+
+-- ---- the tags of hellos
+
+-- the open that it is
+abbrev pub open_of : Option Call → Option OpenCall
+open_of None = None
+open_of (Some call) = open_in call
+
+-- the tag that an open draws, and that a seek draws; and this one, where it is none
+abbrev pub opened_tag : Option OpenCall → Option (List ℕ) → Option (List ℕ)
+opened_tag None before = before
+opened_tag (Some o) before = Some o.draws.tag
+
+abbrev pub sought_tag : Option SeekCall → Option (List ℕ) → Option (List ℕ)
+sought_tag None before = before
+sought_tag (Some seek) before = Some seek.draws.tag
+
+-- one tag under this session ID where something begins under it, and else the other
+abbrev pub tag_if : ℕ → Option ℕ → Option (List ℕ) → Option (List ℕ) → Option (List ℕ)
+tag_if near None new before = before
+tag_if near (Some id) new before = if id == near then new else before
+
+-- The tag of the hellos of the attempt or the search that began last under this session ID: the one
+-- that its open or its seek drew. A search that becomes an attempt keeps its tag.
+abbrev pub tag_of : ℕ → Past → Option (List ℕ)
+tag_of near [] = None
+tag_of near (s ∷ earlier) =
+    tag_if near (sought_id (sought_done s.what))
+    (sought_tag (seek_of (last_call earlier)) (tag_of near earlier))
+    (tag_if near (started_id (fact_done s.what))
+    (opened_tag (open_of (last_call earlier)) (tag_of near earlier)) (tag_of near earlier))
 
 -- ---- session IDs
 
@@ -271,6 +307,7 @@ pub record Taken : Type 0 where
 abbrev pub was_gone_through : Answer → Bool
 was_gone_through (Began n) = true
 was_gone_through (Searching near) = true
+was_gone_through (Succeeds generation) = true
 was_gone_through Done = true
 was_gone_through (NotOpened refusal) = true
 was_gone_through (NotSought refusal) = true
@@ -308,3 +345,64 @@ abbrev pub taken_since : ℕ → Past → List Taken
 taken_since near [] = []
 taken_since near (s ∷ earlier) = if begins near (fact_done s.what) then []
     else taken_and s.moment (datagram_in s.what) (taken_since near earlier)
+
+-- ---- generations of the group's secret
+
+abbrev pub learnt_done : Happening → Option ℕ
+learnt_done (OfEvent event) = None
+learnt_done (OfEntry entry) = learnt_in entry
+
+abbrev pub advanced_done : Happening → Option ℕ
+advanced_done (OfEvent event) = None
+advanced_done (OfEntry entry) = advanced_in entry
+
+-- the number after an Advanced, where there is one
+abbrev pub current_after : Option ℕ → ℕ → ℕ
+current_after None current = current
+current_after (Some generation) current = generation
+
+-- the current generation: that of the last Advanced, or the first one
+abbrev pub current_of : Setup → Past → ℕ
+current_of setup [] = setup.generation
+current_of setup (s ∷ earlier) =
+    current_after (advanced_done s.what) (current_of setup earlier)
+
+-- the next generation after an Advanced, and after a Learnt, where there is one
+abbrev pub next_left : Option ℕ → Option ℕ → Option ℕ
+next_left None next = next
+next_left (Some generation) None = None
+next_left (Some generation) (Some next) = if next == generation then None else Some next
+
+abbrev pub next_after : Option ℕ → Option ℕ → Option ℕ
+next_after None next = next
+next_after (Some generation) next = Some generation
+
+-- the next generation, which is known from its Learnt to the Advanced of its number
+abbrev pub next_of : Past → Option ℕ
+next_of [] = None
+next_of (s ∷ earlier) =
+    next_after (learnt_done s.what) (next_left (advanced_done s.what) (next_of earlier))
+
+-- the secret that a call learns, and the datagram that a call is given
+abbrev pub learn_of : Option Call → Option (List ℕ)
+learn_of None = None
+learn_of (Some call) = learn_in call
+
+abbrev pub receive_of : Option Call → Option ReceiveCall
+receive_of None = None
+receive_of (Some call) = receive_in call
+
+-- This secret was learnt with this number: by a Learnt of an event whose call learns it.
+abbrev pub WasLearnt : ℕ → List ℕ → Past → Type 0
+WasLearnt generation secret [] = ⊥
+WasLearnt generation secret (s ∷ earlier) = ((learnt_done s.what ≡ Some generation) ×
+    (learn_of (last_call earlier) ≡ Some secret)) ⊎ WasLearnt generation secret earlier
+
+abbrev pub is_event : Happening → Bool
+is_event (OfEvent event) = true
+is_event (OfEntry entry) = false
+
+-- what was done before the last event began
+abbrev pub before_event : Past → Past
+before_event [] = []
+before_event (s ∷ earlier) = if is_event s.what then earlier else before_event earlier

@@ -12,7 +12,7 @@ use Rattle.session_core.specs.Hearing.{count_of}
 use Rattle.endpoint_model.specs.Event.{Setup, ReceiveCall}
 use Rattle.endpoint_model.specs.Keying.{IsAmong, chunks_of}
 use Rattle.endpoint_laws.specs.Past.{Past, Taken, taken_since}
-use Rattle.endpoint_laws.specs.Contexts.{Secrets, inward, OpensUnder, ReadsUnder}
+use Rattle.endpoint_laws.specs.Contexts.{Secrets, inward, OpensUnder, ReadsUnder, BegunUnder}
 
 -- ---- which of them it took
 
@@ -52,14 +52,15 @@ inward_mode (HalfOpen j) = FromInitiator
 inward_mode (KeptAsResponder j) = FromInitiator
 inward_mode (KeptAsInitiator j) = FromResponder
 
--- A session of this end, which is this thing under this session ID, took the datagram after these.
-abbrev pub Passes : Secrets → Setup → Held → ℕ → List Taken → List ℕ → Type 0
-Passes secrets setup thing near before datagram =
-    PassesIn secrets (inward setup thing) (inward_mode thing) near before datagram
+-- A session of this end, which is this thing under this session ID and began in this generation,
+-- took the datagram after these.
+abbrev pub Passes : Secrets → Setup → ℕ → Held → ℕ → List Taken → List ℕ → Type 0
+Passes secrets setup generation thing near before datagram =
+    PassesIn secrets (inward setup generation thing) (inward_mode thing) near before datagram
 
-abbrev pub TookAt : Secrets → Setup → Held → ℕ → ℕ → List Taken → Type 0
-TookAt secrets setup thing near moment taken =
-    TookIn secrets (inward setup thing) (inward_mode thing) near moment taken
+abbrev pub TookAt : Secrets → Setup → ℕ → Held → ℕ → ℕ → List Taken → Type 0
+TookAt secrets setup generation thing near moment taken =
+    TookIn secrets (inward setup generation thing) (inward_mode thing) near moment taken
 
 -- ---- the datagram of a call
 
@@ -69,7 +70,9 @@ pub record TakesChunkOf (secrets : Secrets) (setup : Setup) (past : Past) (thing
   pub moment : ℕ
   pub before : List Taken
   pub last : taken_since near past ≡ record { moment = moment; datagram = r.datagram } ∷ before
-  pub passes : Passes secrets setup thing near before r.datagram
+  pub generation : ℕ
+  pub begun : BegunUnder secrets setup thing generation past
+  pub passes : Passes secrets setup generation thing near before r.datagram
   pub placed : Placed
   pub among : IsAmong placed (chunks_of passes.packet)
   pub spells : Spells chunk placed.kind placed.payload

@@ -4,14 +4,14 @@
 ghost use Rattle.endpoint_laws.specs.Agreed.{EveryLawfulHistoryIsAgreed, EachEndStatesItsLog, EachPrefixIsAMoment, LogsKeepTheSame};
 ghost use Rattle.endpoint_laws.specs.Complete.{AdmissibleKeyingsBear, KeyingsWithoutCauseOpen};
 ghost use Rattle.endpoint_laws.specs.Draws.{WhatIsDrawnOnceIsStatedOnce};
-ghost use Rattle.endpoint_laws.specs.Groups.{EachEndHasOneGroup};
+ghost use Rattle.endpoint_laws.specs.Groups.{TheGroupsAreOfTheLog};
 ghost use Rattle.endpoint_laws.specs.Handed.{EveryMessageIsHandedOver};
 ghost use Rattle.endpoint_laws.specs.Within.{FlowsAreWithin, FlowsHoldFew, NoAckIsOwed};
 ghost use Rattle.endpoint_laws.specs.Laws.{EveryLogIsLawful, TheLedgerIsOfTheLog, UsesAreWithin, RowsAreWithin};
 ghost use Rattle.endpoint_laws.specs.OfTheLog.{TheStateIsOfTheLog};
 
-/// Each log that an end stands for is lawful by each map of secrets that has its own: each of its
-/// entries meets its line of the table.
+/// Each log that an end stands for is lawful by each map of secrets that has what the end was given
+/// and learnt: each of its entries meets its line of the table.
 pub fn every_log_is_lawful()
     ensures { EveryLogIsLawful }
 {}
@@ -28,10 +28,10 @@ pub fn state_of_the_log()
     ensures { TheStateIsOfTheLog }
 {}
 
-/// An end has one secret of its group, the one that it was given in its first generation: all that
-/// it sends and takes outside of sessions is under it.
-pub fn has_one_group()
-    ensures { EachEndHasOneGroup }
+/// What an end keeps of the secrets of its group is what its log says: the current generation and
+/// the next one, those of its attempts and of its sessions, and what is made of their secrets.
+pub fn groups_of_the_log()
+    ensures { TheGroupsAreOfTheLog }
 {}
 
 /// There are never more attempts, searches and sessions than may be.
