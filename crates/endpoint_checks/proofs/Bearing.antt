@@ -12,6 +12,7 @@ use Rattle.sha2.specs.Sha256.{sha256}
 use Rattle.crypto_profile.specs.Hmac.{hmac}
 use Rattle.crypto_profile.specs.Keys.{sign_key_of}
 use Rattle.identity.specs.Certificates.{IsCertificate}
+use Rattle.endpoint_model.specs.declared.config.Draws.{Draws}
 use Rattle.endpoint_model.specs.Event.{Receive}
 use Rattle.rtmfp_packet.specs.Walk.{Placed}
 use Rattle.cookies.specs.Cookie.{IsCookieOf}
@@ -21,7 +22,9 @@ use Rattle.glare_core.specs.declared.facts.Held.TheVariants.{Opening, HalfOpen}
 use Rattle.glare_core.specs.declared.facts.Joined.{Joined}
 use Rattle.glare_core.specs.Standing.{held, peers_in}
 use Rattle.endpoint_model.specs.Event.{Setup, own_of, Event}
-use Rattle.endpoint_laws.specs.Contexts.{Secrets, Knows}
+use Rattle.std.specs.FinMap.{get}
+use Rattle.endpoint_laws.specs.Contexts.{Secrets, OpensUnder, ReadsUnder}
+use Rattle.endpoint_checks.proofs.Still.{IsStill, still_admissible}
 use Rattle.endpoint_laws.specs.Past.{Past, Happening, OfEvent, OfEntry, begun, facts_of, ids_in_use, is_close}
 use Rattle.endpoint_model.specs.Keying.{IsFirst, IsSigned, chunks_of, initiator_part}
 use Rattle.endpoint_laws.specs.Admissible.{Admissible, Offer}
@@ -42,7 +45,7 @@ entry_first [] = false
 entry_first (s ∷ earlier) = is_entry s.what
 
 -- where an event has just begun, there is no Ended that makes way
-before_is : (now moment : ℕ) (e : Event) (rest before : Past) (peer : List ℕ) → WayMade now (begun moment e ∷ rest) before peer → before ≡ begun moment e ∷ rest
+pub before_is : (now moment : ℕ) (e : Event) (rest before : Past) (peer : List ℕ) → WayMade now (begun moment e ∷ rest) before peer → before ≡ begun moment e ∷ rest
 unfolding is_entry entry_first
 before_is now moment e rest before peer (inl same) = sym same
 before_is now moment e rest before peer (inr (near, why, way, is)) = absurd (let clash : false ≡ true = ap entry_first is in cc)
@@ -57,6 +60,17 @@ no_room : (most : ℕ) (peer : List ℕ) (peers : List (List ℕ)) → peers ≡
 no_room most peer peers e zero (inl there) = let clash : false ≡ true = ap (list_any (bytes_eq peer)) (sym e) ∙ there in cc
 no_room most peer peers e zero (inr room) = omega (arith, room, zero)
 
+abbrev offer_of : Joined → Offer
+offer_of j = record { peer = j.peer; n = j.n; ni = j.ni; far = j.far }
+
+-- the keying of the first event came in the first generation
+module _ (secrets : Secrets) (setup : Setup) (moment : ℕ) (from : AddressParts) (sent : List ℕ) (draws : Draws) (j : Joined) where
+  first_one : (h : IsLawful secrets setup (born_in moment (Receive from sent draws) j)) → h.0.0.1.by.0.generation ≡ setup.generation
+  first_one h =
+      let line = h.0.0.1 in
+      let still : IsStill line.before = subst IsStill (sym (before_is _ _ _ [] line.before j.peer line.way)) (refl, refl, refl, tt) in
+      still_admissible secrets setup line.before (max 0 moment) from sent (offer_of j) still line.by.0
+
 pub births_refused : TheTableRefusesBirths
 births_refused secrets setup moment from sent draws j = record {
   in_open = λ towards candidates h. h.0.0.1.by;
@@ -65,12 +79,17 @@ births_refused secrets setup moment from sent draws j = record {
   in_tick = λ h. h.0.0.1.by;
   short = λ short h. too_short sent h.0.0.1.by.0.reads.opens.opens.0 short;
   other_id = λ differ h. differ h.0.0.1.by.0.reads.opens.id;
+  unopened = λ none h.
+      let a = h.0.0.1.by.0 in
+      none a.reads.plain (subst (λ (g : ℕ). OpensUnder secrets (Startup g) 0 sent a.reads.plain) (first_one secrets setup moment from sent draws j h) a.reads.opens);
   other_mode = λ packet reads differ h.
       let a = h.0.0.1.by.0 in
-      differ (ap (λ (p : Whole). p.head.mode) (one_packet secrets (Startup setup.generation) 0 sent packet a.packet reads a.reads) ∙ a.mode);
+      let there : ReadsUnder secrets (Startup setup.generation) 0 sent a.packet = subst (λ (g : ℕ). ReadsUnder secrets (Startup g) 0 sent a.packet) (first_one secrets setup moment from sent draws j h) a.reads in
+      differ (ap (λ (p : Whole). p.head.mode) (one_packet secrets (Startup setup.generation) 0 sent packet a.packet reads there) ∙ a.mode);
   no_chunk = λ packet reads none h.
       let a = h.0.0.1.by.0 in
-      no_first a.chunk (chunks_of a.packet) (ap chunks_of (one_packet secrets (Startup setup.generation) 0 sent a.packet packet a.reads reads) ∙ none) a.first;
+      let there : ReadsUnder secrets (Startup setup.generation) 0 sent a.packet = subst (λ (g : ℕ). ReadsUnder secrets (Startup g) 0 sent a.packet) (first_one secrets setup moment from sent draws j h) a.reads in
+      no_first a.chunk (chunks_of a.packet) (ap chunks_of (one_packet secrets (Startup setup.generation) 0 sent a.packet packet there reads) ∙ none) a.first;
   zero = λ e h. h.0.0.1.id.some e;
   other_nonce = λ differ h. differ h.0.0.1.by.1;
   other_count = λ differ h. differ h.0.0.0.counted;
@@ -90,10 +109,13 @@ births_refused secrets setup moment from sent draws j = record {
 
 -- ---- what the keying of the datagram says
 
-module _ (secrets : Secrets) (setup : Setup) (past : Past) (now : ℕ) (from : AddressParts) (sent : List ℕ) (offer : Offer) (k : Keying) (known : Knows secrets setup) (b : BringsKeying secrets setup.generation sent k) (a : Admissible secrets setup past now from sent offer) where
+module _ (secrets : Secrets) (setup : Setup) (past : Past) (now : ℕ) (from : AddressParts) (sent : List ℕ) (offer : Offer) (k : Keying) (known : get secrets setup.generation ≡ Some setup.secret) (b : BringsKeying secrets setup.generation sent k) (a : Admissible secrets setup past now from sent offer) (first : a.generation ≡ setup.generation) where
+  there : ReadsUnder secrets (Startup setup.generation) 0 sent a.packet
+  there = subst (λ (g : ℕ). ReadsUnder secrets (Startup g) 0 sent a.packet) first a.reads
+
   same_chunk : a.chunk ≡ b.chunk
   same_chunk =
-      one_first a.chunk b.chunk (chunks_of b.packet) (subst (λ (p : Whole). IsFirst a.chunk (chunks_of p)) (one_packet secrets (Startup setup.generation) 0 sent a.packet b.packet a.reads b.reads) a.first) b.first
+      one_first a.chunk b.chunk (chunks_of b.packet) (subst (λ (p : Whole). IsFirst a.chunk (chunks_of p)) (one_packet secrets (Startup setup.generation) 0 sent a.packet b.packet there b.reads) a.first) b.first
       (a.spells.0 ∙ sym b.spells.0)
 
   one : OneKeying offer.far k.near a.cookie k.cookie a.cert k.cert (initiator_part offer.ni offer.n (own_of setup)) k.part a.sign k.sign
@@ -104,11 +126,8 @@ module _ (secrets : Secrets) (setup : Setup) (past : Past) (now : ℕ) (from : A
   signed_so : k.sign ≡ hmac (sign_key_of setup.secret) k.before
   signed_so =
       signed_here setup.secret b.chunk.payload k.before k.sign a.sign
-      (subst (λ (x : List ℕ). IsSigned x b.chunk.payload a.sign) (one_secret secrets setup.generation a.reads.opens.secret setup.secret a.reads.opens.known known)
+      (subst (λ (x : List ℕ). IsSigned x b.chunk.payload a.sign) (one_secret secrets setup.generation a.reads.opens.secret setup.secret (ap (get secrets) (sym first) ∙ a.reads.opens.known) known)
       (subst (λ (c : Placed). IsSigned a.reads.opens.secret c.payload a.sign) same_chunk a.signed)) one.sign_is b.payload
-
-abbrev offer_of : Joined → Offer
-offer_of j = record { peer = j.peer; n = j.n; ni = j.ni; far = j.far }
 
 pub keyings_refused : TheTableRefusesKeyings
 keyings_refused secrets setup moment from sent draws j k known b = record {
@@ -117,7 +136,7 @@ keyings_refused secrets setup moment from sent draws j k known b = record {
   other_peer = λ differ h. let says = said h in differ (h.0.0.1.by.0.peer ∙ ap sha256 says.cert_is);
   no_certificate = λ none h. let says = said h in none (subst IsCertificate says.cert_is h.0.0.1.by.0.is_cert);
   own_certificate = λ e h. let says = said h in h.0.0.1.by.0.other (says.cert_is ∙ e);
-  unsigned = λ differ h. differ (signed_so secrets setup h.0.0.1.before (max 0 moment) from sent (offer_of j) k known b h.0.0.1.by.0);
+  unsigned = λ differ h. differ (signed_so secrets setup h.0.0.1.before (max 0 moment) from sent (offer_of j) k known b h.0.0.1.by.0 (first_one secrets setup moment from sent draws j h));
   wide_cookie = λ wide h. let says = said h in let narrow = h.0.0.1.by.0.narrow in omega (arith, narrow, wide, ap length says.cookie_is);
   no_cookie = λ none h. let says = said h in let c = h.0.0.1.by.0.current in none c.0 c.1 (sym says.cookie_is ∙ c.2.bytes_are);
   moved = λ place issued is differ h.
@@ -133,7 +152,7 @@ keyings_refused secrets setup moment from sent draws j k known b = record {
 }
   where
     said : (h : IsLawful secrets setup (born_in moment (Receive from sent draws) j)) → OneKeying j.far k.near h.0.0.1.by.0.cookie k.cookie h.0.0.1.by.0.cert k.cert (initiator_part j.ni j.n (own_of setup)) k.part h.0.0.1.by.0.sign k.sign
-    said h = one secrets setup h.0.0.1.before (max 0 moment) from sent (offer_of j) k known b h.0.0.1.by.0
+    said h = one secrets setup h.0.0.1.before (max 0 moment) from sent (offer_of j) k known b h.0.0.1.by.0 (first_one secrets setup moment from sent draws j h)
 
     same_places : (x y z : AddressParts) → SamePlace x y → SamePlace y z → SamePlace x z
     same_places x y z p q = record { family = p.family ∙ q.family; host = p.host ∙ q.host; port = p.port ∙ q.port }

@@ -15,7 +15,8 @@ use Rattle.endpoint_laws.specs.Taken.{TakesChunkOf}
 use Rattle.endpoint_checks.specs.Closings.{TheTableRefusesClosings}
 use Rattle.endpoint_checks.proofs.Logs.{same}
 use Rattle.endpoint_checks.proofs.Pasts.{some_event, is_end, OneClosed, none_closing, one_closing}
-use Rattle.endpoint_checks.proofs.Ending.{holds, held_here, young}
+use Rattle.endpoint_checks.proofs.Ending.{held_here, young}
+use Rattle.endpoint_checks.proofs.Sending.{half_open_now, isnt_end}
 use Rattle.endpoint_checks.proofs.Taking.{untaken}
 use Rattle.endpoint_checks.proofs.SessionEnding.{born_now, takes_it}
 
@@ -66,28 +67,25 @@ closings_refused secrets setup moment c d e from sent draws j why = record {
   in_close = λ id h. neither _ h.1.1.0.0.by;
   early = λ h. let line = h.1.1.0.0 in in_tick 0 18999 line.at (sym (closed_so j.near line.thing line.at _ _ j why line.closing).moment_is) line.by (omega arith);
   early_later = λ h. let line = h.1.1.0.0 in in_tick 7 19006 line.at (sym (closed_so j.near line.thing line.at _ _ j why line.closing).moment_is) line.by (omega arith);
-  untaken = untaken secrets setup from sent draws j CloseAck _ _ _ _ _
+  untaken = untaken secrets setup from sent draws j CloseAck _ _ _ _ _ (refl, refl, refl, (refl, refl, refl, (refl, refl, refl, (refl, refl, refl, (refl, refl, refl, tt))))) (λ first. (refl, refl, refl, (refl, refl, refl, (refl, refl, refl, (refl, refl, refl, (refl, refl, refl, (refl, refl, refl, tt)))))))
       (λ no h. let line = h.1.1.0.0 in no (taken line.thing (closed_so j.near line.thing line.at _ _ j Near line.closing).was_held line.by))
       (λ first no h. let line = h.1.1.1.0.0 in no (taken line.thing (closed_later j.near line.thing line.at _ _ _ j Near line.closing).was_held line.by))
       (λ chunks no h. let line = h.1.1.0.0 in no (taken line.thing (closed_so j.near line.thing line.at _ _ j Near line.closing).was_held line.by))
       (λ first. _) (λ first. refl) (λ chunks. born_now j _);
-  in_time = λ closes. record {
+  in_time = λ closes before first. record {
     thing = HalfOpen j;
     at = 0;
-    closing = inl ((refl, closes, born), refl);
+    closing = inl ((refl, closes, half_open_now (bytes_eq j.peer j.peer) j _ (same j.peer j.peer refl)), refl);
     by = inr (tt, omega arith);
   };
-  by_answer = λ b. record {
+  by_answer = λ generation before first born b. record {
     thing = HalfOpen j;
     at = 0;
-    closing = inr (tt, inl ((refl, refl, born), refl));
-    by = inl (takes_it secrets setup from sent draws j CloseAck moment _ _ refl (born_now j _) b);
+    closing = inr (tt, inl ((refl, refl, half_open_now (bytes_eq j.peer j.peer) j _ (same j.peer j.peer refl)), refl));
+    by = inl (takes_it secrets setup generation from sent draws j CloseAck moment _ _ refl (born_now j _) (inr ((λ none. none), inr ((λ clash. isnt_end j.peer j.near Near j clash), inl (refl, born)))) b);
   };
 }
   where
-    born : cond (bytes_eq j.peer j.peer) (Some (HalfOpen j)) None ≡ Some (HalfOpen j)
-    born = holds (bytes_eq j.peer j.peer) (HalfOpen j) (same j.peer j.peer refl)
-
     in_tick : (begun now at : ℕ) → at ≡ begun → ⊥ ⊎ (Unit {0} × (at + 19000 ≤ now)) → now + 1 ≡ begun + 19000 → ⊥
     in_tick begun now at e (inl none) edge = none
     in_tick begun now at e (inr late) edge = young begun now at 19000 e late.1 edge

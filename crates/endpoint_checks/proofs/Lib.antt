@@ -11,5 +11,7 @@ mod SessionEnding
 mod Closing
 mod Stories
 mod Quarrels
+mod Still
 mod Stopping
 mod Searched
+mod Generations

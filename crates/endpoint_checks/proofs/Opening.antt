@@ -1,5 +1,5 @@
 -- What the table refuses of an Opened and of a Confirmed.
-use Rattle.std.proofs.Common.{ℕ, ◌≤◌, ◌<◌, List, [], length, drop, length-drop, ◌≡◌, refl, sym, ap, subst, ◌∙◌, cond, Option, Some, None, true, false, arith}
+use Rattle.std.proofs.Common.{ℕ, ◌≤◌, ◌<◌, List, [], ◌∷◌, length, drop, length-drop, ◌≡◌, refl, sym, ap, subst, ◌∙◌, cond, Option, Some, None, true, false, arith}
 use Rattle.std.specs.Prelude.{Bool}
 use Rattle.std.specs.Str.{bytes_eq}
 use Rattle.crypto_profile.specs.declared.keys.Context.TheVariants.{Startup}
@@ -13,12 +13,18 @@ use Rattle.glare_core.specs.declared.facts.Held.TheVariants.{Opening, HalfOpen}
 use Rattle.glare_core.specs.declared.facts.Joined.{Joined}
 use Rattle.glare_core.specs.Standing.{confirmed}
 use Rattle.glare_core.specs.Things.{near_of}
-use Rattle.endpoint_model.specs.Event.{Setup}
-use Rattle.endpoint_laws.specs.Contexts.{Secrets, Knows, inward, OpensUnder}
+use Rattle.endpoint_model.specs.Event.{Setup, Receive}
+use Rattle.glare_core.specs.declared.facts.Fact.TheVariants.{Born}
+use Rattle.endpoint_model.specs.declared.entry.Entry.TheVariants.{Fact as FactEntry}
+use Rattle.endpoint_laws.specs.Past.{begun, stamped}
+use Rattle.endpoint_checks.specs.Logs.{doing, says}
+use Rattle.endpoint_laws.specs.Contexts.{Secrets, inward, OpensUnder}
+use Rattle.std.specs.FinMap.{get}
+use Rattle.endpoint_checks.proofs.Still.{still_answer, still_begun}
 use Rattle.endpoint_model.specs.Keying.{IsAmong, IsSigned, chunks_of, responder_part}
-use Rattle.endpoint_laws.specs.Lawful.{AnswersAttempt}
+use Rattle.endpoint_laws.specs.Lawful.{AnswersAttempt, IsLawful}
 use Rattle.endpoint_checks.specs.Brings.{Answer, BringsAnswer}
-use Rattle.endpoint_checks.specs.Opens.{TheTableRefusesOpenings, TheTableRefusesAnswers, TheTableRefusesConfirms}
+use Rattle.endpoint_checks.specs.Opens.{opened_in, TheTableRefusesOpenings, TheTableRefusesAnswers, TheTableRefusesConfirms}
 use Rattle.endpoint_checks.proofs.Logs.{same, other}
 use Rattle.endpoint_checks.proofs.Brings.{one_secret, one_packet, one_answer, OneAnswer, only_one, signed_here}
 
@@ -63,14 +69,17 @@ openings_refused secrets setup moment c from sent draws j = record {
   other_nonce = λ ni differ h. differ (ap nonce_in (is_held (bytes_eq j.peer j.peer) (Opening j.n j.near ni) (Some (Opening j.n j.near j.ni)) (same j.peer j.peer refl) h.1.0.0.0));
   other_peer = λ peer differ h. not_held (bytes_eq peer j.peer) (Opening j.n j.near j.ni) (Opening j.n j.near j.ni) (other peer j.peer differ) h.1.0.0.0;
   session_held = λ b e h. let clash = is_held (bytes_eq b.peer j.peer) (HalfOpen b) (Some (Opening j.n j.near j.ni)) (same b.peer j.peer e) h.1.0.0.0 in cc;
-  short = λ short h. too_short sent h.1.0.0.1.reads.opens.opens.0 short;
-  under_another = λ differ h. differ h.1.0.0.1.reads.opens.id;
-  wide_count = λ wide h. let number = h.1.0.0.1.number in omega (arith, number, wide);
+  short = λ short h. too_short sent h.1.0.0.1.2.reads.opens.opens.0 short;
+  under_another = λ differ h. differ h.1.0.0.1.2.reads.opens.id;
+  unopened = λ none h.
+      let line : AnswersAttempt secrets setup.generation j sent = still_answer secrets setup _ sent (λ (g : ℕ). AnswersAttempt secrets g j sent) (refl, refl, refl, (refl, refl, refl, tt)) h.1.0.0.1 in
+      none line.reads.plain line.reads.opens;
+  wide_count = λ wide h. let number = h.1.0.0.1.2.number in omega (arith, number, wide);
 }
 
 -- ---- what the keying of the datagram says
 
-module _ (secrets : Secrets) (setup : Setup) (sent : List ℕ) (j : Joined) (a : Answer) (known : Knows secrets setup) (b : BringsAnswer secrets setup.generation j.near sent a) (line : AnswersAttempt secrets setup.generation j sent) where
+module _ (secrets : Secrets) (setup : Setup) (sent : List ℕ) (j : Joined) (a : Answer) (known : get secrets setup.generation ≡ Some setup.secret) (b : BringsAnswer secrets setup.generation j.near sent a) (line : AnswersAttempt secrets setup.generation j sent) where
   same_chunk : line.chunk ≡ b.chunk
   same_chunk =
       only_one line.chunk b.chunk (chunks_of b.packet) b.only
@@ -89,10 +98,13 @@ module _ (secrets : Secrets) (setup : Setup) (sent : List ℕ) (j : Joined) (a :
 
 pub answers_refused : TheTableRefusesAnswers
 answers_refused secrets setup moment c from sent draws j a known b = record {
-  other_far = λ differ h. let says = one secrets setup sent j a known b h.1.0.0.1 in differ (sym says.near_is);
-  other_part = λ differ h. let says = one secrets setup sent j a known b h.1.0.0.1 in differ (sym says.part_is);
-  unsigned = λ differ h. differ (signed_so secrets setup sent j a known b h.1.0.0.1);
+  other_far = λ differ h. let says = one secrets setup sent j a known b (line h) in differ (sym says.near_is);
+  other_part = λ differ h. let says = one secrets setup sent j a known b (line h) in differ (sym says.part_is);
+  unsigned = λ differ h. differ (signed_so secrets setup sent j a known b (line h));
 }
+  where
+    line : IsLawful secrets setup (opened_in moment c (Receive from sent draws) j) → AnswersAttempt secrets setup.generation j sent
+    line h = still_answer secrets setup _ sent (λ (g : ℕ). AnswersAttempt secrets g j sent) (refl, refl, refl, (refl, refl, refl, tt)) h.1.0.0.1
 
 -- ---- confirming
 
@@ -107,13 +119,15 @@ confirms_refused secrets setup moment c from sent draws j = record {
   attempt_held = λ h. let line = h.1.0.0.0 in let clash = is_held (bytes_eq j.peer j.peer) (Opening 1 j.near j.ni) (Some (HalfOpen line.j)) (same j.peer j.peer refl) line.session in cc;
   other_id = λ near differ h. let line = h.1.0.0.0 in differ (line.id ∙ sym (ap near_in (half line.j line.session)));
   again = λ d h. let line = h.1.1.0.0.0 in kept (bytes_eq j.peer j.peer) line.j (same j.peer j.peer refl) line.session;
-  short = λ short h. too_short sent h.1.0.0.1.by.1.opens.0 short;
-  under_another = λ differ h. differ h.1.0.0.1.by.1.id;
-  other_form = λ differ h. differ h.1.0.0.1.by.1.opens.2;
+  short = λ short h. too_short sent h.1.0.0.1.by.opens.opens.0 short;
+  under_another = λ differ h. differ h.1.0.0.1.by.opens.id;
+  other_form = λ differ h. differ h.1.0.0.1.by.opens.opens.2;
   unopened = λ none h.
       let line = h.1.0.0.1 in
       let is : line.j ≡ j = sym (ap (session_in j) (half line.j line.session)) in
-      none line.by.0 (subst (λ (x : Joined). OpensUnder secrets (inward setup (HalfOpen x)) j.near sent line.by.0) is line.by.1);
+      let first : line.by.generation ≡ setup.generation = still_begun secrets setup (HalfOpen line.j) line.by.generation (stamped 0 (FactEntry (Born j)) ∷ begun 0 (doing 0 c (says (Born j))) ∷ []) line.by.begun (refl, refl, refl, (refl, refl, refl, tt)) in
+      none line.by.plain (subst (λ (x : Joined). OpensUnder secrets (inward setup setup.generation (HalfOpen x)) j.near sent line.by.plain) is
+      (subst (λ (g : ℕ). OpensUnder secrets (inward setup g (HalfOpen line.j)) j.near sent line.by.plain) first line.by.opens));
 }
   where
     nothing : (x : Joined) → None ≡ Some (HalfOpen x) → ⊥

@@ -3,17 +3,23 @@ use Rattle.std.proofs.Common.{ℕ, List, [], ◌∷◌, ◌≡◌, ◌≢◌, �
 use Rattle.std.specs.Prelude.{Bool}
 use Rattle.std.specs.Str.{bytes_eq}
 use Rattle.glare_core.specs.declared.facts.Why.{Why}
+use Rattle.glare_core.specs.declared.facts.Why.TheVariants.{Glare, Override, Near}
+use Rattle.glare_core.specs.declared.facts.Fact.{Fact}
 use Rattle.glare_core.specs.declared.facts.Fact.TheVariants.{Started, Born, Opened, Confirmed, Ended}
 use Rattle.glare_core.specs.declared.facts.Held.TheVariants.{Opening, KeptAsResponder, KeptAsInitiator}
 use Rattle.glare_core.specs.declared.facts.Joined.{Joined}
 use Rattle.glare_core.specs.Tells.{Values}
 use Rattle.glare_core.specs.Steps.{Item, Did, Step, step, holding, Happened}
 use Rattle.glare_core.specs.Agreed.{AreOne, Attempt, AreCrossed}
-use Rattle.endpoint_model.specs.Event.{Setup, own_of}
-use Rattle.endpoint_laws.specs.History.{History}
+use Rattle.endpoint_model.specs.declared.entry.Entry.TheVariants.{Fact as FactEntry}
+use Rattle.endpoint_model.specs.Event.{Setup, own_of, Call, Cancel, Receive, moment_at}
+use Rattle.endpoint_laws.specs.Past.{last_moment, past_of_log, with_begun}
+use Rattle.endpoint_laws.specs.History.{History, log_of, past_at}
+use Rattle.endpoint_laws.specs.Contexts.{OpensInStartup}
 use Rattle.endpoint_laws.specs.Contexts.{Secrets}
-use Rattle.endpoint_laws.specs.Agreed.{AreAgreed}
-use Rattle.endpoint_checks.specs.Histories.{HistoriesRefuseDisagreed}
+use Rattle.endpoint_laws.specs.Agreed.{IsNumberOf, AreStated, AreAgreed}
+use Rattle.endpoint_checks.specs.Logs.{doing, says}
+use Rattle.endpoint_checks.specs.Histories.{Sent, OpensAtBoth, did, starts, bears, opens, confirms, took, HistoriesRefuseDisagreed}
 use Rattle.endpoint_checks.proofs.Logs.{same, other}
 
 -- ---- what a step is
@@ -74,7 +80,13 @@ one_birth who x b t g h early earlier none (inr later) = absurd (no_birth who b 
 
 -- ---- two ends
 
-module _ (ends : ℕ → Setup) (s t : Joined) (differ : own_of (ends 0) ≢ own_of (ends 1)) (ps : s.peer ≡ own_of (ends 1)) (pt : t.peer ≡ own_of (ends 0)) where
+-- a call that states one fact, after others
+stated_more : (secrets : Secrets) (ends : ℕ → Setup) (who moment : ℕ) (call : Call) (fact : Fact) (earlier : History) (before : List Step) (g : ℕ) → AreStated secrets ends earlier before →
+    IsNumberOf secrets (ends who) (with_begun (moment_at (last_moment 0 (log_of who earlier)) (doing moment call (says fact))) (doing moment call (says fact)) (past_of_log (log_of who earlier))) fact g →
+    AreStated secrets ends (record { who = who; event = doing moment call (says fact) } ∷ earlier) (step (own_of (ends who)) (Did fact g) ∷ before)
+stated_more secrets ends who moment call fact earlier before g stated number = (before, stated, (step (own_of (ends who)) (Did fact g) ∷ before, (g, number, refl), refl))
+
+module _ (ends : ℕ → Setup) (s t : Joined) (g h : ℕ) (differ : own_of (ends 0) ≢ own_of (ends 1)) (ps : s.peer ≡ own_of (ends 1)) (pt : t.peer ≡ own_of (ends 0)) where
   abbrev x : List ℕ
   x = own_of (ends 0)
 
@@ -82,19 +94,19 @@ module _ (ends : ℕ → Setup) (s t : Joined) (differ : own_of (ends 0) ≢ own
   y = own_of (ends 1)
 
   abbrev start : Step
-  start = step x (Did (Started s.peer s.n s.near s.ni) (ends 0).generation)
+  start = step x (Did (Started s.peer s.n s.near s.ni) 0)
 
   abbrev start_back : Step
-  start_back = step y (Did (Started t.peer t.n t.near t.ni) (ends 1).generation)
+  start_back = step y (Did (Started t.peer t.n t.near t.ni) 0)
 
   abbrev birth : Step
-  birth = step y (Did (Born t) (ends 1).generation)
+  birth = step y (Did (Born t) h)
 
   abbrev opening : Step
-  opening = step x (Did (Opened s) (ends 0).generation)
+  opening = step x (Did (Opened s) g)
 
   abbrev confirm : Step
-  confirm = step y (Did (Confirmed t.peer t.near) (ends 1).generation)
+  confirm = step y (Did (Confirmed t.peer t.near) 0)
 
   xx : bytes_eq x x ≡ true
   xx = same x x refl
@@ -155,8 +167,8 @@ module _ (ends : ℕ → Setup) (s t : Joined) (differ : own_of (ends 0) ≢ own
   crossing = record {
     attempts_x = x_tries;
     attempts_y = y_tries;
-    not_born_y = λ b g early h _ _ _. no_birth y b g early (start_back ∷ start ∷ []) no_births_yet h;
-    not_born_x = λ b g early h _ _ _. no_birth x b g early (start_back ∷ start ∷ []) no_births_yet h;
+    not_born_y = λ b k early there _ _ _. no_birth y b k early (start_back ∷ start ∷ []) no_births_yet there;
+    not_born_x = λ b k early there _ _ _. no_birth x b k early (start_back ∷ start ∷ []) no_births_yet there;
   }
 
   one_kept : (secrets : Secrets) (history : History) → AreAgreed secrets ends history (confirm ∷ opening ∷ birth ∷ start ∷ []) → AreOne s t
@@ -168,29 +180,88 @@ module _ (ends : ℕ → Setup) (s t : Joined) (differ : own_of (ends 0) ≢ own
   not_one one (inr (inr (inl d))) = d one.near
   not_one one (inr (inr (inr d))) = d one.far
 
+  -- ---- the facts of the histories, in their order
+
+  first : (secrets : Secrets) → AreStated secrets ends (starts 0 s ∷ []) (start ∷ [])
+  first secrets = stated_more secrets ends 0 0 (Cancel 0) (Started s.peer s.n s.near s.ni) [] [] 0 refl refl
+
+  second : (secrets : Secrets) (m : Sent) → OpensAtBoth secrets ends s t m g h → AreStated secrets ends (bears m 1 t ∷ starts 0 s ∷ []) (birth ∷ start ∷ [])
+  second secrets m both = stated_more secrets ends 1 0 (Receive m.from m.keying m.draws) (Born t) (starts 0 s ∷ []) (start ∷ []) h (first secrets) both.keying
+
+  third : (secrets : Secrets) (m : Sent) → OpensAtBoth secrets ends s t m g h → AreStated secrets ends (opens m 0 s ∷ bears m 1 t ∷ starts 0 s ∷ []) (opening ∷ birth ∷ start ∷ [])
+  third secrets m both = stated_more secrets ends 0 0 (Receive m.from m.answer m.draws) (Opened s) (bears m 1 t ∷ starts 0 s ∷ []) (birth ∷ start ∷ []) g (second secrets m both) both.answer
+
+  fourth : (secrets : Secrets) (m : Sent) → OpensAtBoth secrets ends s t m g h → AreStated secrets ends (confirms 1 t ∷ opens m 0 s ∷ bears m 1 t ∷ starts 0 s ∷ []) (confirm ∷ opening ∷ birth ∷ start ∷ [])
+  fourth secrets m both = stated_more secrets ends 1 0 (Cancel 0) (Confirmed t.peer t.near) (opens m 0 s ∷ bears m 1 t ∷ starts 0 s ∷ []) (opening ∷ birth ∷ start ∷ []) 0 (third secrets m both) refl
+
+  at_once : (secrets : Secrets) (m : Sent) → OpensAtBoth secrets ends s t m g h → AreStated secrets ends (opens m 0 s ∷ starts 0 s ∷ []) (opening ∷ start ∷ [])
+  at_once secrets m both = stated_more secrets ends 0 0 (Receive m.from m.answer m.draws) (Opened s) (starts 0 s ∷ []) (start ∷ []) g (first secrets) both.answer
+
+  two : (secrets : Secrets) → AreStated secrets ends (starts 1 t ∷ starts 0 s ∷ []) (start_back ∷ start ∷ [])
+  two secrets = stated_more secrets ends 1 0 (Cancel 0) (Started t.peer t.n t.near t.ni) (starts 0 s ∷ []) (start ∷ []) 0 (first secrets) refl
+
+  two_one : (secrets : Secrets) (m : Sent) → OpensAtBoth secrets ends s t m g h → AreStated secrets ends (opens m 0 s ∷ starts 1 t ∷ starts 0 s ∷ []) (opening ∷ start_back ∷ start ∷ [])
+  two_one secrets m both = stated_more secrets ends 0 0 (Receive m.from m.answer m.draws) (Opened s) (starts 1 t ∷ starts 0 s ∷ []) (start_back ∷ start ∷ []) g (two secrets) both.answer
+
+  closed : (secrets : Secrets) (m : Sent) → OpensAtBoth secrets ends s t m g h →
+      AreStated secrets ends (did 0 (says (Ended s.peer s.near Near)) ∷ confirms 1 t ∷ opens m 0 s ∷ bears m 1 t ∷ starts 0 s ∷ []) (step x (Did (Ended s.peer s.near Near) 0) ∷ confirm ∷ opening ∷ birth ∷ start ∷ [])
+  closed secrets m both =
+      stated_more secrets ends 0 0 (Cancel 0) (Ended s.peer s.near Near) (confirms 1 t ∷ opens m 0 s ∷ bears m 1 t ∷ starts 0 s ∷ []) (confirm ∷ opening ∷ birth ∷ start ∷ []) 0 (fourth secrets m both) refl
+
+  born_late : (secrets : Secrets) (m : Sent) → OpensAtBoth secrets ends s t m g h → AreStated secrets ends (bears m 1 t ∷ opens m 0 s ∷ starts 0 s ∷ []) (birth ∷ opening ∷ start ∷ [])
+  born_late secrets m both = stated_more secrets ends 1 0 (Receive m.from m.keying m.draws) (Born t) (opens m 0 s ∷ starts 0 s ∷ []) (opening ∷ start ∷ []) h (at_once secrets m both) both.keying
+
+  born_again : (secrets : Secrets) (m : Sent) → OpensAtBoth secrets ends s t m g h → (u : Joined) → OpensInStartup secrets (ends 1) (past_at 1 (bears m 1 t ∷ [])) m.keying h →
+      AreStated secrets ends (bears m 1 u ∷ bears m 1 t ∷ starts 0 s ∷ []) (step y (Did (Born u) h) ∷ birth ∷ start ∷ [])
+  born_again secrets m both u again = stated_more secrets ends 1 0 (Receive m.from m.keying m.draws) (Born u) (bears m 1 t ∷ starts 0 s ∷ []) (birth ∷ start ∷ []) h (second secrets m both) again
+
+  both_open : (secrets : Secrets) (m : Sent) → OpensAtBoth secrets ends s t m g h → AreStated secrets ends (opens m 1 t ∷ opens m 0 s ∷ starts 1 t ∷ starts 0 s ∷ []) (step y (Did (Opened t) h) ∷ opening ∷ start_back ∷ start ∷ [])
+  both_open secrets m both = stated_more secrets ends 1 0 (Receive m.from m.answer m.draws) (Opened t) (opens m 0 s ∷ starts 1 t ∷ starts 0 s ∷ []) (opening ∷ start_back ∷ start ∷ []) h (two_one secrets m both) both.keying_after
+
+  gave_way : (secrets : Secrets) (near : ℕ) → AreStated secrets ends (did 0 (says (Ended s.peer near Glare)) ∷ starts 0 s ∷ []) (step x (Did (Ended s.peer near Glare) 0) ∷ start ∷ [])
+  gave_way secrets near = stated_more secrets ends 0 0 (Cancel 0) (Ended s.peer near Glare) (starts 0 s ∷ []) (start ∷ []) 0 (first secrets) refl
+
+  overrode : (secrets : Secrets) (m : Sent) → OpensAtBoth secrets ends s t m g h → (near : ℕ) → AreStated secrets ends (did 0 (says (Ended s.peer near Override)) ∷ opens m 0 s ∷ starts 0 s ∷ []) (step x (Did (Ended s.peer near Override) 0) ∷ opening ∷ start ∷ [])
+  overrode secrets m both near = stated_more secrets ends 0 0 (Cancel 0) (Ended s.peer near Override) (opens m 0 s ∷ starts 0 s ∷ []) (opening ∷ start ∷ []) 0 (at_once secrets m both) refl
+
 pub disagreed_refused : HistoriesRefuseDisagreed
-disagreed_refused secrets ends s t differ ps pt = record {
-  kept = λ apart h. not_one ends s t differ ps pt (one_kept ends s t differ ps pt secrets _ (h _ (inl refl))) apart;
-  kept_before = λ apart h. not_one ends s t differ ps pt (one_kept ends s t differ ps pt secrets _ (h _ (inr (inl refl)))) (inr (inl apart));
-  unborn = λ h. let one = (h _ (inl refl)).opened (own_of (ends 0)) s (ends 0).generation _ (inl refl) in no_birth s.peer one.t _ one.early _ (none_born ends s t differ ps pt) one.born;
-  born_later = λ h. let one = (h _ (inl refl)).opened (own_of (ends 0)) s (ends 0).generation _ (inr (inl refl)) in no_birth s.peer one.t _ one.early _ (none_born ends s t differ ps pt) one.born;
-  other_count = λ apart h.
-      let one = (h _ (inl refl)).opened (own_of (ends 0)) s (ends 0).generation _ (inl refl) in
-      apart (sym (ap (λ (j : Joined). j.k) (one_birth s.peer (own_of (ends 1)) one.t t _ _ one.early _ (none_born ends s t differ ps pt) one.born)) ∙ one.k);
-  other_id = λ apart h.
-      let one = (h _ (inl refl)).opened (own_of (ends 0)) s (ends 0).generation _ (inl refl) in
-      apart (sym (ap (λ (j : Joined). j.near) (one_birth s.peer (own_of (ends 1)) one.t t _ _ one.early _ (none_born ends s t differ ps pt) one.born)) ∙ ap (λ (v : Values). v.near_r) one.values);
-  other_keys = λ secret to_responder n ni known apart h. apart (((h _ (inl refl)).keys 0 1 s t (ends 0).generation (ends 1).generation _ _ (inl refl) (inr (inl refl)) (inl refl) (inr (inl refl)) ps n ni).1 secret to_responder known);
-  other_generation = λ n ni apart h. apart ((h _ (inl refl)).keys 0 1 s t (ends 0).generation (ends 1).generation _ _ (inl refl) (inr (inl refl)) (inl refl) (inr (inl refl)) ps n ni).0;
-  twice = λ u n ni peer un uni apart h.
-      apart ((h _ (inl refl)).started (own_of (ends 0)) s.peer s.n s.near s.ni (ends 0).generation [] (inr (inr (inl refl))) (own_of (ends 1)) (own_of (ends 1)) t u (ends 1).generation (ends 1).generation _ _ (inr (inl refl)) pt n ni (inl refl) (peer ∙ pt) un uni).1;
-  crossed = λ h.
-      let over = (h _ (inl refl)).over (own_of (ends 0)) (own_of (ends 1)) (attempt ends s t differ ps pt) (back ends s t differ ps pt) _ _ (inr (inl refl)) (crossing ends s t differ ps pt) (s, (ends 0).generation, inl refl, ps, refl) in
-      no_end (own_of (ends 1)) (own_of (ends 0)) over.0 over.1 over.2 over.3 _ (no_ends_yet ends s t differ ps pt) over.4;
-  both = λ h.
-      (h _ (inl refl)).one (own_of (ends 0)) (own_of (ends 1)) (attempt ends s t differ ps pt) (back ends s t differ ps pt) _ _ _ (inr (inr (inl refl))) (crossing ends s t differ ps pt) (s, (ends 0).generation, inr (inl refl), ps, refl) (t, (ends 1).generation, inl refl, pt, refl);
-  spared = λ near above h. (h _ (inl refl)).spared (own_of (ends 0)) s.peer near (ends 0).generation _ (inl refl) above;
-  overridden = λ near h.
-      let ended = (h _ (inl refl)).late (own_of (ends 0)) s.peer near (ends 0).generation s _ (inl refl) (inl (x_kept ends s t differ ps pt)) in
-      no_end s.peer (own_of (ends 0)) ended.near ended.why ended.g ended.early _ (none_ended ends s t differ ps pt) ended.ended;
+disagreed_refused secrets ends s t m g h differ ps pt both = record {
+  kept = λ apart a. not_one ends s t g h differ ps pt (one_kept ends s t g h differ ps pt secrets _ (a.moments _ _ (fourth ends s t g h differ ps pt secrets m both) (inl refl))) apart;
+  kept_before = λ apart a.
+      not_one ends s t g h differ ps pt
+      (one_kept ends s t g h differ ps pt secrets _
+      (a.moments _ _ (closed ends s t g h differ ps pt secrets m both) (inr (inl refl)))) (inr (inl apart));
+  unborn = λ a.
+      let one = (a.moments _ _ (at_once ends s t g h differ ps pt secrets m both) (inl refl)).opened (own_of (ends 0)) s g _ (inl refl) in
+      no_birth s.peer one.t _ one.early _ (none_born ends s t g h differ ps pt) one.born;
+  born_later = λ a.
+      let one = (a.moments _ _ (born_late ends s t g h differ ps pt secrets m both) (inl refl)).opened (own_of (ends 0)) s g _ (inr (inl refl)) in
+      no_birth s.peer one.t _ one.early _ (none_born ends s t g h differ ps pt) one.born;
+  other_count = λ apart a.
+      let one = (a.moments _ _ (third ends s t g h differ ps pt secrets m both) (inl refl)).opened (own_of (ends 0)) s g _ (inl refl) in
+      apart (sym (ap (λ (j : Joined). j.k) (one_birth s.peer (own_of (ends 1)) one.t t _ _ one.early _ (none_born ends s t g h differ ps pt) one.born)) ∙ one.k);
+  other_id = λ apart a.
+      let one = (a.moments _ _ (third ends s t g h differ ps pt secrets m both) (inl refl)).opened (own_of (ends 0)) s g _ (inl refl) in
+      apart (sym (ap (λ (j : Joined). j.near) (one_birth s.peer (own_of (ends 1)) one.t t _ _ one.early _ (none_born ends s t g h differ ps pt) one.born)) ∙ ap (λ (v : Values). v.near_r) one.values);
+  other_keys = λ secret to_responder n ni known apart a.
+      apart (((a.moments _ _ (third ends s t g h differ ps pt secrets m both) (inl refl)).keys 0 1 s t g h _ _ (inl refl) (inr (inl refl)) (inl refl) (inr (inl refl)) ps n ni).1 secret to_responder known);
+  other_generation = λ n ni apart a. apart ((a.moments _ _ (third ends s t g h differ ps pt secrets m both) (inl refl)).keys 0 1 s t g h _ _ (inl refl) (inr (inl refl)) (inl refl) (inr (inl refl)) ps n ni).0;
+  twice = λ u n ni peer un uni apart again a.
+      apart ((a.moments _ _ (born_again ends s t g h differ ps pt secrets m both u again) (inl refl)).started (own_of (ends 0)) s.peer s.n s.near s.ni 0 [] (inr (inr (inl refl))) (own_of (ends 1)) (own_of (ends 1)) t u h h _ _ (inr (inl refl)) pt n ni (inl refl) (peer ∙ pt) un uni).1;
+  twice_at_once = λ u n ni peer un uni apart a.
+      let after : List Step = birth ends s t g h differ ps pt ∷ start ends s t g h differ ps pt ∷ [] in
+      let more : List Step = step (own_of (ends 1)) (Did (Born u) h) ∷ after in
+      let stated : AreStated secrets ends (took 1 m.from m.keying m.draws (FactEntry (Born t) ∷ FactEntry (Born u) ∷ []) ∷ starts 0 s ∷ []) more =
+      (start ends s t g h differ ps pt ∷ [], first ends s t g h differ ps pt secrets, (after, (h, both.keying, refl), (more, (h, both.keying, refl), refl))) in
+      apart ((a.moments _ _ stated (inl refl)).started (own_of (ends 0)) s.peer s.n s.near s.ni 0 [] (inr (inr (inl refl))) (own_of (ends 1)) (own_of (ends 1)) t u h h _ _ (inr (inl refl)) pt n ni (inl refl) (peer ∙ pt) un uni).1;
+  crossed = λ a.
+      let over = (a.moments _ _ (two_one ends s t g h differ ps pt secrets m both) (inl refl)).over (own_of (ends 0)) (own_of (ends 1)) (attempt ends s t g h differ ps pt) (back ends s t g h differ ps pt) _ _ (inr (inl refl)) (crossing ends s t g h differ ps pt) (s, g, inl refl, ps, refl) in
+      no_end (own_of (ends 1)) (own_of (ends 0)) over.0 over.1 over.2 over.3 _ (no_ends_yet ends s t g h differ ps pt) over.4;
+  both = λ a.
+      (a.moments _ _ (both_open ends s t g h differ ps pt secrets m both) (inl refl)).one (own_of (ends 0)) (own_of (ends 1)) (attempt ends s t g h differ ps pt) (back ends s t g h differ ps pt) _ _ _ (inr (inr (inl refl))) (crossing ends s t g h differ ps pt) (s, g, inr (inl refl), ps, refl) (t, h, inl refl, pt, refl);
+  spared = λ near above a.
+      (a.moments _ _ (gave_way ends s t g h differ ps pt secrets near) (inl refl)).spared (own_of (ends 0)) s.peer near 0 _ (inl refl) above;
+  overridden = λ near a.
+      let ended = (a.moments _ _ (overrode ends s t g h differ ps pt secrets m both near) (inl refl)).late (own_of (ends 0)) s.peer near 0 s _ (inl refl) (inl (x_kept ends s t g h differ ps pt)) in
+      no_end s.peer (own_of (ends 0)) ended.near ended.why ended.g ended.early _ (none_ended ends s t g h differ ps pt) ended.ended;
 }

@@ -19,20 +19,21 @@ use Rattle.endpoint_checks.specs.Searches.{TheTableRefusesSeeks, TheTableRefuses
 use Rattle.endpoint_checks.proofs.Brings.{one_packet, one_hello, OneHello, only_one}
 use Rattle.endpoint_checks.proofs.Ending.{young}
 use Rattle.endpoint_checks.proofs.Opening.{too_short}
+use Rattle.endpoint_checks.proofs.Still.{still_answer}
 
 -- ---- beginning
 
 pub seeks_refused : TheTableRefusesSeeks
 seeks_refused secrets setup moment candidates draws name near = record {
-  in_open = λ peer h. h.0.0.by;
-  in_unseek = λ id h. h.0.0.by;
-  in_receive = λ from datagram h. h.0.0.by;
-  in_tick = λ h. h.0.0.by;
-  other_name = λ other differ h. differ h.0.0.by;
-  zero = λ h. h.0.0.id.some refl;
-  of_search = λ other drawn h. let clash : true ≡ false = h.1.0.0.id.unused in cc;
-  of_attempt = λ c peer nonce h. let clash : true ≡ false = h.1.0.0.id.unused in cc;
-  of_born = λ c j e h. let clash = ap (λ (x : ℕ). list_any (λ id. id == 5) (x ∷ [])) (sym e) ∙ h.1.0.0.id.unused in cc;
+  in_open = λ peer h. h.0.0.0.by;
+  in_unseek = λ id h. h.0.0.0.by;
+  in_receive = λ from datagram h. h.0.0.0.by;
+  in_tick = λ h. h.0.0.0.by;
+  other_name = λ other differ h. differ h.0.0.0.by;
+  zero = λ h. h.0.0.0.id.some refl;
+  of_search = λ other drawn h. let clash : true ≡ false = h.1.0.0.0.id.unused in cc;
+  of_attempt = λ c peer nonce h. let clash : true ≡ false = h.1.0.0.0.id.unused in cc;
+  of_born = λ c j e h. let clash = ap (λ (x : ℕ). list_any (λ id. id == 5) (x ∷ [])) (sym e) ∙ h.1.0.0.0.id.unused in cc;
 }
 
 -- ---- the search that stands, looked for through what was done
@@ -70,22 +71,22 @@ no_end call near at now Idle one other ends = ends
 
 pub unseeks_refused : TheTableRefusesUnseeks
 unseeks_refused secrets setup moment candidates drawn draws name = record {
-  in_open = λ peer h. h.1.0.0.by;
-  in_receive = λ from datagram h. h.1.0.0.by;
-  in_tick = λ h. h.1.0.0.by;
-  in_cancel = λ n h. h.1.0.0.by;
-  in_close = λ id h. h.1.0.0.by;
-  of_another = λ id differ h. differ h.1.0.0.by;
-  by_unseek = λ at id h. h.1.0.0.by.0;
-  by_receive = λ at from datagram h. h.1.0.0.by.0;
-  early = λ h. let line = h.1.0.0 in young 0 94999 line.at 95000 (sym (the_one (passed line.stands)).1) line.by.1 (omega arith);
-  early_later = λ h. let line = h.1.0.0 in young 7 95006 line.at 95000 (sym (the_one (passed line.stands)).1) line.by.1 (omega arith);
-  other_end = λ call why one other h. let line = h.1.0.0 in no_end call 5 line.at _ why one other line.by;
-  other_id = λ call near why differ h. differ (sym (the_one (passed h.1.0.0.stands)).0.0);
-  of_nothing = λ call near why h. passed h.0.0.stands;
-  of_attempt = λ c call peer nonce why h. gone_by_start (passed h.1.0.0.stands);
-  again = λ call why h. gone_by_end (passed h.1.1.0.0.stands);
-  answered = λ c call peer why h. gone_by_start (passed h.1.1.0.0.stands);
+  in_open = λ peer h. h.1.0.0.0.by;
+  in_receive = λ from datagram h. h.1.0.0.0.by;
+  in_tick = λ h. h.1.0.0.0.by;
+  in_cancel = λ n h. h.1.0.0.0.by;
+  in_close = λ id h. h.1.0.0.0.by;
+  of_another = λ id differ h. differ h.1.0.0.0.by;
+  by_unseek = λ at id h. h.1.0.0.0.by.0;
+  by_receive = λ at from datagram h. h.1.0.0.0.by.0;
+  early = λ h. let line = h.1.0.0.0 in young 0 94999 line.at 95000 (sym (the_one (passed line.stands)).1) line.by.1 (omega arith);
+  early_later = λ h. let line = h.1.0.0.0 in young 7 95006 line.at 95000 (sym (the_one (passed line.stands)).1) line.by.1 (omega arith);
+  other_end = λ call why one other h. let line = h.1.0.0.0 in no_end call 5 line.at _ why one other line.by;
+  other_id = λ call near why differ h. differ (sym (the_one (passed h.1.0.0.0.stands)).0.0);
+  of_nothing = λ call near why h. passed h.0.0.0.stands;
+  of_attempt = λ c call peer nonce why h. gone_by_start (passed h.1.0.0.0.stands);
+  again = λ call why h. gone_by_end (passed h.1.1.0.0.0.stands);
+  answered = λ c call peer why h. gone_by_start (passed h.1.1.0.0.0.stands);
   in_time = record {
     which = record { name = name; tag = drawn.tag; ni = drawn.nonce };
     at = 0;
@@ -103,15 +104,17 @@ by_hello (inr hello) = hello
 pub searches_refused : TheTableRefusesSearches
 searches_refused secrets setup moment candidates drawn draws name from sent peer = record {
   in_tick = λ h. by_hello h.1.0.0.1;
-  no_search = λ near ni h. passed (by_hello h.0.0.1).stands;
-  over = λ c why h. gone_by_end (passed (by_hello h.1.1.0.0.1).stands);
-  again = λ c d other h. gone_by_start (passed (passed (passed (by_hello h.1.1.1.0.0.1).stands)));
-  other_near = λ near differ h. differ (sym (the_one (passed (by_hello h.1.0.0.1).stands)).0.0);
-  other_nonce = λ ni differ h. differ (the_one (passed (by_hello h.1.0.0.1).stands)).0.2.1;
+  no_search = λ near ni h. passed (by_hello h.0.0.1).2.stands;
+  over = λ c why h. gone_by_end (passed (by_hello h.1.1.0.0.1).2.stands);
+  again = λ c d other h. gone_by_start (passed (passed (passed (by_hello h.1.1.1.0.0.1).2.stands)));
+  other_near = λ near differ h. differ (sym (the_one (passed (by_hello h.1.0.0.1).2.stands)).0.0);
+  other_nonce = λ ni differ h. differ (the_one (passed (by_hello h.1.0.0.1).2.stands)).0.2.1;
   other_number = λ n differ h. differ h.1.0.0.0.next;
-  under_id = λ differ h. let hello = by_hello h.1.0.0.1 in differ hello.reads.opens.id;
-  short = λ short h. let hello = by_hello h.1.0.0.1 in too_short sent hello.reads.opens.opens.0 short;
-  unopened = λ none h. let hello = by_hello h.1.0.0.1 in none hello.reads.plain hello.reads.opens;
+  under_id = λ differ h. let hello = by_hello h.1.0.0.1 in differ hello.2.reads.opens.id;
+  short = λ short h. let hello = by_hello h.1.0.0.1 in too_short sent hello.2.reads.opens.opens.0 short;
+  unopened = λ none h.
+      let hello : AnswersSearch secrets setup.generation _ sent peer 1 5 drawn.nonce = still_answer secrets setup _ sent (λ (g : ℕ). AnswersSearch secrets g _ sent peer 1 5 drawn.nonce) (refl, refl, refl, (refl, refl, refl, tt)) (by_hello h.1.0.0.1) in
+      none hello.reads.plain hello.reads.opens;
 }
 
 -- what the hello of the datagram says
@@ -129,15 +132,15 @@ module _ (secrets : Secrets) (generation : ℕ) (past : Past) (sent peer : List 
 pub hellos_refused : TheTableRefusesHellos
 hellos_refused secrets setup moment candidates drawn draws name from sent peer hello b = record {
   other_tag = λ differ h.
-      let line = by_hello h.1.0.0.1 in
+      let line : AnswersSearch secrets setup.generation _ sent peer 1 5 drawn.nonce = still_answer secrets setup _ sent (λ (g : ℕ). AnswersSearch secrets g _ sent peer 1 5 drawn.nonce) (refl, refl, refl, (refl, refl, refl, tt)) (by_hello h.1.0.0.1) in
       differ (sym (one secrets setup.generation _ sent peer 1 5 drawn.nonce hello b line).tag_is ∙ (the_one (passed line.stands)).0.2.0);
   other_name = λ differ h.
-      let line = by_hello h.1.0.0.1 in
+      let line : AnswersSearch secrets setup.generation _ sent peer 1 5 drawn.nonce = still_answer secrets setup _ sent (λ (g : ℕ). AnswersSearch secrets g _ sent peer 1 5 drawn.nonce) (refl, refl, refl, (refl, refl, refl, tt)) (by_hello h.1.0.0.1) in
       differ (sym ((the_one (passed line.stands)).0.1 ∙ ap (drop 16) (one secrets setup.generation _ sent peer 1 5 drawn.nonce hello b line).cert_is));
   other_peer = λ differ h.
-      let line = by_hello h.1.0.0.1 in
+      let line : AnswersSearch secrets setup.generation _ sent peer 1 5 drawn.nonce = still_answer secrets setup _ sent (λ (g : ℕ). AnswersSearch secrets g _ sent peer 1 5 drawn.nonce) (refl, refl, refl, (refl, refl, refl, tt)) (by_hello h.1.0.0.1) in
       differ (line.peer_is ∙ ap sha256 (one secrets setup.generation _ sent peer 1 5 drawn.nonce hello b line).cert_is);
   no_certificate = λ none h.
-      let line = by_hello h.1.0.0.1 in
+      let line : AnswersSearch secrets setup.generation _ sent peer 1 5 drawn.nonce = still_answer secrets setup _ sent (λ (g : ℕ). AnswersSearch secrets g _ sent peer 1 5 drawn.nonce) (refl, refl, refl, (refl, refl, refl, tt)) (by_hello h.1.0.0.1) in
       none (subst IsCertificate (one secrets setup.generation _ sent peer 1 5 drawn.nonce hello b line).cert_is line.is_cert);
 }

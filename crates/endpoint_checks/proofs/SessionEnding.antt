@@ -1,5 +1,5 @@
 -- What the table refuses of an Ended of a session that nothing overrides.
-use Rattle.std.proofs.Common.{ℕ, ◌+◌, ◌≤◌, ◌==◌, List, [], ◌∷◌, ◌≡◌, inl, inr, sym, ap, subst, refl, cond, Some, None, true, false, ◌∙◌, arith}
+use Rattle.std.proofs.Common.{ℕ, ◌+◌, ◌≤◌, ◌==◌, List, [], ◌∷◌, ◌≡◌, inl, inr, sym, ap, subst, refl, cond, Option, Some, None, true, false, ◌∙◌, arith}
 use Rattle.std.specs.Prelude.{Bool, if◌then◌else◌}
 use Rattle.std.proofs.lemmas.Bool.{eq-eqb}
 use Rattle.std.specs.Str.{bytes_eq}
@@ -8,7 +8,7 @@ use Rattle.rtmfp_chunks.specs.Chunk.{Chunk, Close as CloseChunk}
 use Rattle.glare_core.specs.declared.facts.Why.{Why}
 use Rattle.glare_core.specs.declared.facts.Why.TheVariants.{Unconfirmed, Near, Far, Idle}
 use Rattle.glare_core.specs.declared.facts.Fact.{Fact}
-use Rattle.glare_core.specs.declared.facts.Fact.TheVariants.{Started, Born, Opened}
+use Rattle.glare_core.specs.declared.facts.Fact.TheVariants.{Started, Born, Opened, Confirmed}
 use Rattle.glare_core.specs.declared.facts.Held.{Held}
 use Rattle.glare_core.specs.declared.facts.Held.TheVariants.{Opening, HalfOpen, KeptAsResponder, KeptAsInitiator}
 use Rattle.glare_core.specs.declared.facts.Joined.{Joined}
@@ -17,16 +17,19 @@ use Rattle.glare_core.specs.Stands.{Ends}
 use Rattle.glare_core.specs.Things.{IsHalfOpen, IsKept, near_of}
 use Rattle.endpoint_model.specs.declared.config.Draws.{Draws}
 use Rattle.endpoint_model.specs.declared.entry.Entry.TheVariants.{Fact as FactEntry}
-use Rattle.endpoint_model.specs.Event.{Setup, own_of, Call, Event}
-use Rattle.endpoint_laws.specs.Contexts.{Secrets}
+use Rattle.endpoint_model.specs.Event.{Setup, own_of, Call, Receive, Event}
+use Rattle.endpoint_checks.specs.Logs.{doing, says}
+use Rattle.endpoint_laws.specs.Contexts.{Secrets, BegunUnder}
 use Rattle.endpoint_laws.specs.Past.{Past, WasDone, begun, stamped, Taken, taken_since}
-use Rattle.endpoint_laws.specs.Lawful.{BeganWith}
+use Rattle.endpoint_laws.specs.Contexts.{BeganWith}
 use Rattle.endpoint_laws.specs.Taken.{count_in, IsNewAfter, Passes, TakesChunkOf, TookAt}
 use Rattle.endpoint_checks.specs.Takes.{context_here, ComesIn, Brings}
 use Rattle.endpoint_checks.specs.SessionEnds.{OthersRefused, TheTableRefusesUnconfirmed, TheTableRefusesNears, TheTableRefusesFars, TheTableRefusesIdles}
 use Rattle.endpoint_checks.proofs.Logs.{same, other}
-use Rattle.endpoint_checks.proofs.Pasts.{was_at, was_once, was_twice}
+use Rattle.endpoint_checks.proofs.Pasts.{some_event, was_at, was_once, was_twice}
 use Rattle.endpoint_checks.proofs.Ending.{holds, held_here, isnt_it, no_thing, young}
+use Rattle.endpoint_checks.proofs.Sending.{half_open_now}
+use Rattle.endpoint_checks.proofs.Still.{still_begun}
 use Rattle.endpoint_checks.proofs.Taking.{untaken}
 
 -- ---- what is held
@@ -50,9 +53,12 @@ opened_here : (peer : List ℕ) (j : Joined) (n near : ℕ) (ni : List ℕ) (y :
     cond (bytes_eq peer peer) (opened j (cond (bytes_eq peer peer) (Some (Opening n near ni)) None)) (cond (bytes_eq peer peer) (Some (Opening n near ni)) None) ≡ Some y → KeptAsInitiator j ≡ y
 opened_here peer j n near ni y is = opened_is (bytes_eq peer peer) j n near ni y (same peer peer refl) is
 
-keeps : (b : Bool) (j : Joined) → b ≡ true → cond b (confirmed (cond b (Some (HalfOpen j)) None)) (cond b (Some (HalfOpen j)) None) ≡ Some (KeptAsResponder j)
-keeps true j e = refl
-keeps false j e = absurd (cc)
+keeps : (b : Bool) (j : Joined) (o : Option Held) → b ≡ true → cond b (confirmed (cond b (Some (HalfOpen j)) o)) (cond b (Some (HalfOpen j)) o) ≡ Some (KeptAsResponder j)
+keeps true j o e = refl
+keeps false j o e = absurd (cc)
+
+isnt_confirmed : (peer : List ℕ) (near : ℕ) (j : Joined) → Confirmed peer near ≡ Born j → ⊥
+isnt_confirmed peer near j e = cc
 
 others_refused : (secrets : Secrets) (setup : Setup) (moment : ℕ) (c call : Call) (j : Joined) (why : Why) → ((peer : List ℕ) (n near : ℕ) (ni : List ℕ) → Ends (own_of setup) peer why (Opening n near ni) → ⊥) → OthersRefused secrets setup moment c call j why
 others_refused secrets setup moment c call j why no_attempt = record {
@@ -105,14 +111,6 @@ nears_refused secrets setup moment c from sent draws j = record {
 
 -- ---- far
 
--- nothing was taken since a session began
-abbrev no_datagrams : List Taken
-no_datagrams = []
-
-none_since : (b : Bool) → (if b then no_datagrams else no_datagrams) ≡ no_datagrams
-none_since true = refl
-none_since false = refl
-
 since_birth : (b : Bool) (others : List Taken) → b ≡ true → (if b then [] else others) ≡ []
 since_birth true others e = refl
 since_birth false others e = absurd (cc)
@@ -121,29 +119,31 @@ pub born_now : (j : Joined) (others : List Taken) → (if j.near == j.near then 
 born_now j others = since_birth (j.near == j.near) others (eq-eqb j.near j.near refl)
 
 -- a datagram that comes in the session is taken where nothing was taken before
-took_it : (secrets : Secrets) (setup : Setup) (j : Joined) (sent : List ℕ) (before : List Taken) (thing : Held) → before ≡ [] → KeptAsResponder j ≡ thing → ComesIn secrets setup j sent →
-    TookAt secrets setup thing j.near 1 (record { moment = 1; datagram = sent } ∷ before)
-took_it secrets setup j sent before thing none is comes =
-    let passes : Passes secrets setup (KeptAsResponder j) j.near before sent = record {
+took_it : (secrets : Secrets) (setup : Setup) (generation : ℕ) (j : Joined) (sent : List ℕ) (before : List Taken) (thing : Held) → before ≡ [] → KeptAsResponder j ≡ thing → ComesIn secrets setup generation j sent →
+    TookAt secrets setup generation thing j.near 1 (record { moment = 1; datagram = sent } ∷ before)
+took_it secrets setup generation j sent before thing none is comes =
+    let passes : Passes secrets setup generation (KeptAsResponder j) j.near before sent = record {
       packet = comes.packet;
       reads = comes.reads;
-      number = subst (IsNewAfter secrets (context_here setup j) j.near (count_in sent)) (sym none) comes.counted;
+      number = subst (IsNewAfter secrets (context_here setup generation j) j.near (count_in sent)) (sym none) comes.counted;
       mode_is = comes.mode;
     } in
-    let took : TookAt secrets setup (KeptAsResponder j) j.near 1 (record { moment = 1; datagram = sent } ∷ before) = inl (passes, refl) in
-    subst (λ (x : Held). TookAt secrets setup x j.near 1 (record { moment = 1; datagram = sent } ∷ before)) is took
+    let took : TookAt secrets setup generation (KeptAsResponder j) j.near 1 (record { moment = 1; datagram = sent } ∷ before) = inl (passes, refl) in
+    subst (λ (x : Held). TookAt secrets setup generation x j.near 1 (record { moment = 1; datagram = sent } ∷ before)) is took
 
-pub takes_it : (secrets : Secrets) (setup : Setup) (from : AddressParts) (sent : List ℕ) (draws : Draws) (j : Joined) (chunk : Chunk) (moment : ℕ) (past : Past) (before : List Taken) →
-    taken_since j.near past ≡ record { moment = moment; datagram = sent } ∷ before → before ≡ [] → Brings secrets setup j sent chunk →
+pub takes_it : (secrets : Secrets) (setup : Setup) (generation : ℕ) (from : AddressParts) (sent : List ℕ) (draws : Draws) (j : Joined) (chunk : Chunk) (moment : ℕ) (past : Past) (before : List Taken) →
+    taken_since j.near past ≡ record { moment = moment; datagram = sent } ∷ before → before ≡ [] → BegunUnder secrets setup (HalfOpen j) generation past → Brings secrets setup generation j sent chunk →
     TakesChunkOf secrets setup past (HalfOpen j) j.near (record { from = from; datagram = sent; draws = draws }) chunk
-takes_it secrets setup from sent draws j chunk moment past before last none b = record {
+takes_it secrets setup generation from sent draws j chunk moment past before last none begun b = record {
   moment = moment;
   before = before;
   last = last;
+  generation = generation;
+  begun = begun;
   passes = record {
     packet = b.comes.packet;
     reads = b.comes.reads;
-    number = subst (IsNewAfter secrets (context_here setup j) j.near (count_in sent)) (sym none) b.comes.counted;
+    number = subst (IsNewAfter secrets (context_here setup generation j) j.near (count_in sent)) (sym none) b.comes.counted;
     mode_is = b.comes.mode;
   };
   placed = b.placed;
@@ -158,15 +158,15 @@ fars_refused secrets setup moment c from sent draws j = record {
   in_cancel = λ m h. h.1.0.0.1.by;
   in_close = λ id h. h.1.0.0.1.by;
   in_tick = λ h. h.1.0.0.1.by;
-  untaken = untaken secrets setup from sent draws j CloseChunk _ _ _ _ _
+  untaken = untaken secrets setup from sent draws j CloseChunk _ _ _ _ _ (refl, refl, refl, (refl, refl, refl, (refl, refl, refl, tt))) (λ first. (refl, refl, refl, (refl, refl, refl, (refl, refl, refl, (refl, refl, refl, tt)))))
       (λ no h. let line = h.1.0.0.1 in no (taken line.thing line.is_held line.by))
       (λ first no h. let line = h.1.1.0.0.1 in no (taken line.thing line.is_held line.by))
       (λ chunks no h. let line = h.1.0.0.1 in no (taken line.thing line.is_held line.by))
       (λ first. _) (λ first. refl) (λ chunks. born_now j _);
-  by_close = λ b. record {
+  by_close = λ generation before e born b. record {
     thing = HalfOpen j;
-    is_held = holds (bytes_eq j.peer j.peer) (HalfOpen j) (same j.peer j.peer refl);
-    by = takes_it secrets setup from sent draws j CloseChunk moment _ _ refl (born_now j _) b;
+    is_held = half_open_now (bytes_eq j.peer j.peer) j _ (same j.peer j.peer refl);
+    by = takes_it secrets setup generation from sent draws j CloseChunk moment _ _ refl (born_now j _) (inr ((λ none. none), inl (refl, born))) b;
   };
 }
   where
@@ -198,18 +198,21 @@ idles_refused secrets setup moment c d from sent draws j = record {
   heard = λ comes h.
       let idle = h.1.1.0.0.1.1 in
       let is : KeptAsResponder j ≡ idle.thing = confirmed_here j.peer j idle.thing idle.is_held in
-      later 120000 (idle.quiet 1 (took_it secrets setup j sent _ idle.thing (born_now j _) is comes));
-  in_time = (
+      let first : idle.generation ≡ setup.generation = still_begun secrets setup idle.thing idle.generation (begun 0 some_event ∷ stamped 1 (FactEntry (Confirmed j.peer j.near)) ∷ begun 1 (doing 1 (Receive from sent draws) (says (Confirmed j.peer j.near))) ∷ stamped 0 (FactEntry (Born j)) ∷ begun 0 (doing 0 c (says (Born j))) ∷ []) idle.begun (refl, refl, refl, (refl, refl, refl, (refl, refl, refl, (refl, refl, refl, (refl, refl, refl, tt))))) in
+      later 120000 (idle.quiet 1 (took_it secrets setup idle.generation j sent _ idle.thing (born_now j _) is (subst (λ (g : ℕ). ComesIn secrets setup g j sent) (sym first) comes)));
+  in_time = λ generation before e born. (
     tt,
     record {
       thing = KeptAsResponder j;
-      is_held = keeps (bytes_eq j.peer j.peer) j (same j.peer j.peer refl);
+      is_held = keeps (bytes_eq j.peer j.peer) j _ (same j.peer j.peer refl);
       first = 0;
       fact = Born j;
       began_with = refl;
       began = inr (inl refl);
       old = omega arith;
-      quiet = λ at took. absurd (subst (λ (ts : List Taken). TookAt secrets setup (KeptAsResponder j) j.near at ts) (none_since (j.near == j.near)) took);
+      generation = generation;
+      begun = inr ((λ clash. isnt_confirmed j.peer j.near j clash), inl (refl, born));
+      quiet = λ at took. absurd (subst (λ (ts : List Taken). TookAt secrets setup generation (KeptAsResponder j) j.near at ts) (born_now j _) took);
     },
   );
 }

@@ -7,7 +7,7 @@ use Rattle.std.specs.Str.{bytes_eq}
 use Rattle.glare_core.specs.declared.facts.Held.{Held}
 use Rattle.glare_core.specs.declared.facts.Held.TheVariants.{Opening, HalfOpen}
 use Rattle.endpoint_checks.specs.Starts.{TheTableRefusesStarts}
-use Rattle.endpoint_model.specs.Event.{Setup, Event}
+use Rattle.endpoint_model.specs.Event.{Event}
 use Rattle.endpoint_laws.specs.Contexts.{Secrets}
 use Rattle.endpoint_laws.specs.Past.{IsSearch, begun, is_close}
 use Rattle.endpoint_laws.specs.Lawful.{AnswersSearch}
@@ -33,11 +33,11 @@ by_call (inl x) = x
 by_call (inr none) = absurd none
 
 -- a datagram answers no search where none began
-none_sought : {A : Type 0} (secrets : Secrets) (setup : Setup) (moment : ℕ) (e : Event) (datagram peer : List ℕ) (n near : ℕ) (ni : List ℕ) → (⊥ × A) ⊎ AnswersSearch secrets setup.generation (begun moment e ∷ []) datagram peer n near ni → ⊥
-none_sought secrets setup moment e datagram peer n near ni (inl none) = none.0
-none_sought secrets setup moment e datagram peer n near ni (inr hello) = by hello.stands
+none_sought : {A : Type 0} {B : ℕ → Type 0} (secrets : Secrets) (moment : ℕ) (e : Event) (datagram peer : List ℕ) (n near : ℕ) (ni : List ℕ) → (⊥ × A) ⊎ ((g : ℕ) × B g × AnswersSearch secrets g (begun moment e ∷ []) datagram peer n near ni) → ⊥
+none_sought secrets moment e datagram peer n near ni (inl none) = none.0
+none_sought secrets moment e datagram peer n near ni (inr hello) = by hello.2.stands
   where
-    by : IsSearch near (record { name = drop 16 hello.cert; tag = hello.tag; ni = ni }) hello.at (begun moment e ∷ []) → ⊥
+    by : IsSearch near (record { name = drop 16 hello.2.cert; tag = hello.2.tag; ni = ni }) hello.2.at (begun moment e ∷ []) → ⊥
     by (inl own) = own.0
     by (inr old) = old.2
 
@@ -45,7 +45,7 @@ pub starts_refused : TheTableRefusesStarts
 starts_refused secrets setup moment candidates draws peer n near ni = record {
   in_cancel = λ m h. (by_call h.0.0.1).0;
   in_close = λ id h. (by_call h.0.0.1).0;
-  in_receive = λ from datagram h. none_sought secrets setup _ _ datagram peer n near ni h.0.0.1;
+  in_receive = λ from datagram h. none_sought secrets _ _ datagram peer n near ni h.0.0.1;
   in_tick = λ h. (by_call h.0.0.1).0;
   other_peer = λ towards differ h. differ (by_call h.0.0.1).0.0;
   other_nonce = λ differ h. differ (by_call h.0.0.1).0.1;

@@ -9,12 +9,13 @@ use Rattle.glare_core.specs.declared.facts.Joined.{Joined}
 use Rattle.endpoint_model.specs.declared.config.Draws.{Draws}
 use Rattle.endpoint_model.specs.Event.{Setup, ReceiveCall, Receive, Answer, Done, Stopped, Event}
 use Rattle.endpoint_model.specs.Keying.{IsAmong, chunks_of}
-use Rattle.endpoint_laws.specs.Contexts.{Secrets}
+use Rattle.endpoint_laws.specs.Contexts.{Secrets, ReadsUnder}
 use Rattle.endpoint_laws.specs.Past.{Past, Taken, taken_since}
 use Rattle.endpoint_laws.specs.Taken.{count_in, IsNewAfter, TakesChunkOf}
 use Rattle.endpoint_checks.specs.Logs.{doing}
 use Rattle.endpoint_checks.specs.Takes.{context_here, UntakenRefused}
 use Rattle.endpoint_checks.proofs.Brings.{one_packet}
+use Rattle.endpoint_checks.proofs.Still.{IsStill, still_begun}
 
 abbrev pub taken_at : ℕ → List ℕ → Taken
 taken_at moment sent = record { moment = moment; datagram = sent }
@@ -39,7 +40,7 @@ too_old sent first old new = omega arith
 -- Of a chunk that the datagram of a call has to bring, at an end that did one of these before.
 module _ (secrets : Secrets) (setup : Setup) (from : AddressParts) (sent : List ℕ) (draws : Draws) (j : Joined) (chunk : Chunk) (IsRefusedOf : List Event → Answer → Type 0) (moment : ℕ) (alone : Past) (later : List ℕ →
     Past) (stopped : ℕ →
-    Past) where
+    Past) (still_alone : IsStill alone) (still_later : (first : List ℕ) → IsStill (later first)) where
   abbrev pub call : ReceiveCall
   call = record { from = from; datagram = sent; draws = draws }
 
@@ -51,15 +52,21 @@ module _ (secrets : Secrets) (setup : Setup) (from : AddressParts) (sent : List 
   untaken no_alone no_later no_stopped tail later_is stopped_is = record {
     short = λ short. no_alone (λ t. too_short sent t.passes.reads.opens.opens.0 short);
     under_another = λ differ. no_alone (λ t. differ t.passes.reads.opens.id);
-    unopened = λ none. no_alone (λ t. none t.passes.reads.plain t.passes.reads.opens);
-    other_mode = λ packet reads differ. no_alone (λ t. differ (ap (λ (p : Whole). p.head.mode) (one_packet secrets (context_here setup j) j.near sent packet t.passes.packet reads t.passes.reads) ∙ t.passes.mode_is));
+    unopened = λ none. no_alone (λ t. none (reads_here t).plain (reads_here t).opens);
+    other_mode = λ packet reads differ. no_alone (λ t. differ (ap (λ (p : Whole). p.head.mode) (one_packet secrets (context_here setup setup.generation j) j.near sent packet t.passes.packet reads (reads_here t)) ∙ t.passes.mode_is));
     no_chunk = λ packet reads none. no_alone
-        (λ t. none t.placed (subst (λ (p : Whole). IsAmong t.placed (chunks_of p)) (one_packet secrets (context_here setup j) j.near sent t.passes.packet packet t.passes.reads reads) t.among) t.spells);
-    zero = λ e. no_alone (λ t. counts secrets (context_here setup j) j.near (count_in sent) t.before t.passes.number e);
+        (λ t. none t.placed (subst (λ (p : Whole). IsAmong t.placed (chunks_of p)) (one_packet secrets (context_here setup setup.generation j) j.near sent t.passes.packet packet (reads_here t) reads) t.among) t.spells);
+    zero = λ e. no_alone (λ t. counts secrets (context_here setup t.generation j) j.near (count_in sent) t.before t.passes.number e);
     again = λ first plain opens e. no_later first (λ t. ((newer first t).0 plain opens).0 e);
     old = λ first plain opens old. no_later first (λ t. too_old (count_in sent) (count_in first) old ((newer first t).0 plain opens).1);
     not_taken = λ chunks. no_stopped chunks (λ t. nothing_taken _ t.before (sym (stopped_is chunks) ∙ t.last));
   }
     where
-      newer : (first : List ℕ) (t : TakesChunkOf secrets setup (later first) (HalfOpen j) j.near call chunk) → IsNewAfter secrets (context_here setup j) j.near (count_in sent) (taken_at 0 first ∷ tail first)
-      newer first t = subst (IsNewAfter secrets (context_here setup j) j.near (count_in sent)) (rest_is _ _ _ t.before (sym (later_is first) ∙ t.last)) t.passes.number
+      -- the session was born in the first generation
+      reads_here : (t : TakesChunkOf secrets setup alone (HalfOpen j) j.near call chunk) → ReadsUnder secrets (context_here setup setup.generation j) j.near sent t.passes.packet
+      reads_here t = subst (λ (g : ℕ). ReadsUnder secrets (context_here setup g j) j.near sent t.passes.packet) (still_begun secrets setup (HalfOpen j) t.generation alone t.begun still_alone) t.passes.reads
+
+      newer : (first : List ℕ) (t : TakesChunkOf secrets setup (later first) (HalfOpen j) j.near call chunk) → IsNewAfter secrets (context_here setup setup.generation j) j.near (count_in sent) (taken_at 0 first ∷ tail first)
+      newer first t =
+          subst (IsNewAfter secrets (context_here setup setup.generation j) j.near (count_in sent)) (rest_is _ _ _ t.before (sym (later_is first) ∙ t.last))
+          (subst (λ (g : ℕ). IsNewAfter secrets (context_here setup g j) j.near (count_in sent) t.before) (still_begun secrets setup (HalfOpen j) t.generation (later first) t.begun (still_later first)) t.passes.number)

@@ -1,5 +1,6 @@
 -- What the table refuses of a Born.
-use Rattle.std.specs.Prelude.{ℕ, ◌≡◌, ◌≢◌, ◌+◌, ◌<◌, ◌≤◌, ◌^◌, List, [], ◌∷◌, length, true}
+use Rattle.std.specs.FinMap.{get}
+use Rattle.std.specs.Prelude.{ℕ, ◌≡◌, ◌≢◌, ◌+◌, ◌<◌, ◌≤◌, ◌^◌, List, [], ◌∷◌, length, true, Some}
 use Rattle.sha2.specs.Sha256.{sha256}
 use Rattle.crypto_profile.specs.declared.keys.Context.TheVariants.{Startup}
 use Rattle.crypto_profile.specs.Hmac.{hmac}
@@ -18,7 +19,7 @@ use Rattle.endpoint_model.specs.declared.config.Draws.{Draws}
 use Rattle.endpoint_model.specs.declared.entry.Entry.TheVariants.{Fact as FactEntry}
 use Rattle.endpoint_model.specs.Event.{Setup, own_of, Call, Open, Cancel, Close, Receive, Tick, Event}
 use Rattle.endpoint_laws.specs.Past.{is_close}
-use Rattle.endpoint_laws.specs.Contexts.{Secrets, Knows, ReadsUnder}
+use Rattle.endpoint_laws.specs.Contexts.{Secrets, OpensUnder, ReadsUnder}
 use Rattle.endpoint_model.specs.Keying.{chunks_of, initiator_part}
 use Rattle.endpoint_checks.specs.Logs.{doing, says, IsRefused, joined}
 use Rattle.endpoint_checks.specs.Brings.{Keying, BringsKeying}
@@ -36,11 +37,15 @@ pub record BirthsRefused (secrets : Secrets) (setup : Setup) (moment : ℕ) (fro
   pub in_cancel : (n : ℕ) → IsRefused secrets setup (born_in moment (Cancel n) j)
   pub in_close : (near : ℕ) → IsRefused secrets setup (born_in moment (Close near) j)
   pub in_tick : IsRefused secrets setup (born_in moment (Tick draws) j)
-  -- a datagram that is too short to open, and one under another session ID than 0
+  -- a datagram that is too short to open, one under another session ID than 0, and one that doesn't
+  -- open in the startup context of the first generation
   pub short : length sent < 36 → IsRefused secrets setup (born_in moment
       (Receive from sent draws) j)
   pub other_id : sid_of sent ≢ 0 → IsRefused secrets setup (born_in moment
       (Receive from sent draws) j)
+  pub unopened : ((plain : List ℕ) →
+      OpensUnder secrets (Startup setup.generation) 0 sent plain → ⊥) →
+      IsRefused secrets setup (born_in moment (Receive from sent draws) j)
   -- a packet of another mode, and one without chunks
   pub other_mode : (packet : Whole) → ReadsUnder secrets (Startup setup.generation) 0 sent packet →
       packet.head.mode ≢ StartupMode → IsRefused secrets setup (born_in moment
@@ -169,7 +174,8 @@ abbrev pub TheTableRefusesKeyings : Type 0
 TheTableRefusesKeyings = (secrets : Secrets) (setup : Setup) (moment : ℕ) (from : AddressParts)
     (sent : List ℕ)
     (draws : Draws) (j : Joined) (k : Keying)
-    → Knows secrets setup → BringsKeying secrets setup.generation sent k →
+    → get secrets setup.generation ≡ Some setup.secret →
+    BringsKeying secrets setup.generation sent k →
     KeyingsRefused secrets setup moment from sent draws j k
 
 abbrev pub TheTableRefusesLaterBirths : Type 0

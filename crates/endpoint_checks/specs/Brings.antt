@@ -34,8 +34,8 @@ pub record Answer : Type 0 where
   pub before : List ℕ
   pub sign : List ℕ
 
--- The datagram opens in the startup context of this generation under this session ID, and a responder's
--- keying that says this is its only chunk.
+-- The datagram opens in the startup context of this generation under this session ID, and a
+-- responder's keying that says this is its only chunk.
 pub record BringsAnswer (secrets : Secrets) (generation sid : ℕ) (sent : List ℕ) (a : Answer)
     : Type 0 where
   pub packet : Whole
@@ -51,8 +51,8 @@ pub record Hello : Type 0 where
   pub cookie : List ℕ
   pub cert : List ℕ
 
--- The datagram opens in the startup context of this generation under session ID 0, and a responder's
--- hello that says this is its only chunk.
+-- The datagram opens in the startup context of this generation under session ID 0, and a
+-- responder's hello that says this is its only chunk.
 pub record BringsHello (secrets : Secrets) (generation : ℕ) (sent : List ℕ) (hello : Hello)
     : Type 0 where
   pub packet : Whole

@@ -11,9 +11,9 @@ use Rattle.endpoint_model.specs.declared.entry.Entry.{Entry}
 use Rattle.endpoint_model.specs.declared.entry.Entry.TheVariants.{Closed}
 use Rattle.endpoint_model.specs.Event.{Setup, Call, Open, Cancel, Close, Receive, Tick, Event}
 use Rattle.endpoint_laws.specs.Contexts.{Secrets}
-use Rattle.endpoint_laws.specs.Past.{is_close, with_begun}
+use Rattle.endpoint_laws.specs.Past.{Past, is_close, with_begun}
 use Rattle.endpoint_laws.specs.Lawful.{ClosedLine}
-use Rattle.endpoint_checks.specs.Logs.{answering, doing, says, IsRefused, past_of_end}
+use Rattle.endpoint_checks.specs.Logs.{answering, doing, says, IsRefused, past_of_end, WasBornIn}
 use Rattle.endpoint_checks.specs.Ends.{after_start, after_birth}
 use Rattle.endpoint_checks.specs.SessionEnds.{ends}
 use Rattle.endpoint_checks.specs.Takes.{Brings, UntakenRefused}
@@ -60,12 +60,14 @@ pub record ClosingsRefused (secrets : Secrets) (setup : Setup) (moment : ℕ) (c
       (λ more answer. IsRefused secrets setup (after_end 0 c (Close j.near) j Near
       (more ++ answering moment (Receive from sent draws) answer (over j) ∷ [])))
   -- a tick at 19,000 ms meets the line, and a datagram with an answer to a close
-  pub in_time : is_close why ≡ true →
-      ClosedLine secrets setup 19000 (Tick draws) (past_of_end j why) j.near
-  pub by_answer : Brings secrets setup j sent CloseAck →
+  pub in_time : is_close why ≡ true → (before : Past) (first : Event) →
+      ClosedLine secrets setup 19000 (Tick draws) (past_of_end before first j why) j.near
+  pub by_answer : (generation : ℕ) (before : Past) (first : Event) →
+      WasBornIn secrets setup generation before first →
+      Brings secrets setup generation j sent CloseAck →
       ClosedLine secrets setup moment (Receive from sent draws)
-      (with_begun moment (doing moment (Receive from sent draws) (over j)) (past_of_end j Near))
-      j.near
+      (with_begun moment (doing moment (Receive from sent draws) (over j))
+      (past_of_end before first j Near)) j.near
 
 abbrev pub TheTableRefusesClosings : Type 0
 TheTableRefusesClosings = (secrets : Secrets) (setup : Setup) (moment : ℕ) (c d e : Call)

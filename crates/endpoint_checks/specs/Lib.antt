@@ -11,3 +11,4 @@ pub mod Closings
 pub mod Histories
 pub mod Stops
 pub mod Searches
+pub mod Generations

@@ -7,8 +7,8 @@ use Rattle.glare_core.specs.declared.facts.Joined.{Joined}
 use Rattle.endpoint_model.specs.declared.entry.Entry.{Entry}
 use Rattle.endpoint_model.specs.declared.entry.Entry.TheVariants.{Fact as FactEntry}
 use Rattle.endpoint_model.specs.Event.{Setup, Call, Answer, Done, Event}
-use Rattle.endpoint_laws.specs.Contexts.{Secrets}
-use Rattle.endpoint_laws.specs.Past.{Past, nothing_done, with_fact}
+use Rattle.endpoint_laws.specs.Contexts.{Secrets, EventOpenedIn}
+use Rattle.endpoint_laws.specs.Past.{Past, with_begun, with_fact}
 use Rattle.endpoint_laws.specs.Lawful.{IsLawful}
 
 -- a call at a moment, what it answered, and what it added
@@ -46,10 +46,15 @@ joined peer near far ni nr = record {
 
 -- ---- pasts
 
--- A session was born at 0,
-abbrev pub past_of_birth : Joined → Past
-past_of_birth j = with_fact 0 (Born j) nothing_done
+-- After this was done, a session was born at 0 in this event,
+abbrev pub past_of_birth : Past → Event → Joined → Past
+past_of_birth before e j = with_fact 0 (Born j) (with_begun 0 e before)
 
 -- and then it ended, at 0 as well.
-abbrev pub past_of_end : Joined → Why → Past
-past_of_end j why = with_fact 0 (Ended j.peer j.near why) (past_of_birth j)
+abbrev pub past_of_end : Past → Event → Joined → Why → Past
+past_of_end before e j why = with_fact 0 (Ended j.peer j.near why) (past_of_birth before e j)
+
+-- It was born in this generation, in which the datagram of the event opened.
+abbrev pub WasBornIn : Secrets → Setup → ℕ → Past → Event → Type 0
+WasBornIn secrets setup generation before e =
+    EventOpenedIn secrets setup (with_begun 0 e before) generation

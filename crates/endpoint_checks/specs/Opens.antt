@@ -1,5 +1,7 @@
 -- What the table refuses of an Opened and of a Confirmed.
-use Rattle.std.specs.Prelude.{ℕ, ◌≡◌, ◌≢◌, ◌<◌, ◌≤◌, ◌^◌, List, [], ◌∷◌, length, drop, take, replicate, true}
+use Rattle.std.specs.FinMap.{get}
+use Rattle.std.specs.Prelude.{ℕ, ◌≡◌, ◌≢◌, ◌<◌, ◌≤◌, ◌^◌, List, [], ◌∷◌, length, drop, take, replicate, true, Some}
+use Rattle.crypto_profile.specs.declared.keys.Context.TheVariants.{Startup}
 use Rattle.crypto_profile.specs.Hmac.{hmac}
 use Rattle.crypto_profile.specs.Keys.{sign_key_of}
 use Rattle.crypto_profile.specs.Sealing.{number_of}
@@ -10,7 +12,7 @@ use Rattle.glare_core.specs.declared.facts.Joined.{Joined}
 use Rattle.glare_core.specs.Tells.{as_responder}
 use Rattle.endpoint_model.specs.declared.config.Draws.{Draws}
 use Rattle.endpoint_model.specs.Event.{Setup, own_of, Call, Open, Cancel, Close, Receive, Tick, Event}
-use Rattle.endpoint_laws.specs.Contexts.{Secrets, Knows, OpensUnder, session_context}
+use Rattle.endpoint_laws.specs.Contexts.{Secrets, OpensUnder, session_context}
 use Rattle.endpoint_model.specs.Keying.{responder_part}
 use Rattle.endpoint_checks.specs.Logs.{doing, says, IsRefused}
 use Rattle.endpoint_checks.specs.Brings.{Answer, BringsAnswer}
@@ -46,10 +48,14 @@ pub record OpeningsRefused (secrets : Secrets) (setup : Setup) (moment : ℕ) (c
   pub session_held : (b : Joined) → b.peer ≡ j.peer →
       IsRefused secrets setup (doing 0 c (says (Born b))
       ∷ doing moment (Receive from sent draws) (says (Opened j)) ∷ [])
-  -- a datagram that is too short to open, and one under another session ID
+  -- a datagram that is too short to open, one under another session ID, and one that doesn't open
+  -- in the startup context of the first generation
   pub short : length sent < 36 → IsRefused secrets setup (opened_in moment c
       (Receive from sent draws) j)
   pub under_another : sid_of sent ≢ j.near →
+      IsRefused secrets setup (opened_in moment c (Receive from sent draws) j)
+  pub unopened : ((plain : List ℕ) →
+      OpensUnder secrets (Startup setup.generation) j.near sent plain → ⊥) →
       IsRefused secrets setup (opened_in moment c (Receive from sent draws) j)
   -- a count above 64 bits
   pub wide_count : 2 ^ 64 ≤ j.k → IsRefused secrets setup (opened_in moment c
@@ -114,7 +120,8 @@ abbrev pub TheTableRefusesAnswers : Type 0
 TheTableRefusesAnswers = (secrets : Secrets) (setup : Setup) (moment : ℕ) (c : Call)
     (from : AddressParts)
     (sent : List ℕ) (draws : Draws) (j : Joined) (a : Answer)
-    → Knows secrets setup → BringsAnswer secrets setup.generation j.near sent a →
+    → get secrets setup.generation ≡ Some setup.secret →
+    BringsAnswer secrets setup.generation j.near sent a →
     AnswersRefused secrets setup moment c from sent draws j a
 
 abbrev pub TheTableRefusesConfirms : Type 0

@@ -17,12 +17,12 @@ use Rattle.glare_core.specs.declared.facts.Joined.{Joined}
 use Rattle.glare_core.specs.Tells.{as_initiator, as_responder}
 use Rattle.endpoint_model.specs.declared.entry.Entry.{Entry}
 use Rattle.endpoint_model.specs.declared.entry.Entry.TheVariants.{Fact as FactEntry, Closed, Out}
-use Rattle.endpoint_model.specs.Event.{Setup, own_of, Call}
-use Rattle.endpoint_laws.specs.Past.{is_close}
+use Rattle.endpoint_model.specs.Event.{Setup, own_of, Call, Event}
+use Rattle.endpoint_laws.specs.Past.{Past, is_close}
 use Rattle.endpoint_laws.specs.Contexts.{Secrets, generation_of, session_context}
 use Rattle.endpoint_laws.specs.Lawful.{InSession}
 use Rattle.endpoint_model.specs.Keying.{IsAmong, chunks_of, initiator_part, responder_part}
-use Rattle.endpoint_checks.specs.Logs.{doing, says, IsRefused, past_of_end}
+use Rattle.endpoint_checks.specs.Logs.{doing, says, IsRefused, past_of_end, WasBornIn}
 
 -- a datagram that goes out in a context
 abbrev pub sends : AddressParts → List ℕ → Context → List Entry
@@ -81,8 +81,8 @@ pub record HasChunk (secrets : Secrets) (context : Context) (sent : List ℕ) (c
 pub record KeyingsSentRefused (secrets : Secrets) (setup : Setup) (moment : ℕ) (c d : Call)
     (to : AddressParts) (sent : List ℕ) (context : Context) (peer ni : List ℕ) (near : ℕ)
     (cert part : List ℕ) : Type 0 where
-  -- in another context than startup's of the end's generation, as in that of another one; with
-  -- another certificate than the own one; and where no attempt is held
+  -- in another context than startup's of the first generation, where no other one is known, as in
+  -- that of another one; with another certificate than the own one; and where no attempt is held
   pub other_context : context ≢ Startup setup.generation →
       IsRefused secrets setup (doing 0 c (says (Started peer 1 5 ni))
       ∷ doing moment d (sends to sent context) ∷ [])
@@ -113,8 +113,8 @@ pub record KeyingsSentRefused (secrets : Secrets) (setup : Setup) (moment : ℕ)
 pub record AnswersSentRefused (secrets : Secrets) (setup : Setup) (moment : ℕ) (c d : Call)
     (to : AddressParts) (sent : List ℕ) (context : Context) (j : Joined) (near : ℕ) (part : List ℕ)
     : Type 0 where
-  -- in another context than startup's of the end's generation, as in that of another one, and where
-  -- no session is held
+  -- in another context than startup's of the first generation, where no other one is known, as in
+  -- that of another one, and where no session is held
   pub other_context : context ≢ Startup setup.generation →
       IsRefused secrets setup (doing 0 c (says (Born j)) ∷ doing moment d (sends to sent context)
       ∷ [])
@@ -219,9 +219,12 @@ pub record InSessionsRefused (secrets : Secrets) (setup : Setup) (moment : ℕ) 
       ∷ Closed j.near ∷ [])
       ∷ doing moment d (sends to sent (Session generation x y fp_i fp_r sid_i sid_r to_responder))
       ∷ [])
-  -- one that is closing, which either end closed, meets the line
-  pub while_closing : (why : Why) → is_close why ≡ true →
-      InSession setup (past_of_end j why) j.far (born_context setup j false)
+  -- one that is closing, which either end closed, meets the line, in the generation in which it was
+  -- born, whatever was done before
+  pub while_closing : (why : Why) → is_close why ≡ true → (before : Past) (e : Event) →
+      WasBornIn secrets setup generation before e →
+      InSession secrets setup (past_of_end before e j why) j.far
+      (session_context generation (as_responder (own_of setup) j) false)
 
 abbrev pub TheTableRefusesSends : Type 0
 TheTableRefusesSends = (secrets : Secrets) (setup : Setup) (moment : ℕ) (c : Call)

@@ -10,9 +10,9 @@ use Rattle.endpoint_model.specs.declared.config.Draws.{Draws}
 use Rattle.endpoint_model.specs.declared.entry.Entry.{Entry}
 use Rattle.endpoint_model.specs.Event.{Setup, Call, Open, Cancel, Close, Receive, Tick, Event}
 use Rattle.endpoint_laws.specs.Contexts.{Secrets}
-use Rattle.endpoint_laws.specs.Past.{with_begun, with_fact}
+use Rattle.endpoint_laws.specs.Past.{Past, nothing_done, with_begun, with_fact}
 use Rattle.endpoint_laws.specs.Lawful.{EndedLine}
-use Rattle.endpoint_checks.specs.Logs.{answering, doing, says, IsRefused, past_of_birth}
+use Rattle.endpoint_checks.specs.Logs.{answering, doing, says, IsRefused, past_of_birth, WasBornIn}
 use Rattle.endpoint_checks.specs.Ends.{after_start, after_birth}
 use Rattle.endpoint_checks.specs.Takes.{ComesIn, Brings, UntakenRefused}
 
@@ -75,7 +75,7 @@ pub record UnconfirmedRefused (secrets : Secrets) (setup : Setup) (moment : ℕ)
       (ends j Unconfirmed)))
   -- one at 20,000 ms meets the line
   pub in_time : EndedLine secrets setup 20000 (Tick draws)
-      (past_of_birth j) [] j.peer j.near Unconfirmed
+      (past_of_birth nothing_done (doing 0 c []) j) [] j.peer j.near Unconfirmed
 
 pub record NearsRefused (secrets : Secrets) (setup : Setup) (moment : ℕ) (c : Call)
     (from : AddressParts) (sent : List ℕ) (draws : Draws) (j : Joined) : Type 0 where
@@ -94,7 +94,7 @@ pub record NearsRefused (secrets : Secrets) (setup : Setup) (moment : ℕ) (c : 
       IsRefused secrets setup (after_birth c j (doing moment (Close id) (ends j Near)))
   -- a close of it meets the line
   pub by_close : EndedLine secrets setup moment (Close j.near)
-      (past_of_birth j) [] j.peer j.near Near
+      (past_of_birth nothing_done (doing 0 c []) j) [] j.peer j.near Near
 
 pub record FarsRefused (secrets : Secrets) (setup : Setup) (moment : ℕ) (c : Call)
     (from : AddressParts) (sent : List ℕ) (draws : Draws) (j : Joined) : Type 0 where
@@ -112,11 +112,14 @@ pub record FarsRefused (secrets : Secrets) (setup : Setup) (moment : ℕ) (c : C
   pub untaken : UntakenRefused secrets setup from sent draws j CloseChunk
       (λ more answer. IsRefused secrets setup (doing 0 c (says (Born j))
       ∷ more ++ answering moment (Receive from sent draws) answer (ends j Far) ∷ []))
-  -- one with a close meets the line
-  pub by_close : Brings secrets setup j sent CloseChunk →
+  -- one with a close meets the line, in the generation in which the session was born, whatever was
+  -- done before
+  pub by_close : (generation : ℕ) (before : Past) (e : Event) →
+      WasBornIn secrets setup generation before e →
+      Brings secrets setup generation j sent CloseChunk →
       EndedLine secrets setup moment (Receive from sent draws)
-      (with_begun moment (doing moment (Receive from sent draws) (ends j Far)) (past_of_birth j)) []
-      j.peer j.near Far
+      (with_begun moment (doing moment (Receive from sent draws) (ends j Far))
+      (past_of_birth before e j)) [] j.peer j.near Far
 
 pub record IdlesRefused (secrets : Secrets) (setup : Setup) (moment : ℕ) (c d : Call)
     (from : AddressParts) (sent : List ℕ) (draws : Draws) (j : Joined) : Type 0 where
@@ -146,13 +149,14 @@ pub record IdlesRefused (secrets : Secrets) (setup : Setup) (moment : ℕ) (c d 
   pub early_opened
       : IsRefused secrets setup (after_opened 7 c d j (doing 120006 (Tick draws) (ends j Idle)))
   -- and 119,999 ms after it took a datagram
-  pub heard : ComesIn secrets setup j sent →
+  pub heard : ComesIn secrets setup setup.generation j sent →
       IsRefused secrets setup (doing 0 c (says (Born j))
       ∷ doing 1 (Receive from sent draws) (says (Confirmed j.peer j.near))
       ∷ doing 120000 (Tick draws) (ends j Idle) ∷ [])
   -- one at 120,000 ms meets the line
-  pub in_time : EndedLine secrets setup 120000 (Tick draws)
-      (with_fact 0 (Confirmed j.peer j.near) (past_of_birth j)) [] j.peer j.near Idle
+  pub in_time : (generation : ℕ) (before : Past) (e : Event) →
+      WasBornIn secrets setup generation before e → EndedLine secrets setup 120000 (Tick draws)
+      (with_fact 0 (Confirmed j.peer j.near) (past_of_birth before e j)) [] j.peer j.near Idle
 
 abbrev pub TheTableRefusesUnconfirmed : Type 0
 TheTableRefusesUnconfirmed = (secrets : Secrets) (setup : Setup) (moment : ℕ) (c d : Call)

@@ -14,8 +14,8 @@ use Rattle.endpoint_model.specs.Effects.{first_due, walked_in_part}
 use Rattle.endpoint_model.specs.Event.{Receive, Tick, OutOfMemory, Stopped}
 use Rattle.endpoint_model.specs.Log.{Answers, IsStopBefore, StopsAt}
 
--- Acks go out behind all chunks alone, so none did where a chunk found no memory; and no more chunks
--- were gone through than there are.
+-- Acks go out behind all chunks alone, so none did where a chunk found no memory; and no more
+-- chunks were gone through than there are.
 pub record StopsAreInOrder : Type 0 where
   pub no_acks : (place : Place) (from : AddressParts) (draws : Draws) (s : State)
       (cs : List Placed) (count acks : ℕ) → StopsAt place from draws s cs count acks
@@ -41,9 +41,9 @@ after count = record { taken = true; chunks = count }
 abbrev pub before : ℕ → Stop
 before count = record { taken = false; chunks = count }
 
--- An answer that tells of a stop tells how many of the datagram's chunks were gone through: what the
--- end did is what these do, with some packets of acks behind them. Where the datagram wasn't taken
--- they are none, and the end did nothing.
+-- An answer that tells of a stop tells how many of the datagram's chunks were gone through: what
+-- the end did is what these do, with some packets of acks behind them. Where the datagram wasn't
+-- taken they are none, and the end did nothing.
 pub record StopsTellTheirChunks : Type 0 where
   pub taken : (s t u : State) (from : AddressParts) (datagram : List ℕ) (draws : Draws)
       (place : Place) (packet : Whole) (count : ℕ) (entries : List Entry)

@@ -8,6 +8,7 @@
 ghost use Rattle.endpoint_checks.specs.Births.{TheTableRefusesBirths, TheTableRefusesKeyings, TheTableRefusesLaterBirths};
 ghost use Rattle.endpoint_checks.specs.Closings.{TheTableRefusesClosings};
 ghost use Rattle.endpoint_checks.specs.Ends.{TheTableRefusesCancels, TheTableRefusesExpiries, TheTableRefusesWays};
+ghost use Rattle.endpoint_checks.specs.Generations.{TheTableRefusesAdvances, TheTableRefusesAnswersInOthers, TheTableRefusesComers, TheTableRefusesKeyingsInOthers, TheTableRefusesLearnts};
 ghost use Rattle.endpoint_checks.specs.Histories.{HistoriesRefuseDisagreed, HistoriesRefuseForged, HistoriesRefuseForgedInSessions, HistoriesRefuseStale};
 ghost use Rattle.endpoint_checks.specs.Opens.{TheTableRefusesAnswers, TheTableRefusesConfirms, TheTableRefusesOpenings};
 ghost use Rattle.endpoint_checks.specs.Sends.{TheTableRefusesAnswersSent, TheTableRefusesKeyingsSent, TheTableRefusesNumbers, TheTableRefusesSends, TheTableRefusesSendsInSessions};
@@ -27,8 +28,8 @@ pub fn seeks()
     ensures { TheTableRefusesSeeks }
 {}
 
-/// Searches that are over without that unseek, outside of a tick or in one that comes too early, and
-/// others than those that stand.
+/// Searches that are over without that unseek, outside of a tick or in one that comes too early,
+/// and others than those that stand.
 pub fn unseeks()
     ensures { TheTableRefusesUnseeks }
 {}
@@ -133,13 +134,14 @@ pub fn numbers()
 {}
 
 /// Initiators' keyings that go out without an attempt that is held, in another generation than the
-/// end's, or that say something else than the attempt.
+/// only one that the end has known, or that say something else than the attempt.
 pub fn keyings_sent()
     ensures { TheTableRefusesKeyingsSent }
 {}
 
 /// Responders' keyings that go out without a session that was born here and is held, in another
-/// generation than the end's, or that say something else than the session.
+/// generation than the only one that the end has known, or that say something else than the
+/// session.
 pub fn answers_sent()
     ensures { TheTableRefusesAnswersSent }
 {}
@@ -148,6 +150,37 @@ pub fn answers_sent()
 /// generation than the session's, or under another session ID than the peer's.
 pub fn sends_in_sessions()
     ensures { TheTableRefusesSendsInSessions }
+{}
+
+/// Generations that are learnt without a learn, where a next one is known, or with another number
+/// than the one after the current generation's.
+pub fn learnts()
+    ensures { TheTableRefusesLearnts }
+{}
+
+/// Generations that become the current one without an advance, where no next one is known, or with
+/// another number than the next one's.
+pub fn advances()
+    ensures { TheTableRefusesAdvances }
+{}
+
+/// Sessions that are born, and attempts that open, by a datagram that opens in none of the
+/// generations in which it may come: in none that is known, in one that was current before, or in
+/// another than that of the attempt's keying.
+pub fn comers()
+    ensures { TheTableRefusesComers }
+{}
+
+/// Initiators' keyings that go out in another generation than the responder's hello came in, or
+/// than the first keying of their attempt went out in.
+pub fn keyings_in_others()
+    ensures { TheTableRefusesKeyingsInOthers }
+{}
+
+/// Responders' keyings, and datagrams in sessions, that go out in another generation than that in
+/// which the initiator's keying came, such as the current one.
+pub fn answers_in_others()
+    ensures { TheTableRefusesAnswersInOthers }
 {}
 
 /// Histories in which an end takes a datagram that nobody sent in its context before, though it was
