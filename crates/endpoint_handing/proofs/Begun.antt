@@ -16,8 +16,9 @@ use Rattle.session_core.proofs.Keyed.{keyed_begun}
 use Rattle.endpoint_model.specs.declared.row.Row.{Row}
 use Rattle.endpoint_model.specs.declared.entry.Entry.TheVariants.{Fact as FactEntry}
 use Rattle.endpoint_model.specs.State.{Sessions, State, Did, new_row}
-use Rattle.endpoint_model.specs.Event.{Setup, first_group}
-use Rattle.endpoint_laws.specs.Groups.{HasOneGroup}
+use Rattle.endpoint_laws.specs.Contexts.{Secrets}
+use Rattle.endpoint_laws.specs.Groups.{HasSecret}
+use Rattle.endpoint_laws.proofs.Kin.{HoldsSecrets}
 use Rattle.flow_history.specs.Deeds.{Context, Begins, done, History}
 use Rattle.flow_history.specs.Lawful.{HasBegun}
 use Rattle.endpoint_handing.specs.Once.{SendsIn}
@@ -68,7 +69,7 @@ contexts_apart r p own mine j k other e = other (sym (near_is p mine k) ∙ ap n
 
 -- ---- it begins
 
--- under this secret of the group, which is the one that the end has
+-- under this secret of the group, which is one that the end has
 module _ (e : End) (facts : List Fact) (s t : State) (role : Role) (j : Joined) (from : AddressParts) (g : GroupSecret) (moment : ℕ) (rest : Sessions) where
   abbrev session : SessionState
   session = new_session j t.startup.ledger.own role from g.generation g.secret moment
@@ -79,7 +80,7 @@ module _ (e : End) (facts : List Fact) (s t : State) (role : Role) (j : Joined) 
   abbrev more : List Fact
   more = first_fact role j ∷ facts
 
-  module _ (own : t.startup.ledger.own ≡ s.startup.ledger.own) (group : HasOneGroup e.setup s → g ≡ first_group e.setup) (had : AllHad s.sessions rest) (is : t.sessions ≡ insert rest j.near (new_row session)) (h : History) (stands : Stands e facts s h) where
+  module _ (own : t.startup.ledger.own ≡ s.startup.ledger.own) (group : HoldsSecrets e.secrets s → HasSecret e.secrets g) (had : AllHad s.sessions rest) (is : t.sessions ≡ insert rest j.near (new_row session)) (h : History) (stands : Stands e facts s h) where
     mine : t.startup.ledger.own ≡ e.own
     mine = own ∙ stands.state.own
 
@@ -96,8 +97,11 @@ module _ (e : End) (facts : List Fact) (s t : State) (role : Role) (j : Joined) 
     new_kept = record {
       id = refl;
       own = mine;
-      keyed = keyed_begun (ap (λ (k : GroupSecret). k.secret) (group stands.state.one)) g.generation j t.startup.ledger.own role from moment;
-      generation = ap (λ (k : GroupSecret). k.generation) (group stands.state.one);
+      keyed = record {
+        secret = g.secret;
+        known = group stands.holds;
+        keyed = keyed_begun refl g.generation j t.startup.ledger.own role from moment;
+      };
       named = named_now e.own role j facts ∙ ap (λ (x : Context). Some x) (sym context);
       flows = subst (λ (x : Context). FlowsKept e.who x no_flows after) (sym context) (record {
         kept = none_yet;
@@ -112,7 +116,6 @@ module _ (e : End) (facts : List Fact) (s t : State) (role : Role) (j : Joined) 
       id = k.id;
       own = k.own;
       keyed = k.keyed;
-      generation = k.generation;
       named = named_still e.own role j facts q other ∙ k.named;
       flows = kept_by e.who (away row.session) row.flows (Begins c) h
           (begins_leaves_be c (away row.session) (contexts_apart role row.session.role e.own row.session.own j row.session.joined (λ (same : row.session.joined.near ≡ j.near). other (sym k.id ∙ same)))) k.flows;
@@ -133,8 +136,8 @@ module _ (e : End) (facts : List Fact) (s t : State) (role : Role) (j : Joined) 
         earlier (inl other) = inl other
         earlier (inr before) = inr (inr before)
 
-  pub does_begin : e.begins → t.startup.ledger.own ≡ s.startup.ledger.own → ((setup : Setup) → HasOneGroup setup s → HasOneGroup setup t) → (HasOneGroup e.setup s → g ≡ first_group e.setup) → AllHad s.sessions rest → t.sessions ≡ insert rest j.near (new_row session) → Does e facts s begun
-  does_begin may own one group had is h stands new =
+  pub does_begin : e.begins → t.startup.ledger.own ≡ s.startup.ledger.own → ((secrets : Secrets) → HoldsSecrets secrets s → HoldsSecrets secrets t) → (HoldsSecrets e.secrets s → HasSecret e.secrets g) → AllHad s.sessions rest → t.sessions ≡ insert rest j.near (new_row session) → Does e facts s begun
+  does_begin may own holds group had is h stands new =
       let context_of_it : Context = sends_in role e.own j in
       let later : History = done e.who (Begins context_of_it) ∷ h in
       record {
@@ -144,7 +147,8 @@ module _ (e : End) (facts : List Fact) (s t : State) (role : Role) (j : Joined) 
           lawful = ((λ was. new.0 context_of_it (sends_then e.own role j) (stands.begun context_of_it was)), stands.lawful);
           honest = (tt, stands.honest);
           begun = started own group had is h stands;
-          state = record { own = own ∙ stands.state.own; one = one e.setup stands.state.one; rows = rows_kept own group had is h stands };
+          state = record { own = own ∙ stands.state.own; rows = rows_kept own group had is h stands };
+          holds = holds e.secrets stands.holds;
         };
         log = refl;
         named = (tt, tt);

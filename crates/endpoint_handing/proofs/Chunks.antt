@@ -42,7 +42,7 @@ use Rattle.endpoint_handing.specs.Told.{sending_context, facts_onto}
 use Rattle.rtmfp_data_chunks.proofs.Fitting.{what_is_read_fits, small_next}
 use Rattle.rtmfp_data_chunks.specs.Fitting.{FitsIn, AreSmall}
 use Rattle.session_deeds.specs.Pieces.{pieces_read, pieces_behind}
-use Rattle.endpoint_laws.proofs.Kin.{one_still, group_is_one, attempt_is_one}
+use Rattle.endpoint_laws.proofs.Kin.{holds_still, group_known}
 use Rattle.endpoint_handing.proofs.Kept.{End, away, Stands, AreNew, new_split, IsStill, Hands, Does}
 use Rattle.endpoint_handing.proofs.Kept.{hands_after, does_after, does_nothing}
 use Rattle.endpoint_handing.proofs.Silent.{AreSilent, AllHad, had_it, had_left, does_silent}
@@ -80,9 +80,9 @@ module _ (e : End) (may : e.begins) (facts : List Fact) where
       let g : GroupSecret = group_at s (Startup generation) in
       let born : State = with_born s ended (Born j) from g in
       does_after e facts s middle (fact_entries ended) (record { state = born; entries = FactEntry (Born j) ∷ [] })
-      (does_silent e facts s middle (fact_entries ended) (way_silent peer o) (record { own = refl; one = λ setup one. one_still setup s _ one refl refl refl; rows = way_had s.sessions peer o }))
-      (does_begin e (facts_onto (fact_entries ended) facts) middle born Responder j from g s.moment rest may refl (λ setup one. one_still setup middle born one refl refl refl)
-      (λ one. group_is_one e.setup middle one (Startup generation)) (had_it rest) refl)
+      (does_silent e facts s middle (fact_entries ended) (way_silent peer o) (record { own = refl; holds = λ secrets holds. holds_still secrets s _ holds refl refl refl; rows = way_had s.sessions peer o }))
+      (does_begin e (facts_onto (fact_entries ended) facts) middle born Responder j from g s.moment rest may refl (λ secrets holds. holds_still secrets middle born holds refl refl refl)
+      (λ holds. group_known e.secrets middle holds (Startup generation)) (had_it rest) refl)
 
 -- so it is of all that begins
 pub begins_does : (e : End) → e.begins → Begins (DoesAlways e) (DoesAlways e)
@@ -95,8 +95,8 @@ begins_does e may = record {
   opens = λ s startup j from kin facts.
       (let g : GroupSecret = attempt_group s.group (get s.startup.attempts j.near) in
       let opened : State = with_opened (with_startup s startup) (Opened j) from g in
-      does_begin e facts s opened Initiator j from g s.moment s.sessions may kin.own (λ setup one. one_still setup (with_startup s startup) opened (kin.one setup one) refl refl refl)
-      (λ one. attempt_is_one e.setup s one j.near) (had_it s.sessions) refl);
+      does_begin e facts s opened Initiator j from g s.moment s.sessions may kin.own (λ secrets holds. holds_still secrets (with_startup s startup) opened (kin.holds secrets holds) refl refl refl)
+      (λ holds. group_known e.secrets s holds (Attempt j.near 0)) (had_it s.sessions) refl);
 }
 
 -- ---- which place takes which chunk

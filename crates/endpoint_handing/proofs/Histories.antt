@@ -1,5 +1,5 @@
 -- A history of calls and datagrams goes with a history of flows, event by event.
-use Rattle.std.proofs.Common.{◌≡◌, ℕ, ◌==◌, List, [], ◌∷◌, ◌++◌, Bool, true, false, cond}
+use Rattle.std.proofs.Common.{◌≡◌, ℕ, ◌+◌, ◌==◌, List, [], ◌∷◌, ◌++◌, Bool, true, false, cond}
 use Rattle.std.proofs.Common.{Option, Some, None, inl, inr, ◌⊎◌, refl, sym, ap, subst, ◌∙◌, arith}
 use Rattle.std.specs.Ordering.{nat_cmp}
 use Rattle.std.specs.FinMap.{get, empty, get-empty}
@@ -8,20 +8,21 @@ use Rattle.crypto_profile.specs.declared.keys.Context.{Context as Sealing}
 use Rattle.glare_core.specs.declared.facts.Fact.{Fact}
 use Rattle.glare_core.specs.Account.{AreLawful}
 use Rattle.glare_core.specs.Told.{AllDifferent}
-use Rattle.session_core.specs.Session.{IsKeyed, context_of}
+use Rattle.session_core.specs.Session.{context_of}
 use Rattle.session_flows.specs.Told.{begins_with_a}
 use Rattle.endpoint_model.specs.declared.row.Row.{Row}
 use Rattle.endpoint_model.specs.declared.entry.Entry.{Entry}
 use Rattle.endpoint_model.specs.Views.{Sending, fact_in, out_in}
 use Rattle.endpoint_model.specs.Event.{Setup, own_of, Call}
-use Rattle.endpoint_model.specs.Event.{OnFlows, Receive, Event}
+use Rattle.endpoint_model.specs.Event.{Learn, OnFlows, Receive, Event}
 use Rattle.rtmfp_forms.specs.Address.{AddressParts}
 use Rattle.endpoint_model.specs.declared.config.Draws.{Draws}
 use Rattle.endpoint_model.specs.FlowCall.{FlowCall, OpenFlow, Queue, Abandon, Finish}
 use Rattle.endpoint_model.specs.State.{State, fresh, at_moment}
 use Rattle.endpoint_model.specs.OnFlows.{flow_called_by, flow_called}
+use Rattle.endpoint_model.specs.Succession.{next_group, learning}
 use Rattle.endpoint_model.specs.Log.{Step, Answers, StandsFor}
-use Rattle.endpoint_laws.specs.Past.{fact_and, past_of, facts_of}
+use Rattle.endpoint_laws.specs.Past.{fact_and, past_of, past_of_log, facts_of, WasLearnt}
 use Rattle.endpoint_laws.specs.Laws.{IsSetup, IsCall, AreCalls}
 use Rattle.endpoint_laws.specs.Lawful.{nonces_of}
 use Rattle.endpoint_laws.specs.OpensIn.{OpensAt}
@@ -29,13 +30,12 @@ use Rattle.endpoint_laws.specs.History.{Happened, History, log_of, past_at, fact
 use Rattle.endpoint_laws.specs.History.{WasSent as WasOut}
 use Rattle.endpoint_laws.specs.History.{IsHonestCall, IsHonest as IsHonestHistory, nonces_in}
 use Rattle.endpoint_laws.specs.History.{TakesPart, IsFresh}
-use Rattle.endpoint_laws.proofs.Logged.{tied_to_log}
+use Rattle.endpoint_laws.proofs.Logged.{log_is}
 use Rattle.endpoint_laws.proofs.Opened.{opens_in_told}
-use Rattle.endpoint_laws.specs.Groups.{HasOneGroup}
+use Rattle.endpoint_laws.specs.Groups.{HasSecret}
 use Rattle.endpoint_laws.specs.Contexts.{Secrets, Knows, generation_of}
 use Rattle.endpoint_laws.specs.Agreed.{HaveOneMap}
 use Rattle.endpoint_handing.proofs.Bodies.{session_generation}
-use Rattle.endpoint_laws.proofs.Groups.{fresh_group}
 use Rattle.flow_history.specs.Deeds.{Context, back, Name, History as Flowing}
 use Rattle.flow_history.specs.Lawful.{HasBegun, IsLawful, WasSent, IsHonest}
 use Rattle.flow_history.specs.Log.{HasOrder, log_of as told_of}
@@ -47,8 +47,9 @@ use Rattle.endpoint_handing.proofs.Opening.{opened_in_order}
 use Rattle.endpoint_handing.specs.Orders.{OpensIt, HasOrder as IsOrdered}
 use Rattle.endpoint_handing.proofs.Once.{begins_once, names_sender}
 use Rattle.endpoint_handing.proofs.Pieces.{pieces_in}
-use Rattle.endpoint_laws.proofs.Kin.{one_still}
-use Rattle.endpoint_handing.proofs.Kept.{End, away, session_of, FlowsKept, RowKept, StateKept, HasStarted}
+use Rattle.endpoint_laws.proofs.Kin.{HoldsSecrets, holds_still}
+use Rattle.endpoint_handing.proofs.Kept.{End, away, session_of, FlowsKept, HasKeys, RowKept, StateKept}
+use Rattle.endpoint_handing.proofs.Kept.{HasStarted}
 use Rattle.endpoint_handing.proofs.Kept.{Stands, IsNew, AreNew}
 use Rattle.endpoint_handing.proofs.Kept.{Grows, WentIn, OutWent, OutsWent, Hands}
 use Rattle.endpoint_handing.proofs.Deeding.{kept_beside}
@@ -57,6 +58,7 @@ use Rattle.endpoint_handing.proofs.Owed.{FlowsHand, OpensAsAsked}
 use Rattle.endpoint_handing.proofs.Receiving.{with_begins, session_back, Arrives}
 use Rattle.endpoint_handing.proofs.Stepping.{GivenWith, answers_hand}
 use Rattle.endpoint_handing.proofs.Logs.{log_mine, log_beside, Before, leads_before, calls_before}
+use Rattle.endpoint_handing.proofs.Logs.{knows_before, learnt_by}
 use Rattle.endpoint_handing.proofs.Logs.{facts_mine, facts_beside, takes_part}
 use Rattle.endpoint_handing.proofs.Logs.{different_behind, nonces_different, lawful_under}
 use Rattle.endpoint_handing.proofs.Logs.{different_under}
@@ -77,11 +79,19 @@ calls_less x earlier a calls = elim (tested x.who a) [
   | inr other ↦ subst AreCalls (log_beside x earlier a other.1) calls
 ]
 
+knows_less : (secrets : Secrets) (setup : Setup) (x : Happened) (earlier : History) (a : ℕ) → Knows secrets setup (past_at a (x ∷ earlier)) → Knows secrets setup (past_at a earlier)
+knows_less secrets setup x earlier a knows = elim (tested x.who a) [
+  | inl same ↦ subst (λ (w : ℕ). Knows secrets setup (past_at w earlier)) same.0
+      (knows_before secrets setup (log_of x.who earlier) x.event
+      (subst (λ (l : List Event). Knows secrets setup (past_of_log l)) (log_mine x earlier) (subst (λ (w : ℕ). Knows secrets setup (past_at w (x ∷ earlier))) (sym same.0) knows)))
+  | inr other ↦ subst (λ (l : List Event). Knows secrets setup (past_of_log l)) (log_beside x earlier a other.1) knows
+]
+
 pub given_less : (secrets : Secrets) (ends : ℕ → Setup) (x : Happened) (earlier : History) → Given secrets ends (x ∷ earlier) → Given secrets ends earlier
 given_less secrets ends x earlier g = record {
   setup = λ who part. g.setup who (inr part);
   calls = λ who. calls_less x earlier who (g.calls who);
-  group = λ who part. g.group who (inr part);
+  group = λ who part. knows_less secrets (ends who) x earlier who (g.group who (inr part));
   honest = g.honest.1;
   fresh = record {
     nonces = different_behind (nonces_of (facts_of (past_of 0 [] (x.event ∷ [])))) (nonces_in earlier) g.fresh.nonces;
@@ -91,11 +101,11 @@ given_less secrets ends x earlier g = record {
 
 -- ---- what goes with it
 
-abbrev pub plain_end : (ℕ → Setup) → ℕ → End
-plain_end ends who = record {
+abbrev pub plain_end : Secrets → (ℕ → Setup) → ℕ → End
+plain_end secrets ends who = record {
   who = who;
   own = own_of (ends who);
-  setup = ends who;
+  secrets = secrets;
   elsewhere = λ c. ⊥;
   begins = Unit {0};
   orders = λ b n. Unit {0};
@@ -111,7 +121,7 @@ pub record Carried (secrets : Secrets) (ends : ℕ → Setup) (history : History
   pub lawful : IsLawful flows
   pub honest : IsHonest flows
   pub begun : (c : Context) → HasBegun c flows → Somewhere ends history c
-  pub kept : (a : ℕ) → StateKept (plain_end ends a) (facts_at a history) (states a) flows
+  pub kept : (a : ℕ) → StateKept (plain_end secrets ends a) (facts_at a history) (states a) flows
   pub log : told_of flows ≡ told ends history
   -- under the secret of its generation
   pub outs : (sealing : Sealing) (c : Context) (secret datagram : List ℕ) → session_of sealing ≡ Some c → get secrets (generation_of sealing) ≡ Some secret → WasOut datagram sealing history → WasSent c (pieces_in secret c datagram) flows
@@ -121,37 +131,33 @@ pub record Carried (secrets : Secrets) (ends : ℕ → Setup) (history : History
 
 -- ---- of another end, or as another one
 
-row_as : (e f : End) (facts : List Fact) (near : ℕ) (row : Row) (h : Flowing) → e.who ≡ f.who → e.own ≡ f.own → e.setup ≡ f.setup → RowKept e facts near row h → RowKept f facts near row h
-row_as e f facts near row h who own setup k = record {
+row_as : (e f : End) (facts : List Fact) (near : ℕ) (row : Row) (h : Flowing) → e.who ≡ f.who → e.own ≡ f.own → e.secrets ≡ f.secrets → RowKept e facts near row h → RowKept f facts near row h
+row_as e f facts near row h who own secrets k = record {
   id = k.id;
   own = k.own ∙ own;
-  keyed = subst (λ (given : Setup). IsKeyed given.secret row.session) setup k.keyed;
-  generation = k.generation ∙ ap (λ (given : Setup). given.generation) setup;
+  keyed = subst (λ (given : Secrets). HasKeys given row.session) secrets k.keyed;
   named = ap (λ (o : List ℕ). sending_context o near facts) (sym own) ∙ k.named;
   flows = subst (λ (w : ℕ). FlowsKept w (away row.session) row.flows h) who k.flows;
 }
 
-state_as : (e f : End) (facts : List Fact) (s : State) (h : Flowing) → e.who ≡ f.who → e.own ≡ f.own → e.setup ≡ f.setup → StateKept e facts s h → StateKept f facts s h
-state_as e f facts s h who own setup k = record {
+state_as : (e f : End) (facts : List Fact) (s : State) (h : Flowing) → e.who ≡ f.who → e.own ≡ f.own → e.secrets ≡ f.secrets → StateKept e facts s h → StateKept f facts s h
+state_as e f facts s h who own secrets k = record {
   own = k.own ∙ own;
-  one = subst (λ (given : Setup). HasOneGroup given s) setup k.one;
-  rows = λ near row there. row_as e f facts near row h who own setup (k.rows near row there);
+  rows = λ near row there. row_as e f facts near row h who own secrets (k.rows near row there);
 }
 
 -- what another end's deeds leave
 state_beside : (e : End) (who : ℕ) (facts : List Fact) (s : State) (h after : Flowing) → (e.who ≡ who → ⊥) → Grows who h after → StateKept e facts s h → StateKept e facts s after
 state_beside e who facts s h after ne grows k = record {
   own = k.own;
-  one = k.one;
   rows = λ near row there.
       (let r = k.rows near row there in
-      record { id = r.id; own = r.own; keyed = r.keyed; generation = r.generation; named = r.named; flows = kept_beside who e.who (away row.session) row.flows h after ne grows r.flows });
+      record { id = r.id; own = r.own; keyed = r.keyed; named = r.named; flows = kept_beside who e.who (away row.session) row.flows h after ne grows r.flows });
 }
 
-fresh_kept : (ends : ℕ → Setup) (a : ℕ) (h : Flowing) → StateKept (plain_end ends a) [] (fresh (ends a)) h
-fresh_kept ends a h = record {
+fresh_kept : (secrets : Secrets) (ends : ℕ → Setup) (a : ℕ) (h : Flowing) → StateKept (plain_end secrets ends a) [] (fresh (ends a)) h
+fresh_kept secrets ends a h = record {
   own = refl;
-  one = fresh_group (ends a);
   rows = λ near row there. absurd (none_is_some row (get {R = nat_cmp} empty near) (get-empty nat_cmp near) there);
 }
 
@@ -178,22 +184,22 @@ module _ (e : End) (from : ℕ) (apart : (fact : Fact) (c : Context) → SendsIn
 
 -- ---- what was sent
 
-module _ (secrets : Secrets) (setup : Setup) (knows : Knows secrets setup) (sealing : Sealing) (c : Context) (secret datagram : List ℕ) (is_of : session_of sealing ≡ Some c) (known : get secrets (generation_of sealing) ≡ Some secret) where
-  went_so : (h : Flowing) → WentIn setup sealing datagram (Some c) h → WasSent c (pieces_in secret c datagram) h
+module _ (secrets : Secrets) (sealing : Sealing) (c : Context) (secret datagram : List ℕ) (is_of : session_of sealing ≡ Some c) (known : get secrets (generation_of sealing) ≡ Some secret) where
+  went_so : (h : Flowing) → WentIn secrets sealing datagram (Some c) h → WasSent c (pieces_in secret c datagram) h
   went_so h went =
-      let both : Some setup.secret ≡ Some secret = sym (ap (get secrets) went.0 ∙ knows) ∙ known in
-      let one : setup.secret ≡ secret = cc in
-      subst (λ (given : List ℕ). WasSent c (pieces_in given c datagram) h) one went.1
+      let both : Some went.0 ≡ Some secret = sym went.1 ∙ known in
+      let one : went.0 ≡ secret = cc in
+      subst (λ (given : List ℕ). WasSent c (pieces_in given c datagram) h) one went.2
 
-  out_went : (o : Option Sending) (h : Flowing) → IsOut datagram sealing o → OutWent setup o h → WasSent c (pieces_in secret c datagram) h
+  out_went : (o : Option Sending) (h : Flowing) → IsOut datagram sealing o → OutWent secrets o h → WasSent c (pieces_in secret c datagram) h
   out_went None h none went = absurd none
   out_went (Some out) h is went =
       went_so h
-      (subst (λ (o : Option Context). WentIn setup sealing datagram o h) is_of
-      (subst (λ (d : List ℕ). WentIn setup sealing d (session_of sealing) h) is.0
-      (subst (λ (x : Sealing). WentIn setup x out.datagram (session_of x) h) is.1 went)))
+      (subst (λ (o : Option Context). WentIn secrets sealing datagram o h) is_of
+      (subst (λ (d : List ℕ). WentIn secrets sealing d (session_of sealing) h) is.0
+      (subst (λ (x : Sealing). WentIn secrets x out.datagram (session_of x) h) is.1 went)))
 
-  outs_went : (entries : List Entry) (h : Flowing) → HasOut datagram sealing entries → OutsWent setup entries h → WasSent c (pieces_in secret c datagram) h
+  outs_went : (entries : List Entry) (h : Flowing) → HasOut datagram sealing entries → OutsWent secrets entries h → WasSent c (pieces_in secret c datagram) h
   outs_went [] h none went = absurd none
   outs_went (entry ∷ rest) h (inl is) went = out_went (out_in entry) h is went.0
   outs_went (entry ∷ rest) h (inr later) went = outs_went rest h later went.1
@@ -222,14 +228,17 @@ module _ (secrets : Secrets) (ends : ℕ → Setup) (owed : (e : End) → FlowsH
   it = record {
     who = who;
     own = own;
-    setup = ends who;
+    secrets = secrets;
     elsewhere = λ c. (a : ℕ) × (a ≡ who → ⊥) × HasStated (SendsIn (own_of (ends a)) c) (facts_at a earlier);
     begins = Unit {0};
     orders = λ b n. (metadata : List ℕ) → OpensIt n own facts x.event metadata → begins_with_a metadata ≡ b;
   }
 
-  in_group : Knows secrets (ends who)
+  in_group : Knows secrets (ends who) (past_at who (x ∷ earlier))
   in_group = given.group who (inl refl)
+
+  in_group_before : Knows secrets (ends who) (past_at who earlier)
+  in_group_before = knows_less secrets (ends who) x earlier who in_group
 
   sized : IsSetup (ends who)
   sized = given.setup who (inl refl)
@@ -248,10 +257,15 @@ module _ (secrets : Secrets) (ends : ℕ → Setup) (owed : (e : End) → FlowsH
   kept_now : StateKept it facts noted carried.flows
   kept_now =
       let k = carried.kept who in
-      state_as (plain_end ends who) it facts noted carried.flows refl refl refl (record { own = k.own; one = one_still (ends who) (states who) noted k.one refl refl refl; rows = k.rows })
+      state_as (plain_end secrets ends who) it facts noted carried.flows refl refl refl (record { own = k.own; rows = k.rows })
+
+  holds_now : HoldsSecrets secrets noted
+  holds_now =
+      let tied = (log_is secrets (ends who) (log_of who earlier) (states who) in_group_before sized calls.0 standing).holds.tied in
+      holds_still secrets (states who) noted tied.holds refl refl refl
 
   stands : Stands it facts noted carried.flows
-  stands = record { lawful = carried.lawful; honest = carried.honest; begun = started; state = kept_now }
+  stands = record { lawful = carried.lawful; honest = carried.honest; begun = started; state = kept_now; holds = holds_now }
 
   -- ---- what begins is new
 
@@ -267,7 +281,7 @@ module _ (secrets : Secrets) (ends : ℕ → Setup) (owed : (e : End) → FlowsH
 
   lawful_facts : AreLawful own 0 (facts_onto entries facts)
   lawful_facts =
-      let tied = tied_to_log (ends who) (log_of who (x ∷ earlier)) t sized (given.calls who) later in
+      let tied = (log_is secrets (ends who) (log_of who (x ∷ earlier)) t in_group sized (given.calls who) later).holds.tied in
       subst (λ (l : List Fact). AreLawful own 0 l) (facts_mine x earlier) (subst (λ (o : List ℕ). AreLawful o 0 (facts_at who (x ∷ earlier))) tied.own tied.account.lawful)
 
   new : AreNew it facts entries
@@ -276,15 +290,14 @@ module _ (secrets : Secrets) (ends : ℕ → Setup) (owed : (e : End) → FlowsH
   -- ---- what is given with the call
 
   arrives : (from : AddressParts) (datagram : List ℕ) (draws : Draws) → x.event.call ≡ Receive from datagram draws → Arrives it noted datagram carried.flows
-  arrives from datagram draws is near row there opens =
+  arrives from datagram draws is near row there opens secret known =
       let c : Context = back (away row.session) in
       let at : OpensAt secrets (ends who) (past_at who earlier) datagram (context_of row.session false) =
-      opens_in_told secrets (ends who) (log_of who earlier) (states who) datagram in_group sized calls.0 standing (context_of row.session false) opens in
+      opens_in_told secrets (ends who) (log_of who earlier) (states who) datagram in_group_before sized calls.0 standing (context_of row.session false) opens in
       let ours : IsHonestCall secrets (ends who) (past_at who earlier) earlier (Receive from datagram draws) = subst (λ (call : Call). IsHonestCall secrets (ends who) (past_at who earlier) earlier call) is given.honest.0 in
       let was : WasOut datagram (context_of row.session false) earlier = ours at.contexts (context_of row.session false) at.plain at.named at.opens in
-      let known : get secrets (generation_of (context_of row.session false)) ≡ Some (ends who).secret =
-      ap (get secrets) (session_generation row.session false ∙ (kept_now.rows near row there).generation) ∙ in_group in
-      carried.outs (context_of row.session false) c (ends who).secret datagram (session_back row.session) known was
+      let under : get secrets (generation_of (context_of row.session false)) ≡ Some secret = ap (get secrets) (session_generation row.session false) ∙ known in
+      carried.outs (context_of row.session false) c secret datagram (session_back row.session) under was
 
   opens_as_asked : (near : ℕ) (call : FlowCall) → x.event.call ≡ OnFlows near call → entries ≡ (flow_called noted near call).entries → OpensAsAsked it noted near call
   opens_as_asked near (OpenFlow priority metadata answers) is are = λ row held b asked. asked metadata (record {
@@ -299,10 +312,18 @@ module _ (secrets : Secrets) (ends : ℕ → Setup) (owed : (e : End) → FlowsH
   opens_as_asked near (Abandon flow seq) is are = tt
   opens_as_asked near (Finish flow) is are = tt
 
+  -- the map has what the event learns
+  learn_known : (secret : List ℕ) → x.event.call ≡ Learn secret → entries ≡ (learning noted secret).entries → HasSecret secrets (next_group noted secret)
+  learn_known secret is are =
+      in_group.learnt (noted.group.generation + 1) secret
+      (subst (λ (l : List Event). WasLearnt (noted.group.generation + 1) secret (past_of_log l)) (sym (log_mine x earlier))
+      (learnt_by (log_of who earlier) x.event (noted.group.generation + 1) secret is are))
+
   given_with : (call : Call) → x.event.call ≡ call → GivenWith it (λ A. owed (with_begins it A)) facts noted t entries carried.flows call
   given_with (Receive from datagram draws) is =
       let ours : IsCall (Receive from datagram draws) = subst IsCall is calls.1 in
       (arrives from datagram draws is, omega (arith, ours.3))
+  given_with (Learn secret) is = λ are. learn_known secret is are
   given_with (OnFlows near call) is = λ none are. opens_as_asked near call is are
   given_with call is = tt
 
@@ -332,25 +353,25 @@ module _ (secrets : Secrets) (ends : ℕ → Setup) (owed : (e : End) → FlowsH
 
   outs_now : (sealing : Sealing) (c : Context) (secret datagram : List ℕ) → session_of sealing ≡ Some c → get secrets (generation_of sealing) ≡ Some secret → WasOut datagram sealing (x ∷ earlier) →
       WasSent c (pieces_in secret c datagram) hands.after
-  outs_now sealing c secret datagram is_of known (inl now) = outs_went secrets (ends who) in_group sealing c secret datagram is_of known entries hands.after now hands.outs
+  outs_now sealing c secret datagram is_of known (inl now) = outs_went secrets sealing c secret datagram is_of known entries hands.after now hands.outs
   outs_now sealing c secret datagram is_of known (inr before) = hands.grows.sent c (pieces_in secret c datagram) (carried.outs sealing c secret datagram is_of known before)
 
   module _ (states_now : ℕ → State) (mine : states_now who ≡ t) (beside : (a : ℕ) → (who == a) ≡ false → states_now a ≡ states a) where
-    kept_by_it : StateKept (plain_end ends who) (facts_at who (x ∷ earlier)) (states_now who) hands.after
+    kept_by_it : StateKept (plain_end secrets ends who) (facts_at who (x ∷ earlier)) (states_now who) hands.after
     kept_by_it =
-        subst (λ (u : State). StateKept (plain_end ends who) (facts_at who (x ∷ earlier)) u hands.after) (sym mine)
-        (subst (λ (l : List Fact). StateKept (plain_end ends who) l t hands.after) (sym (facts_mine x earlier))
-        (state_as it (plain_end ends who) (facts_onto entries facts) t hands.after refl refl refl hands.stands.state))
+        subst (λ (u : State). StateKept (plain_end secrets ends who) (facts_at who (x ∷ earlier)) u hands.after) (sym mine)
+        (subst (λ (l : List Fact). StateKept (plain_end secrets ends who) l t hands.after) (sym (facts_mine x earlier))
+        (state_as it (plain_end secrets ends who) (facts_onto entries facts) t hands.after refl refl refl hands.stands.state))
 
-    kept_beside_it : (a : ℕ) → (a ≡ who → ⊥) → (who == a) ≡ false → StateKept (plain_end ends a) (facts_at a (x ∷ earlier)) (states_now a) hands.after
+    kept_beside_it : (a : ℕ) → (a ≡ who → ⊥) → (who == a) ≡ false → StateKept (plain_end secrets ends a) (facts_at a (x ∷ earlier)) (states_now a) hands.after
     kept_beside_it a ne other =
-        subst (λ (u : State). StateKept (plain_end ends a) (facts_at a (x ∷ earlier)) u hands.after) (sym (beside a other))
-        (subst (λ (l : List Fact). StateKept (plain_end ends a) l (states a) hands.after) (sym (facts_beside x earlier a other))
-        (state_beside (plain_end ends a) who (facts_at a earlier) (states a) carried.flows hands.after ne hands.grows (carried.kept a)))
+        subst (λ (u : State). StateKept (plain_end secrets ends a) (facts_at a (x ∷ earlier)) u hands.after) (sym (beside a other))
+        (subst (λ (l : List Fact). StateKept (plain_end secrets ends a) l (states a) hands.after) (sym (facts_beside x earlier a other))
+        (state_beside (plain_end secrets ends a) who (facts_at a earlier) (states a) carried.flows hands.after ne hands.grows (carried.kept a)))
 
-    kept_all : (a : ℕ) → StateKept (plain_end ends a) (facts_at a (x ∷ earlier)) (states_now a) hands.after
+    kept_all : (a : ℕ) → StateKept (plain_end secrets ends a) (facts_at a (x ∷ earlier)) (states_now a) hands.after
     kept_all a = elim (tested who a) [
-      | inl is ↦ subst (λ (b : ℕ). StateKept (plain_end ends b) (facts_at b (x ∷ earlier)) (states_now b) hands.after) is.0 kept_by_it
+      | inl is ↦ subst (λ (b : ℕ). StateKept (plain_end secrets ends b) (facts_at b (x ∷ earlier)) (states_now b) hands.after) is.0 kept_by_it
       | inr other ↦ kept_beside_it a (λ is. other.0 (sym is)) other.1
     ]
 
@@ -387,7 +408,7 @@ carried secrets ends owed [] given states stand = record {
   lawful = tt;
   honest = tt;
   begun = λ c none. absurd none;
-  kept = λ a. subst (λ (s : State). StateKept (plain_end ends a) [] s []) (stand a) (fresh_kept ends a []);
+  kept = λ a. subst (λ (s : State). StateKept (plain_end secrets ends a) [] s []) (stand a) (fresh_kept secrets ends a []);
   log = refl;
   outs = λ sealing c secret datagram is_of known none. absurd none;
   order = λ b n asked. tt;

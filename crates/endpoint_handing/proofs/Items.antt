@@ -48,43 +48,43 @@ use Rattle.endpoint_laws.proofs.Made.{Carries}
 use Rattle.endpoint_handing.proofs.Bodies.{body_pieces}
 use Rattle.endpoint_handing.proofs.Plain.{close_none, close_ack_none, ping_none, reply_none}
 use Rattle.endpoint_handing.proofs.Plain.{hello_none}
-use Rattle.endpoint_laws.proofs.Kin.{IsKin, one_still}
+use Rattle.endpoint_laws.proofs.Kin.{IsKin, holds_still}
 use Rattle.endpoint_handing.proofs.Sent.{startup_silent, does_out}
 
 -- ---- silent entries
 
 -- neither a Born nor an Opened
 started_silent : (peer : List ℕ) (n near : ℕ) (ni : List ℕ) → IsSilent (FactEntry (Started peer n near ni))
-started_silent peer n near ni = record { told = λ own facts. refl; context = λ own id facts. refl; out = λ setup h. tt; no_message = refl }
+started_silent peer n near ni = record { told = λ own facts. refl; context = λ own id facts. refl; out = λ secrets h. tt; no_message = refl }
 
 pub ended_silent : (peer : List ℕ) (near : ℕ) (why : Why) → IsSilent (FactEntry (Ended peer near why))
-ended_silent peer near why = record { told = λ own facts. refl; context = λ own id facts. refl; out = λ setup h. tt; no_message = refl }
+ended_silent peer near why = record { told = λ own facts. refl; context = λ own id facts. refl; out = λ secrets h. tt; no_message = refl }
 
 confirmed_silent : (peer : List ℕ) (near : ℕ) → IsSilent (FactEntry (Confirmed peer near))
-confirmed_silent peer near = record { told = λ own facts. refl; context = λ own id facts. refl; out = λ setup h. tt; no_message = refl }
+confirmed_silent peer near = record { told = λ own facts. refl; context = λ own id facts. refl; out = λ secrets h. tt; no_message = refl }
 
 closed_silent : (near : ℕ) → IsSilent (Closed near)
-closed_silent near = record { told = λ own facts. refl; context = λ own id facts. refl; out = λ setup h. tt; no_message = refl }
+closed_silent near = record { told = λ own facts. refl; context = λ own id facts. refl; out = λ secrets h. tt; no_message = refl }
 
 sought_silent : (near : ℕ) (name : List ℕ) → IsSilent (Sought near name)
-sought_silent near name = record { told = λ own facts. refl; context = λ own id facts. refl; out = λ setup h. tt; no_message = refl }
+sought_silent near name = record { told = λ own facts. refl; context = λ own id facts. refl; out = λ secrets h. tt; no_message = refl }
 
 unsought_silent : (near : ℕ) (why : Why) → IsSilent (Unsought near why)
-unsought_silent near why = record { told = λ own facts. refl; context = λ own id facts. refl; out = λ setup h. tt; no_message = refl }
+unsought_silent near why = record { told = λ own facts. refl; context = λ own id facts. refl; out = λ secrets h. tt; no_message = refl }
 
 moved_silent : (near : ℕ) (to : AddressParts) → IsSilent (Moved near to)
-moved_silent near to = record { told = λ own facts. refl; context = λ own id facts. refl; out = λ setup h. tt; no_message = refl }
+moved_silent near to = record { told = λ own facts. refl; context = λ own id facts. refl; out = λ secrets h. tt; no_message = refl }
 
 discard_silent : (at : ℕ) (cause : Cause) → IsSilent (Discard at cause)
-discard_silent at cause = record { told = λ own facts. refl; context = λ own id facts. refl; out = λ setup h. tt; no_message = refl }
+discard_silent at cause = record { told = λ own facts. refl; context = λ own id facts. refl; out = λ secrets h. tt; no_message = refl }
 
 -- ---- states that are alike
 
 alike_startup : (s : State) (t : StartupState) → IsKin s t → IsAlike s (with_startup s t)
-alike_startup s t kin = record { own = kin.own; one = kin.one; rows = had_it s.sessions }
+alike_startup s t kin = record { own = kin.own; holds = kin.holds; rows = had_it s.sessions }
 
 alike_row : (s : State) (near : ℕ) (old new : Row) → get s.sessions near ≡ Some old → IsSame old new → IsAlike s (with_row s near new)
-alike_row s near old new there same = record { own = refl; one = λ setup one. one_still setup s _ one refl refl refl; rows = had_row s.sessions near old new there same }
+alike_row s near old new there same = record { own = refl; holds = λ secrets holds. holds_still secrets s _ holds refl refl refl; rows = had_row s.sessions near old new there same }
 
 same_on : (old new : Row) → GoesOn old new → IsSame old new
 same_on old new goes =
@@ -112,20 +112,20 @@ module _ (e : End) where
   quiet_does = record {
     sends = record {
       steps = record { does_nothing = λ s facts. does_nothing e facts s; and_then = λ s d f first later facts. does_then e facts s d (λ t. f) (first facts) (later (facts_onto d.entries facts)) };
-      out = λ s generation keys to sid plain. does_one s (with_sealed s (s.sealed + 1)) _ (startup_silent to (startup_datagram s keys sid plain) generation) (record { own = refl; one = λ setup one. one_still setup s _ one refl refl refl; rows = had_it s.sessions });
+      out = λ s generation keys to sid plain. does_one s (with_sealed s (s.sealed + 1)) _ (startup_silent to (startup_datagram s keys sid plain) generation) (record { own = refl; holds = λ secrets holds. holds_still secrets s _ holds refl refl refl; rows = had_it s.sessions });
       out_in = λ s near row to body is bare facts. does_out e facts s near to body row is bare;
     };
     attempts = λ s startup kin. does_change s (with_startup s startup) (alike_startup s startup kin);
     close = close_none;
     close_ack = close_ack_none;
     empty_ping = ping_none [] (omega arith);
-    discards = λ s at cause. does_one s s _ (discard_silent at cause) (record { own = refl; one = λ setup one. one_still setup s _ one refl refl refl; rows = had_it s.sessions });
+    discards = λ s at cause. does_one s s _ (discard_silent at cause) (record { own = refl; holds = λ secrets holds. holds_still secrets s _ holds refl refl refl; rows = had_it s.sessions });
     ends = λ s startup peer near why kin. does_one s _ _ (ended_silent peer near why) (alike_startup s startup kin);
     unseeks = λ s startup near why kin. does_one s _ _ (unsought_silent near why) (alike_startup s startup kin);
     confirms = λ s startup peer near kin. does_one s _ _ (confirmed_silent peer near) (alike_startup s startup kin);
-    closes = λ s near. does_one s _ _ (closed_silent near) (record { own = refl; one = λ setup one. one_still setup s _ one refl refl refl; rows = had_left s.sessions near });
-    forgets = λ s near. does_change s _ (record { own = refl; one = λ setup one. one_still setup s _ one refl refl refl; rows = had_left s.sessions near });
-    moves = λ s near to. does_one s s _ (moved_silent near to) (record { own = refl; one = λ setup one. one_still setup s _ one refl refl refl; rows = had_it s.sessions });
+    closes = λ s near. does_one s _ _ (closed_silent near) (record { own = refl; holds = λ secrets holds. holds_still secrets s _ holds refl refl refl; rows = had_left s.sessions near });
+    forgets = λ s near. does_change s _ (record { own = refl; holds = λ secrets holds. holds_still secrets s _ holds refl refl refl; rows = had_left s.sessions near });
+    moves = λ s near to. does_one s s _ (moved_silent near to) (record { own = refl; holds = λ secrets holds. holds_still secrets s _ holds refl refl refl; rows = had_it s.sessions });
     goes_on = λ s near old new is goes. does_change s _ (alike_row s near old new is (same_on old new goes));
   }
 

@@ -12,10 +12,9 @@ use Rattle.endpoint_model.specs.declared.row.Row.{Row}
 use Rattle.endpoint_model.specs.declared.entry.Entry.{Entry}
 use Rattle.endpoint_model.specs.Views.{Sending, fact_in, out_in}
 use Rattle.endpoint_model.specs.State.{State, Did, nothing, after_entries, then_do}
-use Rattle.endpoint_model.specs.Event.{Setup}
 use Rattle.endpoint_laws.specs.Past.{fact_and}
-use Rattle.endpoint_laws.specs.Groups.{HasOneGroup}
-use Rattle.endpoint_laws.specs.Contexts.{generation_of}
+use Rattle.endpoint_laws.specs.Contexts.{Secrets, generation_of}
+use Rattle.endpoint_laws.proofs.Kin.{HoldsSecrets}
 use Rattle.flow_history.specs.Flow.{Carried, sending_at, taking_at}
 use Rattle.flow_history.specs.Said.{WasGiven, WasTold}
 use Rattle.flow_history.specs.Deeds.{Context, back, Name, name, Piece, History, steps_of}
@@ -31,13 +30,13 @@ use Rattle.session_deeds.specs.Shows.{Shows}
 
 -- ---- what is kept
 
--- An end whose things are gone through: its number, its fingerprint and what it was given; the
--- contexts in which sessions of other ends have begun to send; whether sessions may begin now; and
--- what is asked of the flows that it opens.
+-- An end whose things are gone through: its number, its fingerprint and the secrets of its group;
+-- the contexts in which sessions of other ends have begun to send; whether sessions may begin now;
+-- and what is asked of the flows that it opens.
 pub record End : Type 1 where
   pub who : ℕ
   pub own : List ℕ
-  pub setup : Setup
+  pub secrets : Secrets
   pub elsewhere : Context → Type 0
   pub begins : Type 0
   pub orders : Bool → Name → Type 0
@@ -53,19 +52,23 @@ pub record FlowsKept (who : ℕ) (c : Context) (flows : FlowsState) (h : History
   pub sends : (f : ℕ) → sending_at (steps_of (name c f) h) who ≡ Some (kept.opened f)
   pub takes : (f : ℕ) → taking_at (steps_of (name (back c) f) h) who ≡ Some (kept.made f)
 
+-- The session's keys are under the secret that the group has in the session's generation.
+pub record HasKeys (secrets : Secrets) (session : SessionState) : Type 0 where
+  pub secret : List ℕ
+  pub known : get secrets session.generation ≡ Some secret
+  pub keyed : IsKeyed secret session
+
 -- The row of a session is of this end, the last that began under its ID, and has its flows.
 pub record RowKept (e : End) (facts : List Fact) (near : ℕ) (row : Row) (h : History)
     : Type 0 where
   pub id : row.session.joined.near ≡ near
   pub own : row.session.own ≡ e.own
-  pub keyed : IsKeyed e.setup.secret row.session
-  pub generation : row.session.generation ≡ e.setup.generation
+  pub keyed : HasKeys e.secrets row.session
   pub named : sending_context e.own near facts ≡ Some (away row.session)
   pub flows : FlowsKept e.who (away row.session) row.flows h
 
 pub record StateKept (e : End) (facts : List Fact) (s : State) (h : History) : Type 0 where
   pub own : s.startup.ledger.own ≡ e.own
-  pub one : HasOneGroup e.setup s
   pub rows : (near : ℕ) (row : Row) → get s.sessions near ≡ Some row →
       RowKept e facts near row h
 
@@ -78,6 +81,7 @@ pub record Stands (e : End) (facts : List Fact) (s : State) (h : History) : Type
   pub honest : IsHonest h
   pub begun : (c : Context) → HasBegun c h → HasStarted e facts c
   pub state : StateKept e facts s h
+  pub holds : HoldsSecrets e.secrets s
 
 -- ---- a longer history, by deeds of one end
 
@@ -169,43 +173,44 @@ session_of (Session generation ni nr initiator responder near_i near_r to_respon
   to_responder = to_responder;
 })
 
--- It goes out in a generation of the end, with its pieces under the end's secret.
-abbrev pub WentIn : Setup → Sealing → List ℕ → Option Context → History → Type 0
-WentIn setup sealing datagram None h = Unit {0}
-WentIn setup sealing datagram (Some c) h = (generation_of sealing ≡ setup.generation)
-    × WasSent c (pieces_in setup.secret c datagram) h
+-- It went out with its pieces under the secret that the group has in its generation.
+abbrev pub WentIn : Secrets → Sealing → List ℕ → Option Context → History → Type 0
+WentIn secrets sealing datagram None h = Unit {0}
+WentIn secrets sealing datagram (Some c) h = (secret : List ℕ)
+    × (get secrets (generation_of sealing) ≡ Some secret)
+    × WasSent c (pieces_in secret c datagram) h
 
-abbrev pub OutWent : Setup → Option Sending → History → Type 0
-OutWent setup None h = Unit {0}
-OutWent setup (Some out) h = WentIn setup out.context out.datagram (session_of out.context) h
+abbrev pub OutWent : Secrets → Option Sending → History → Type 0
+OutWent secrets None h = Unit {0}
+OutWent secrets (Some out) h = WentIn secrets out.context out.datagram (session_of out.context) h
 
 -- Each datagram that goes out in a session is in the history, with its pieces.
-abbrev pub OutsWent : Setup → List Entry → History → Type 0
-OutsWent setup [] h = Unit {0}
-OutsWent setup (entry ∷ rest) h = OutWent setup (out_in entry) h × OutsWent setup rest h
+abbrev pub OutsWent : Secrets → List Entry → History → Type 0
+OutsWent secrets [] h = Unit {0}
+OutsWent secrets (entry ∷ rest) h = OutWent secrets (out_in entry) h × OutsWent secrets rest h
 
-went_in_later : (who : ℕ) (setup : Setup) (sealing : Sealing) (datagram : List ℕ) (o : Option Context) (h after : History) →
-    Grows who h after → WentIn setup sealing datagram o h → WentIn setup sealing datagram o after
-went_in_later who setup sealing datagram None h after grows went = tt
-went_in_later who setup sealing datagram (Some c) h after grows went =
-    (went.0, grows.sent c (pieces_in setup.secret c datagram) went.1)
+went_in_later : (who : ℕ) (secrets : Secrets) (sealing : Sealing) (datagram : List ℕ) (o : Option Context) (h after : History) →
+    Grows who h after → WentIn secrets sealing datagram o h → WentIn secrets sealing datagram o after
+went_in_later who secrets sealing datagram None h after grows went = tt
+went_in_later who secrets sealing datagram (Some c) h after grows went =
+    (went.0, went.1, grows.sent c (pieces_in went.0 c datagram) went.2)
 
-pub went_later : (who : ℕ) (setup : Setup) (o : Option Sending) (h after : History) →
-    Grows who h after → OutWent setup o h → OutWent setup o after
-went_later who setup None h after grows went = tt
-went_later who setup (Some out) h after grows went =
-    went_in_later who setup out.context out.datagram (session_of out.context) h after grows went
+pub went_later : (who : ℕ) (secrets : Secrets) (o : Option Sending) (h after : History) →
+    Grows who h after → OutWent secrets o h → OutWent secrets o after
+went_later who secrets None h after grows went = tt
+went_later who secrets (Some out) h after grows went =
+    went_in_later who secrets out.context out.datagram (session_of out.context) h after grows went
 
-pub all_later : (who : ℕ) (setup : Setup) (entries : List Entry) (h after : History) →
-    Grows who h after → OutsWent setup entries h → OutsWent setup entries after
-all_later who setup [] h after grows went = tt
-all_later who setup (entry ∷ rest) h after grows went =
-    (went_later who setup (out_in entry) h after grows went.0, all_later who setup rest h after grows went.1)
+pub all_later : (who : ℕ) (secrets : Secrets) (entries : List Entry) (h after : History) →
+    Grows who h after → OutsWent secrets entries h → OutsWent secrets entries after
+all_later who secrets [] h after grows went = tt
+all_later who secrets (entry ∷ rest) h after grows went =
+    (went_later who secrets (out_in entry) h after grows went.0, all_later who secrets rest h after grows went.1)
 
-outs_append : (setup : Setup) (xs ys : List Entry) (h : History) → OutsWent setup xs h →
-    OutsWent setup ys h → OutsWent setup (xs ++ ys) h
-outs_append setup [] ys h p q = q
-outs_append setup (x ∷ xs) ys h p q = (p.0, outs_append setup xs ys h p.1 q)
+outs_append : (secrets : Secrets) (xs ys : List Entry) (h : History) → OutsWent secrets xs h →
+    OutsWent secrets ys h → OutsWent secrets (xs ++ ys) h
+outs_append secrets [] ys h p q = q
+outs_append secrets (x ∷ xs) ys h p q = (p.0, outs_append secrets xs ys h p.1 q)
 
 -- ---- session IDs that stay
 
@@ -229,7 +234,7 @@ pub record Hands (e : End) (facts : List Fact) (d : Did) (h : History) : Type 0 
   pub stands : Stands e (facts_onto d.entries facts) d.state after
   pub log : log_of after ≡ told_onto e.own facts d.entries (log_of h)
   pub named : AllHaveContext e.own facts d.entries
-  pub outs : OutsWent e.setup d.entries after
+  pub outs : OutsWent e.secrets d.entries after
   pub still : (near : ℕ) → e.begins ⊎ IsStill e.own near facts (facts_onto d.entries facts)
   pub order : (b : Bool) (n : Name) → e.orders b n → HasOrder b n h → HasOrder b n after
 
@@ -250,8 +255,8 @@ module _ (e : End) (facts : List Fact) where
     log = later.log ∙ ap (told_onto e.own (facts_onto entries facts) d.entries) first.log
         ∙ sym (told_append e.own entries d.entries facts (log_of h));
     named = named_append e.own entries d.entries facts first.named later.named;
-    outs = outs_append e.setup entries d.entries later.after
-        (all_later e.who e.setup entries first.after later.after later.grows first.outs) later.outs;
+    outs = outs_append e.secrets entries d.entries later.after
+        (all_later e.who e.secrets entries first.after later.after later.grows first.outs) later.outs;
     still = λ near. subst (λ f. e.begins ⊎ IsStill e.own near facts f)
         (sym (facts_append entries d.entries facts))
         (still_then e.begins e.own near facts (facts_onto entries facts)

@@ -8,12 +8,14 @@ use Rattle.glare_core.specs.Steps.{Among}
 use Rattle.glare_core.specs.Told.{AllDifferent}
 use Rattle.glare_core.specs.Account.{AreLawful}
 use Rattle.endpoint_model.specs.declared.entry.Entry.{Entry}
+use Rattle.endpoint_model.specs.declared.entry.Entry.TheVariants.{Learnt}
 use Rattle.endpoint_model.specs.Views.{fact_in}
-use Rattle.endpoint_model.specs.Event.{Event, moment_at}
+use Rattle.endpoint_model.specs.Event.{Setup, Learn, Event, learn_in, moment_at}
 use Rattle.endpoint_model.specs.State.{State}
 use Rattle.endpoint_model.specs.Log.{Step, Leads}
 use Rattle.endpoint_laws.specs.Past.{Past, stamped, onto, fact_and, facts_of, begun, with_event}
-use Rattle.endpoint_laws.specs.Past.{last_moment, past_of}
+use Rattle.endpoint_laws.specs.Past.{last_moment, past_of, past_of_log, WasLearnt}
+use Rattle.endpoint_laws.specs.Contexts.{Secrets, Knows}
 use Rattle.endpoint_laws.specs.Lawful.{nonces_of}
 use Rattle.endpoint_laws.specs.Laws.{AreCalls, IsCall}
 use Rattle.endpoint_laws.specs.History.{Happened, History, log_of, facts_at, nonces_in, TakesPart}
@@ -50,6 +52,28 @@ calls_before (x ∷ log) e calls = let rest = calls_before log e calls.1 in ((ca
 past_more : (last : ℕ) (past : Past) (log : List Event) (e : Event) → past_of last past (log ++ e ∷ []) ≡ with_event (moment_at (last_moment last log) e) e (past_of last past log)
 past_more last past [] e = refl
 past_more last past (x ∷ log) e = past_more (moment_at last x) (with_event (moment_at last x) x past) log e
+
+learnt_more : (generation : ℕ) (secret : List ℕ) (moment : ℕ) (entries : List Entry) (past : Past) → WasLearnt generation secret past → WasLearnt generation secret (onto moment entries past)
+learnt_more generation secret moment [] past was = was
+learnt_more generation secret moment (entry ∷ rest) past was = learnt_more generation secret moment rest (stamped moment entry ∷ past) (inr was)
+
+-- what has all secrets after an event had them before
+pub knows_before : (secrets : Secrets) (setup : Setup) (log : List Event) (e : Event) → Knows secrets setup (past_of_log (log ++ e ∷ [])) → Knows secrets setup (past_of_log log)
+knows_before secrets setup log e knows =
+    let moment : ℕ = moment_at (last_moment 0 log) e in
+    record {
+      first = knows.first;
+      learnt = λ generation secret was. knows.learnt generation secret
+          (subst (WasLearnt generation secret) (sym (past_more 0 [] log e)) (learnt_more generation secret moment e.entries (begun moment e ∷ past_of 0 [] log) (inr was)));
+    }
+
+-- an event learns what its call tells it
+pub learnt_by : (log : List Event) (e : Event) (generation : ℕ) (secret : List ℕ) → e.call ≡ Learn secret → e.entries ≡ Learnt generation ∷ [] → WasLearnt generation secret (past_of_log (log ++ e ∷ []))
+learnt_by log e generation secret is are =
+    let moment : ℕ = moment_at (last_moment 0 log) e in
+    let before : Past = begun moment e ∷ past_of 0 [] log in
+    subst (WasLearnt generation secret) (sym (past_more 0 [] log e))
+    (subst (λ (es : List Entry). WasLearnt generation secret (onto moment es before)) (sym are) (inl (refl, ap learn_in is)))
 
 facts_more : (moment : ℕ) (entries : List Entry) (past : Past) → facts_of (onto moment entries past) ≡ facts_onto entries (facts_of past)
 facts_more moment [] past = refl

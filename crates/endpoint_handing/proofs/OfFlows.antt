@@ -12,7 +12,6 @@ use Rattle.rtmfp_data_chunks.specs.HandsOver.{IsIn}
 use Rattle.flow_send.specs.Flow.{Flow}
 use Rattle.glare_core.specs.declared.facts.Fact.{Fact}
 use Rattle.glare_core.specs.declared.facts.Joined.{Joined}
-use Rattle.session_core.proofs.Keyed.{keyed_same}
 use Rattle.session_flows.specs.Keeping.{FlowsState, sending_at, Did as FlowsDid}
 use Rattle.session_flows.specs.Keeping.{nothing as nothing_done}
 use Rattle.session_flows.specs.Keeping.{Stated, Opened as OpenedOf, Queued as QueuedOf}
@@ -21,7 +20,7 @@ use Rattle.session_flows.specs.Keeping.{Finished as FinishedOf, Handed as Handed
 use Rattle.endpoint_model.specs.declared.row.Row.{Row}
 use Rattle.endpoint_model.specs.declared.entry.Entry.{Entry}
 use Rattle.endpoint_model.specs.Views.{fact_in}
-use Rattle.endpoint_model.specs.Event.{Setup}
+use Rattle.endpoint_laws.specs.Contexts.{Secrets}
 use Rattle.endpoint_model.specs.State.{State, nothing, then_do, with_row}
 use Rattle.endpoint_model.specs.OnFlows.{flow_entry}
 use Rattle.endpoint_model.specs.InSessions.{sent_home_by, sent_home}
@@ -38,10 +37,10 @@ use Rattle.session_deeds.specs.Pieces.{pieces_of, IsPutBehind}
 use Rattle.session_deeds.specs.Laws.{Puts}
 use Rattle.endpoint_handing.specs.Told.{AllHaveContext, sending_context, told_in, told_at}
 use Rattle.endpoint_handing.specs.Told.{facts_onto, told_onto}
-use Rattle.endpoint_laws.proofs.Kin.{one_still}
+use Rattle.endpoint_laws.proofs.Kin.{holds_still}
 use Rattle.endpoint_handing.proofs.Kept.{End, away, FlowsKept, RowKept, Stands, OutsWent, Hands}
 use Rattle.endpoint_handing.proofs.Kept.{Does, hands_after}
-use Rattle.endpoint_handing.proofs.Silent.{away_same}
+use Rattle.endpoint_handing.proofs.Silent.{away_same, keys_same}
 use Rattle.endpoint_handing.proofs.Begun.{contexts_apart}
 use Rattle.endpoint_handing.proofs.Bodies.{body_pieces}
 use Rattle.endpoint_handing.proofs.Sent.{hands_sent}
@@ -61,13 +60,13 @@ pub flows_facts : (near : ℕ) (stated : List Stated) (facts : List Fact) → fa
 flows_facts near [] facts = refl
 flows_facts near (x ∷ rest) facts = ap (λ (o : Option Fact). facts_onto (map (flow_entry near) rest) (fact_and o facts)) (flow_fact near x) ∙ flows_facts near rest facts
 
-flows_outs : (setup : Setup) (near : ℕ) (stated : List Stated) (h : History) → OutsWent setup (map (flow_entry near) stated) h
-flows_outs setup near [] h = tt
-flows_outs setup near (OpenedOf flow ∷ rest) h = (tt, flows_outs setup near rest h)
-flows_outs setup near (QueuedOf flow seq message ∷ rest) h = (tt, flows_outs setup near rest h)
-flows_outs setup near (AbandonedOf flow seq ∷ rest) h = (tt, flows_outs setup near rest h)
-flows_outs setup near (FinishedOf flow seq ∷ rest) h = (tt, flows_outs setup near rest h)
-flows_outs setup near (HandedOf flow seq message ∷ rest) h = (tt, flows_outs setup near rest h)
+flows_outs : (secrets : Secrets) (near : ℕ) (stated : List Stated) (h : History) → OutsWent secrets (map (flow_entry near) stated) h
+flows_outs secrets near [] h = tt
+flows_outs secrets near (OpenedOf flow ∷ rest) h = (tt, flows_outs secrets near rest h)
+flows_outs secrets near (QueuedOf flow seq message ∷ rest) h = (tt, flows_outs secrets near rest h)
+flows_outs secrets near (AbandonedOf flow seq ∷ rest) h = (tt, flows_outs secrets near rest h)
+flows_outs secrets near (FinishedOf flow seq ∷ rest) h = (tt, flows_outs secrets near rest h)
+flows_outs secrets near (HandedOf flow seq message ∷ rest) h = (tt, flows_outs secrets near rest h)
 
 module _ (own : List ℕ) (near : ℕ) (facts : List Fact) (c : Context) (named : sending_context own near facts ≡ Some c) where
   one_told : (x : Stated) → told_at own facts (flow_entry near x) ≡ tell_of c x
@@ -156,8 +155,7 @@ module _ (e : End) (facts : List Fact) (s : State) (near : ℕ) (row : Row) (the
       new_kept = record {
         id = ap (λ (j : Joined). j.near) it.joined ∙ row_kept.id;
         own = it.own ∙ row_kept.own;
-        keyed = keyed_same e.setup.secret row.session new.session it.joined it.own it.role it.generation it.inward it.outward row_kept.keyed;
-        generation = it.generation ∙ row_kept.generation;
+        keyed = keys_same e.secrets row.session new.session it.joined it.own it.role it.generation it.inward it.outward row_kept.keyed;
         named = row_kept.named ∙ ap (λ (c : Context). Some c) (sym same);
         flows = subst (λ (c : Context). FlowsKept e.who c new.flows run.after) (sym same) (record {
           kept = did_all fl deeds;
@@ -174,7 +172,6 @@ module _ (e : End) (facts : List Fact) (s : State) (near : ℕ) (row : Row) (the
             id = k.id;
             own = k.own;
             keyed = k.keyed;
-            generation = k.generation;
             named = k.named;
             flows = run.beside (away other.session) other.flows
                 (contexts_apart row.session.role other.session.role row.session.own other.session.own row.session.joined other.session.joined
@@ -192,7 +189,8 @@ module _ (e : End) (facts : List Fact) (s : State) (near : ℕ) (row : Row) (the
         lawful = run.lawful;
         honest = run.honest;
         begun = λ at was. stands.begun at (run.begun at was);
-        state = record { own = stands.state.own; one = one_still e.setup s after_it stands.state.one refl refl refl; rows = rows_kept };
+        state = record { own = stands.state.own; rows = rows_kept };
+        holds = holds_still e.secrets s after_it stands.holds refl refl refl;
       }
 
       pub went : Went deeds
@@ -204,7 +202,7 @@ module _ (e : End) (facts : List Fact) (s : State) (near : ℕ) (row : Row) (the
           log = run.log ∙ ap (λ (l : List Stated). told_on context l (log_of h)) done.states ∙ messages_told context d.stated (log_of h)
               ∙ sym (flows_told e.own near facts context row_kept.named d.stated (log_of h));
           named = flows_named e.own near facts context row_kept.named d.stated;
-          outs = flows_outs e.setup near d.stated run.after;
+          outs = flows_outs e.secrets near d.stated run.after;
           still = λ q. inr (ap (sending_context e.own q) (flows_facts near d.stated facts));
           order = λ b n o was. run.order b n (asked b n o) was;
         };

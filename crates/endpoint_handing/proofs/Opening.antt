@@ -11,7 +11,7 @@ use Rattle.session_flows.specs.Calling.{new_flow, opening}
 use Rattle.endpoint_model.specs.declared.row.Row.{Row}
 use Rattle.endpoint_model.specs.declared.entry.Entry.{Entry}
 use Rattle.endpoint_model.specs.declared.entry.Entry.TheVariants.{FlowOpened}
-use Rattle.endpoint_model.specs.Event.{OnFlows, Answer, Began, Searching, Done, NotOpened, NotSought, Refused, NotAdded}
+use Rattle.endpoint_model.specs.Event.{OnFlows, Answer, Began, Searching, Done, Succeeds, NotOpened, NotSought, Refused, NotAdded}
 use Rattle.endpoint_model.specs.Event.{Stopped, OutOfMemory}
 use Rattle.endpoint_model.specs.FlowCall.{FlowCall, OpenFlow}
 use Rattle.endpoint_model.specs.State.{State, with_row, Does as DoesSo}
@@ -94,6 +94,7 @@ module _ (e : End) (facts : List Fact) (s t : State) (h : History) (near priorit
   opened_in_order Done n b entries does opened context order = by_row (held_row s near) refl does.0 n b entries does.1 opened context order
   opened_in_order (Refused refusal) n b entries does opened context order = absurd (let clash : [] ≡ FlowOpened near n.flow ∷ [] = sym does.1.entries ∙ opened in cc)
   opened_in_order (Began k) n b entries does opened context order = absurd does
+  opened_in_order (Succeeds generation) n b entries does opened context order = absurd does
   opened_in_order (NotOpened refusal) n b entries does opened context order = absurd does
   opened_in_order (Searching id) n b entries does opened context order = absurd does
   opened_in_order (NotSought refusal) n b entries does opened context order = absurd does

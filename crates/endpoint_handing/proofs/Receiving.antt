@@ -59,7 +59,7 @@ use Rattle.flow_history.specs.Lawful.{HasBegun, WasSent}
 use Rattle.endpoint_handing.specs.Told.{sends_in, facts_onto}
 use Rattle.session_deeds.specs.Pieces.{pieces_read, pieces_behind, pieces_of}
 use Rattle.endpoint_handing.proofs.Pieces.{pieces_whole, keys_in, pieces_in}
-use Rattle.endpoint_laws.proofs.Kin.{one_still}
+use Rattle.endpoint_laws.proofs.Kin.{holds_still}
 use Rattle.endpoint_handing.proofs.Kept.{End, away, session_of, HasStarted, Stands, IsNew, AreNew, new_split}
 use Rattle.endpoint_handing.proofs.Kept.{grows_then, Hands, Does, hands_after}
 use Rattle.endpoint_handing.proofs.Kept.{does_nothing}
@@ -75,12 +75,12 @@ use Rattle.endpoint_handing.proofs.Chunks.{BeginsAt, AllCame, AllCameAt, stays, 
 -- ---- before the chunks
 
 alike_itself : (s : State) → IsAlike s s
-alike_itself s = record { own = refl; one = λ setup one. one; rows = had_it s.sessions }
+alike_itself s = record { own = refl; holds = λ secrets holds. holds; rows = had_it s.sessions }
 
 alike_then : (a b c : State) → IsAlike a b → IsAlike b c → IsAlike a c
 alike_then a b c p q = record {
   own = q.own ∙ p.own;
-  one = λ setup one. q.one setup (p.one setup one);
+  holds = λ secrets holds. q.holds secrets (p.holds secrets holds);
   rows = λ near row there.
       (let two = q.rows near row there in
       let one = p.rows near two.old two.there in
@@ -89,7 +89,7 @@ alike_then a b c p q = record {
 
 counted_alike : (s : State) (near : ℕ) (part : List ℕ) (o : Option Row) → get s.sessions near ≡ o → IsAlike s (counted_by s near part o)
 counted_alike s near part None is = alike_itself s
-counted_alike s near part (Some row) is = record { own = refl; one = λ setup one. one_still setup s _ one refl refl refl; rows = had_row s.sessions near row (record row { session = counted row.session part }) is (record { joined = refl; own = refl; role = refl; generation = refl; inward = refl; outward = refl; flows = refl }) }
+counted_alike s near part (Some row) is = record { own = refl; holds = λ secrets holds. holds_still secrets s _ holds refl refl refl; rows = had_row s.sessions near row (record row { session = counted row.session part }) is (record { joined = refl; own = refl; role = refl; generation = refl; inward = refl; outward = refl; flows = refl }) }
 
 alike_counted : (s : State) (place : Place) (part : List ℕ) → IsAlike s (counted_at s place part)
 alike_counted s (Startup generation) part = alike_itself s
@@ -98,7 +98,7 @@ alike_counted s (Session near) part = counted_alike s near part (get s.sessions 
 
 timed_alike : (s : State) (near : ℕ) (head : PacketHead) (o : Option Row) → get s.sessions near ≡ o → IsAlike s (timed_by s near head o)
 timed_alike s near head None is = alike_itself s
-timed_alike s near head (Some row) is = record { own = refl; one = λ setup one. one_still setup s _ one refl refl refl; rows = had_row s.sessions near row (record row { session = with_stamps head s.moment row.session }) is (record { joined = refl; own = refl; role = refl; generation = refl; inward = refl; outward = refl; flows = refl }) }
+timed_alike s near head (Some row) is = record { own = refl; holds = λ secrets holds. holds_still secrets s _ holds refl refl refl; rows = had_row s.sessions near row (record row { session = with_stamps head s.moment row.session }) is (record { joined = refl; own = refl; role = refl; generation = refl; inward = refl; outward = refl; flows = refl }) }
 
 alike_timed : (s : State) (place : Place) (head : PacketHead) → IsAlike s (timed_at s place head)
 alike_timed s (Startup generation) head = alike_itself s
@@ -236,9 +236,9 @@ module _ (e : End) (A B : Type 0) where
     begun = k.begun;
     state = record {
       own = k.state.own;
-      one = k.state.one;
-      rows = λ near row there. (let r = k.state.rows near row there in record { id = r.id; own = r.own; keyed = r.keyed; generation = r.generation; named = r.named; flows = r.flows });
+      rows = λ near row there. (let r = k.state.rows near row there in record { id = r.id; own = r.own; keyed = r.keyed; named = r.named; flows = r.flows });
     };
+    holds = k.holds;
   }
 
   new_as : (entries : List Entry) (facts : List Fact) → AreNew (with_begins e A) facts entries → AreNew (with_begins e B) facts entries
@@ -328,7 +328,7 @@ came_pieces secret session datagram packet keyed reads =
 -- What opens in a session's context was sent in it.
 abbrev pub Arrives : End → State → List ℕ → History → Type 0
 Arrives e s datagram h = (near : ℕ) (row : Row) → get s.sessions near ≡ Some row → opens_in s datagram ≡ Some (context_of row.session false) →
-    WasSent (back (away row.session)) (pieces_in e.setup.secret (back (away row.session)) datagram) h
+    (secret : List ℕ) → get e.secrets row.session.generation ≡ Some secret → WasSent (back (away row.session)) (pieces_in secret (back (away row.session)) datagram) h
 
 module _ (e : End) (facts : List Fact) (c : Context) (pieces : List Piece) (h : History) where
   abbrev taken : History
@@ -341,11 +341,11 @@ module _ (e : End) (facts : List Fact) (c : Context) (pieces : List Piece) (h : 
     begun = λ d was. earlier d was;
     state = record {
       own = k.state.own;
-      one = k.state.one;
       rows = λ near row there.
           (let r = k.state.rows near row there in
-          record { id = r.id; own = r.own; keyed = r.keyed; generation = r.generation; named = r.named; flows = kept_by e.who (away row.session) row.flows (In c pieces) h (record { sends = λ f k. refl; takes = λ f k. refl }) r.flows });
+          record { id = r.id; own = r.own; keyed = r.keyed; named = r.named; flows = kept_by e.who (away row.session) row.flows (In c pieces) h (record { sends = λ f k. refl; takes = λ f k. refl }) r.flows });
     };
+    holds = k.holds;
   }
     where
       earlier : (d : Context) → HasBegun d taken → HasStarted e facts d
@@ -398,10 +398,10 @@ module _ (e : End) (owed : (A : Type 0) → FlowsHand (with_begins e A)) (from :
     hands_inside near opens alike arrives before stands new =
         let row : Row = opens.row in
         let c : Context = back (away row.session) in
-        let pieces : List Piece = pieces_in e.setup.secret c datagram in
         let kept = before.state.rows near row opens.there in
-        let sent : WasSent c pieces h = arrives near row opens.there opens.opens in
-        let are : pieces ≡ pieces_of (chunks_of packet) = came_pieces e.setup.secret row.session datagram packet kept.keyed opens.reads in
+        let pieces : List Piece = pieces_in kept.keyed.secret c datagram in
+        let sent : WasSent c pieces h = arrives near row opens.there opens.opens kept.keyed.secret kept.keyed.known in
+        let are : pieces ≡ pieces_of (chunks_of packet) = came_pieces kept.keyed.secret row.session datagram packet kept.keyed.keyed opens.reads in
         let now : History = taken shut_end facts c pieces h in
         let all : AllCame shut_end near facts None cs now = record {
           context = away row.session;

@@ -1,6 +1,6 @@
 -- A datagram goes out, in the startup context or in a session.
 use Rattle.std.proofs.Common.{◌≡◌, ℕ, ◌+◌, ◌==◌, List, [], ◌∷◌, Bool, true, false, if◌then◌else◌}
-use Rattle.std.proofs.Common.{Option, Some, inl, inr, refl, sym, subst, ◌∙◌}
+use Rattle.std.proofs.Common.{Option, Some, inl, inr, refl, sym, ap, subst, ◌∙◌}
 use Rattle.std.specs.FinMap.{get}
 use Rattle.rtmfp_forms.specs.Address.{AddressParts}
 use Rattle.glare_core.specs.declared.facts.Fact.{Fact}
@@ -15,8 +15,8 @@ use Rattle.endpoint_model.specs.Sending.{session_datagram, sent_by}
 use Rattle.flow_history.specs.Deeds.{Context, Piece, Out, done, History}
 use Rattle.flow_history.specs.Lawful.{MayDo, WasSent}
 use Rattle.endpoint_handing.proofs.Pieces.{pieces_in}
-use Rattle.endpoint_laws.proofs.Kin.{one_still}
-use Rattle.endpoint_handing.proofs.Kept.{End, away, RowKept, Stands, WentIn, Hands, Does}
+use Rattle.endpoint_laws.proofs.Kin.{holds_still}
+use Rattle.endpoint_handing.proofs.Kept.{End, away, HasKeys, RowKept, Stands, WentIn, Hands, Does}
 use Rattle.endpoint_handing.proofs.Kept.{does_nothing}
 use Rattle.endpoint_handing.proofs.Deeding.{grows_by, kept_by, out_leaves_be, out_orders}
 use Rattle.endpoint_handing.proofs.Silent.{IsSilent, IsSame, same_itself, row_same, had_row}
@@ -26,7 +26,7 @@ use Rattle.endpoint_handing.proofs.Bodies.{body_pieces, datagram_pieces, session
 -- ---- in the startup context
 
 pub startup_silent : (to : AddressParts) (datagram : List ℕ) (generation : ℕ) → IsSilent (OutEntry to datagram (Startup generation))
-startup_silent to datagram generation = record { told = λ own facts. refl; context = λ own near facts. refl; out = λ setup h. tt; no_message = refl }
+startup_silent to datagram generation = record { told = λ own facts. refl; context = λ own near facts. refl; out = λ secrets h. tt; no_message = refl }
 
 -- ---- in a session
 
@@ -43,7 +43,6 @@ module _ (e : End) (facts : List Fact) (c : Context) (pieces : List Piece) (h : 
     id = k.id;
     own = k.own;
     keyed = k.keyed;
-    generation = k.generation;
     named = k.named;
     flows = kept_by e.who (away row.session) row.flows (Out c pieces) h (out_leaves_be c pieces (away row.session)) k.flows;
   }
@@ -55,11 +54,11 @@ module _ (e : End) (facts : List Fact) (c : Context) (pieces : List Piece) (h : 
     begun = λ d was. elim was [ inl none ↦ absurd none | inr before ↦ stands.begun d before ];
     state = record {
       own = alike.own ∙ stands.state.own;
-      one = alike.one e.setup stands.state.one;
       rows = λ near row there.
           (let was = alike.rows near row there in
           row_out near row (row_same e facts near h was.old row was.same (stands.state.rows near was.old was.there)));
     };
+    holds = alike.holds e.secrets stands.holds;
   }
 
 module _ (e : End) (facts : List Fact) (s : State) (near : ℕ) (to : AddressParts) (body : List ℕ) where
@@ -77,10 +76,13 @@ module _ (e : End) (facts : List Fact) (s : State) (near : ℕ) (to : AddressPar
       abbrev later : History
       later = after e facts context (body_pieces body) h
 
-      its : pieces_in e.setup.secret context sent ≡ body_pieces body
-      its = datagram_pieces e.setup.secret row.session (stands.state.rows near row there).keyed s.moment body
+      keyed : HasKeys e.secrets row.session
+      keyed = (stands.state.rows near row there).keyed
 
-      went : WasSent context (pieces_in e.setup.secret context sent) later
+      its : pieces_in keyed.secret context sent ≡ body_pieces body
+      its = datagram_pieces keyed.secret row.session keyed.keyed s.moment body
+
+      went : WasSent context (pieces_in keyed.secret context sent) later
       went = inl (refl, sym its)
 
       -- whose pieces were given and told before
@@ -89,12 +91,12 @@ module _ (e : End) (facts : List Fact) (s : State) (near : ℕ) (to : AddressPar
         after = later;
         grows = grows_by e.who (Out context (body_pieces body)) h;
         stands = stands_out e facts context (body_pieces body) h s (with_session s near row (after_seal row.session))
-            (record { own = refl; one = λ setup one. one_still setup s _ one refl refl refl; rows = had_row s.sessions near row (record row { session = after_seal row.session }) there (sealed_same (is_spent row.session) row) }) may stands;
+            (record { own = refl; holds = λ secrets holds. holds_still secrets s _ holds refl refl refl; rows = had_row s.sessions near row (record row { session = after_seal row.session }) there (sealed_same (is_spent row.session) row) }) may stands;
         log = refl;
         named = (tt, tt);
         outs = (
-          subst (λ (o : Option Context). WentIn e.setup (context_of row.session true) sent o later) (sym (session_away row.session))
-              (session_generation row.session true ∙ (stands.state.rows near row there).generation, went),
+          subst (λ (o : Option Context). WentIn e.secrets (context_of row.session true) sent o later) (sym (session_away row.session))
+              (keyed.secret, ap (get e.secrets) (session_generation row.session true) ∙ keyed.known, went),
           tt,
         );
         still = λ q. inr refl;

@@ -14,15 +14,16 @@ use Rattle.endpoint_model.specs.declared.row.Row.{Row}
 use Rattle.endpoint_model.specs.declared.entry.Entry.{Entry}
 use Rattle.endpoint_model.specs.Views.{fact_in, out_in}
 use Rattle.endpoint_model.specs.State.{Sessions, State, Did}
-use Rattle.endpoint_model.specs.Event.{Setup}
 use Rattle.endpoint_laws.specs.Past.{fact_and}
-use Rattle.endpoint_laws.specs.Groups.{HasOneGroup}
+use Rattle.endpoint_laws.specs.Contexts.{Secrets}
+use Rattle.endpoint_laws.proofs.Kin.{HoldsSecrets}
 use Rattle.flow_history.specs.Deeds.{Context, History}
 use Rattle.flow_history.specs.Log.{Entry as Tell, log_of}
 use Rattle.endpoint_handing.specs.Once.{HasBegun as HasStated}
 use Rattle.endpoint_handing.specs.Told.{message_in, HasContext, AllHaveContext}
 use Rattle.endpoint_handing.specs.Told.{sends_in, sending_context, told_at, facts_onto, told_onto}
-use Rattle.endpoint_handing.proofs.Kept.{End, away, FlowsKept, RowKept, HasStarted, Stands}
+use Rattle.endpoint_handing.proofs.Kept.{End, away, FlowsKept, HasKeys, RowKept, HasStarted}
+use Rattle.endpoint_handing.proofs.Kept.{Stands}
 use Rattle.endpoint_handing.proofs.Kept.{grows_not, OutWent, OutsWent, Does}
 
 -- ---- silent entries
@@ -31,7 +32,7 @@ pub record IsSilent (entry : Entry) : Type 0 where
   pub told : (own : List ℕ) (facts : List Fact) → told_at own facts entry ≡ []
   pub context : (own : List ℕ) (near : ℕ) (facts : List Fact) →
       sending_context own near (fact_and (fact_in entry) facts) ≡ sending_context own near facts
-  pub out : (setup : Setup) (h : History) → OutWent setup (out_in entry) h
+  pub out : (secrets : Secrets) (h : History) → OutWent secrets (out_in entry) h
   pub no_message : message_in entry ≡ None
 
 abbrev pub AreSilent : List Entry → Type 0
@@ -53,10 +54,10 @@ context_silent own near [] facts are = refl
 context_silent own near (x ∷ xs) facts are =
     context_silent own near xs (fact_and (fact_in x) facts) are.1 ∙ are.0.context own near facts
 
-outs_silent : (setup : Setup) (entries : List Entry) (h : History) → AreSilent entries →
-    OutsWent setup entries h
-outs_silent setup [] h are = tt
-outs_silent setup (x ∷ xs) h are = (are.0.out setup h, outs_silent setup xs h are.1)
+outs_silent : (secrets : Secrets) (entries : List Entry) (h : History) → AreSilent entries →
+    OutsWent secrets entries h
+outs_silent secrets [] h are = tt
+outs_silent secrets (x ∷ xs) h are = (are.0.out secrets h, outs_silent secrets xs h are.1)
 
 named_silent : (own : List ℕ) (entries : List Entry) (facts : List Fact) → AreSilent entries →
     AllHaveContext own facts entries
@@ -115,6 +116,16 @@ away_same old new joined own role =
     ∙ ap (λ (o : List ℕ). sends_in new.role o old.joined) own
     ∙ ap (λ (r : Role). sends_in r old.own old.joined) role
 
+pub keys_same : (secrets : Secrets) (old new : SessionState) → new.joined ≡ old.joined →
+    new.own ≡ old.own → new.role ≡ old.role → new.generation ≡ old.generation →
+    new.inward ≡ old.inward → new.outward ≡ old.outward → HasKeys secrets old →
+    HasKeys secrets new
+keys_same secrets old new joined own role generation inward outward k = record {
+  secret = k.secret;
+  known = ap (get secrets) generation ∙ k.known;
+  keyed = keyed_same k.secret old new joined own role generation inward outward k.keyed;
+}
+
 module _ (e : End) (facts : List Fact) (near : ℕ) (h : History) where
   pub row_same : (old new : Row) → IsSame old new → RowKept e facts near old h →
       RowKept e facts near new h
@@ -124,9 +135,8 @@ module _ (e : End) (facts : List Fact) (near : ℕ) (h : History) where
       record {
         id = ap (λ (j : Joined). j.near) same.joined ∙ k.id;
         own = same.own ∙ k.own;
-        keyed = keyed_same e.setup.secret old.session new.session same.joined same.own same.role
+        keyed = keys_same e.secrets old.session new.session same.joined same.own same.role
             same.generation same.inward same.outward k.keyed;
-        generation = same.generation ∙ k.generation;
         named = k.named ∙ ap (λ (c : Context). Some c) (sym context);
         flows = subst (λ (f : FlowsState). FlowsKept e.who (away new.session) f h) (sym same.flows)
             (subst (λ (c : Context). FlowsKept e.who c old.flows h) (sym context) k.flows);
@@ -138,7 +148,6 @@ module _ (e : End) (facts : List Fact) (near : ℕ) (h : History) where
     id = k.id;
     own = k.own;
     keyed = k.keyed;
-    generation = k.generation;
     named = context_silent e.own near entries facts are ∙ k.named;
     flows = k.flows;
   }
@@ -169,7 +178,7 @@ had_left m near q row e = had_it m q row (found_left m near q row e).1
 -- The end is the same, and each session was there.
 pub record IsAlike (s t : State) : Type 0 where
   pub own : t.startup.ledger.own ≡ s.startup.ledger.own
-  pub one : (setup : Setup) → HasOneGroup setup s → HasOneGroup setup t
+  pub holds : (secrets : Secrets) → HoldsSecrets secrets s → HoldsSecrets secrets t
   pub rows : AllHad s.sessions t.sessions
 
 -- ---- silent things
@@ -182,12 +191,12 @@ module _ (e : End) (facts : List Fact) (s t : State) (entries : List Entry) (are
     begun = λ c was. started_later e entries facts c (stands.begun c was);
     state = record {
       own = alike.own ∙ stands.state.own;
-      one = alike.one e.setup stands.state.one;
       rows = λ near row there.
           (let was = alike.rows near row there in
           row_later e facts near h entries row are
           (row_same e facts near h was.old row was.same (stands.state.rows near was.old was.there)));
     };
+    holds = alike.holds e.secrets stands.holds;
   }
 
   pub does_silent : Does e facts s (record { state = t; entries = entries })
@@ -197,7 +206,7 @@ module _ (e : End) (facts : List Fact) (s t : State) (entries : List Entry) (are
     stands = stands_silent h stands;
     log = sym (told_silent e.own entries facts (log_of h) are);
     named = named_silent e.own entries facts are;
-    outs = outs_silent e.setup entries h are;
+    outs = outs_silent e.secrets entries h are;
     still = λ near. inr (context_silent e.own near entries facts are);
     order = λ b n asked was. was;
   }

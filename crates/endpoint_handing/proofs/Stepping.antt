@@ -3,20 +3,23 @@ use Rattle.std.proofs.Common.{◌≡◌, ◌<◌, ◌^◌, List, [], length}
 use Rattle.std.proofs.Common.{None, refl, sym, subst}
 use Rattle.glare_core.specs.declared.facts.Fact.{Fact}
 use Rattle.endpoint_model.specs.declared.entry.Entry.{Entry}
-use Rattle.endpoint_model.specs.Event.{Call, Open, Seek, Unseek, Cancel, Close, AddRow, Introduce, OnFlows}
+use Rattle.endpoint_model.specs.Event.{Call, Open, Seek, Unseek, Cancel, Close, AddRow, Introduce}
+use Rattle.endpoint_model.specs.Event.{Learn, Advance, OnFlows}
 use Rattle.endpoint_model.specs.Event.{Receive, Tick}
-use Rattle.endpoint_model.specs.Event.{Answer, Began, Searching, Done, NotOpened, NotSought, Refused, NotAdded, Stopped}
+use Rattle.endpoint_model.specs.Event.{Answer, Began, Searching, Done, Succeeds, NotOpened, NotSought, Refused, NotAdded, Stopped}
 use Rattle.endpoint_model.specs.Event.{OutOfMemory}
 use Rattle.endpoint_model.specs.State.{State, Did, Does as DoesSo, nothing}
 use Rattle.endpoint_model.specs.Admission.{admission}
 use Rattle.endpoint_model.specs.Introducing.{with_redirect, introducing}
+use Rattle.endpoint_model.specs.Succession.{next_group, learning, advancing}
 use Rattle.endpoint_model.specs.InSessions.{closing}
 use Rattle.endpoint_model.specs.OnFlows.{call_refusal, flow_called}
 use Rattle.endpoint_model.specs.FlowTimes.{all_late}
 use Rattle.endpoint_model.specs.Effects.{opening, seeking, unseeking, cancelling, ticks, received}
 use Rattle.endpoint_model.specs.Log.{Answers, stopped}
 use Rattle.flow_history.specs.Deeds.{History}
-use Rattle.endpoint_laws.proofs.Kin.{one_still}
+use Rattle.endpoint_laws.specs.Groups.{HasSecret}
+use Rattle.endpoint_laws.proofs.Kin.{holds_still}
 use Rattle.endpoint_handing.proofs.Kept.{End, Stands, AreNew, Hands, does_nothing}
 use Rattle.endpoint_handing.proofs.Silent.{had_it, IsAlike, does_from}
 use Rattle.endpoint_laws.proofs.Made.{cancelling_made, closing_made, opening_made, seeking_made, unseeking_made, tick_all_made}
@@ -25,6 +28,7 @@ use Rattle.endpoint_handing.proofs.Chunks.{begins_does}
 use Rattle.endpoint_handing.proofs.Owed.{FlowsHand, OpensAsAsked}
 use Rattle.endpoint_handing.proofs.Receiving.{with_begins, Arrives, hands_received, hands_stopped}
 use Rattle.endpoint_handing.proofs.Ticks.{timed_does}
+use Rattle.endpoint_handing.proofs.Succeeding.{learning_does, advancing_does}
 
 abbrev same_did : (d : Did) (t : State) (entries : List Entry) → DoesSo d t [] entries → d ≡ record { state = t; entries = entries }
 same_did d t entries is = λ i. record { state = sym is.state i; entries = sym is.entries i }
@@ -36,6 +40,7 @@ module _ (e : End) (owed : (A : Type 0) → FlowsHand (with_begins e A)) (facts 
   -- what is given with a call
   abbrev pub GivenWith : Call → Type 0
   GivenWith (Receive from datagram draws) = Arrives it s datagram h × (length draws.token < 2 ^ 16)
+  GivenWith (Learn secret) = entries ≡ (learning s secret).entries → HasSecret e.secrets (next_group s secret)
   GivenWith (OnFlows near call) = call_refusal s near call ≡ None → entries ≡ (flow_called s near call).entries → OpensAsAsked it s near call
   GivenWith call = Unit {0}
 
@@ -64,9 +69,13 @@ module _ (e : End) (owed : (A : Type 0) → FlowsHand (with_begins e A)) (facts 
     answers_hand (Cancel n) (Refused refusal) given is = none is.2
     answers_hand (Close near) Done given is = by_did (closing s near) is.1 new (closing_made (quiet_does it) s near facts h stands)
     answers_hand (Close near) (Refused refusal) given is = none is.2
-    answers_hand (AddRow print addresses) Done given is = changed (with_redirect s print addresses) (record { own = refl; one = λ setup one. one_still setup s _ one refl refl refl; rows = had_it s.sessions }) is.1
+    answers_hand (AddRow print addresses) Done given is = changed (with_redirect s print addresses) (record { own = refl; holds = λ secrets holds. holds_still secrets s _ holds refl refl refl; rows = had_it s.sessions }) is.1
     answers_hand (AddRow print addresses) (NotAdded refusal) given is = none is.1
-    answers_hand Introduce Done given is = changed (introducing s) (record { own = refl; one = λ setup one. one_still setup s _ one refl refl refl; rows = had_it s.sessions }) is
+    answers_hand Introduce Done given is = changed (introducing s) (record { own = refl; holds = λ secrets holds. holds_still secrets s _ holds refl refl refl; rows = had_it s.sessions }) is
+    answers_hand (Learn secret) (Succeeds generation) given is = by_did (learning s secret) is.2 new (learning_does it facts s secret (given is.2.entries) h stands)
+    answers_hand (Learn secret) (Refused refusal) given is = none is.1
+    answers_hand Advance (Succeeds generation) given is = by_did (advancing s) is.2 new (advancing_does it facts s h stands)
+    answers_hand Advance (Refused refusal) given is = none is.1
     answers_hand (OnFlows near call) Done given is =
         by_did (flow_called s near call) is.1 new ((owed (Unit {0})).called facts s near call is.0 (given is.0 is.1.entries) h stands)
     answers_hand (OnFlows near call) (Refused refusal) given is = none is.1
