@@ -8,7 +8,7 @@ use Rattle.glare_core.specs.Ledger.{row_in}
 use Rattle.fact_digest.specs.Roll.{IsOfFacts}
 use Rattle.fact_digest.proofs.Facts.{none_said, one_more}
 use Rattle.endpoint_model.specs.declared.entry.Entry.{Entry}
-use Rattle.endpoint_model.specs.declared.entry.Entry.TheVariants.{Fact as FactEntry, Closed, Sought, Unsought, Moved, FlowOpened, Queued, Finished, Abandoned, Handed, Discard, Out}
+use Rattle.endpoint_model.specs.declared.entry.Entry.TheVariants.{Fact as FactEntry, Closed, Sought, Unsought, Moved, Learnt, Advanced, FlowOpened, Queued, Finished, Abandoned, Handed, Discard, Out}
 use Rattle.endpoint_model.specs.Event.{Event, moment_at, seek_in}
 use Rattle.endpoint_laws.specs.Past.{stamped, begun, Past, facts_of, nothing_done, with_begun, with_entry, fact_done, closed_done, sought_done, unsought_done}
 use Rattle.log_digest.specs.declared.spot.Drawn.{Drawn}
@@ -66,6 +66,8 @@ module _ (own : List ℕ) (last : ℕ) (past : Past) (d : Digested) (is : IsDige
   digest_added (Unsought near why) may =
       of_plain (Unsought near why) (spots_unsought own past is.orderly last d.spots is.spots_are near why may) is.roll_is refl (orderly_plain past is.orderly (stamped last (Unsought near why)) refl)
   digest_added (Moved near to) may = let p = plain (Moved near to) refl refl refl refl in of_plain (Moved near to) p.0 is.roll_is refl p.1
+  digest_added (Learnt generation) may = let p = plain (Learnt generation) refl refl refl refl in of_plain (Learnt generation) p.0 is.roll_is refl p.1
+  digest_added (Advanced generation) may = let p = plain (Advanced generation) refl refl refl refl in of_plain (Advanced generation) p.0 is.roll_is refl p.1
   digest_added (FlowOpened near flow) may = let p = plain (FlowOpened near flow) refl refl refl refl in of_plain (FlowOpened near flow) p.0 is.roll_is refl p.1
   digest_added (Queued near flow seq message) may = let p = plain (Queued near flow seq message) refl refl refl refl in of_plain (Queued near flow seq message) p.0 is.roll_is refl p.1
   digest_added (Finished near flow seq) may = let p = plain (Finished near flow seq) refl refl refl refl in of_plain (Finished near flow seq) p.0 is.roll_is refl p.1

@@ -8,3 +8,4 @@ pub mod Stamps
 pub mod Once
 pub mod Hears
 pub mod Coming
+pub mod Going

@@ -5,7 +5,6 @@ use Rattle.glare_core.specs.declared.facts.Fact.TheVariants.{Started, Born, Open
 use Rattle.glare_core.specs.declared.facts.Held.{Held}
 use Rattle.glare_core.specs.declared.facts.Held.TheVariants.{Opening, HalfOpen, KeptAsResponder, KeptAsInitiator}
 use Rattle.glare_core.specs.Standing.{peer_of, after, held, seen_in, seen, count}
-use Rattle.glare_core.specs.Things.{near_of}
 use Rattle.glare_core.proofs.Tails.{same_end}
 use Rattle.endpoint_model.specs.declared.entry.Entry.TheVariants.{Fact as FactEntry}
 use Rattle.endpoint_laws.specs.Past.{Stamped, stamped, fact_done, Past, WasStated}
@@ -18,12 +17,6 @@ id_of (Born j) = j.near
 id_of (Opened j) = j.near
 id_of (Confirmed peer near) = near
 id_of (Ended peer near why) = near
-
-pub beginning_id : (peer : List ℕ) (thing : Held) → id_of (beginning peer thing) ≡ near_of thing
-beginning_id peer (Opening n near ni) = refl
-beginning_id peer (HalfOpen j) = refl
-beginning_id peer (KeptAsResponder j) = refl
-beginning_id peer (KeptAsInitiator j) = refl
 
 some_is : {A : Type 0} (a b : A) → Some a ≡ Some b → a ≡ b
 some_is a b e = cc

@@ -6,4 +6,5 @@ pub mod Nonces
 pub mod Numbers
 pub mod Edges
 pub mod Hearing
+pub mod Generations
 pub mod Laws

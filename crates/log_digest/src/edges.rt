@@ -1,6 +1,6 @@
-//! What entries change under session IDs, for each cause of an end, and which numbers are the same.
-//! The functions do nothing: the contract of each is a table. A fingerprint is a short list of
-//! bytes here.
+//! What entries change under session IDs, for each cause of an end, which numbers are the same, and
+//! which generations are known. The functions do nothing: the contract of each is a table. A
+//! fingerprint is a short list of bytes here.
 
 ghost use Rattle.std.specs.Prelude.{◌≡◌, ◌∷◌, ℕ, [], true, false, Some, None, replicate};
 ghost use Rattle.crypto_profile.specs.declared.keys.Context.TheVariants.{Startup};
@@ -10,6 +10,7 @@ ghost use Rattle.glare_core.specs.declared.facts.Why.TheVariants.{Cancelled, Exp
 ghost use Rattle.log_digest.specs.declared.spot.Change.TheVariants.{Stays, Puts, Takes};
 ghost use Rattle.log_digest.specs.declared.spot.Spot.TheVariants.{Searching, Holding, Closing};
 ghost use Rattle.log_digest.specs.Changes.{fact_change, over_change, sought_change};
+ghost use Rattle.log_digest.specs.Generations.{begun_in, succeeded};
 ghost use Rattle.log_digest.specs.Numbers.{is_same_stamp, number_in, stamp_of};
 ghost use Rattle.log_digest.specs.Edges.{long, session, towards};
 
@@ -76,4 +77,16 @@ pub fn numbers_are_the_same_in_one_context_alone()
 pub fn a_number_needs_36_bytes()
     ensures shorter { number_in (long 35) ≡ None }
     ensures least { number_in (long 36) ≡ Some (replicate 16 9) }
+{}
+
+/// An end knows no next generation at first, and one from its Learnt to the Advanced of its number.
+pub fn a_generation_is_next_until_it_is_current()
+    ensures first { begun_in 7 ≡ record { current = 7; next = None } }
+    ensures learnt { succeeded (Some 8) None (begun_in 7) ≡ record { current = 7; next = Some 8 } }
+    ensures advanced { succeeded None (Some 8) (record { current = 7; next = Some 8 })
+        ≡ begun_in 8 }
+    ensures other { succeeded None (Some 8) (record { current = 7; next = Some 9 })
+        ≡ record { current = 8; next = Some 9 } }
+    ensures neither { succeeded None None (record { current = 7; next = Some 8 })
+        ≡ record { current = 7; next = Some 8 } }
 {}

@@ -1,5 +1,6 @@
 //! The laws of what is kept of logs. The functions do nothing: the contract of each states a law.
 
+ghost use Rattle.log_digest.specs.Generations.{TheyTellStartup};
 ghost use Rattle.log_digest.specs.Hearing.{OthersArentHeard};
 ghost use Rattle.log_digest.specs.Laws.{EachLawfulEntryMayCome, EventsUseNoNumber};
 
@@ -17,4 +18,10 @@ pub fn events_use_no_number()
 /// A datagram that doesn't open in a session changes nothing of what the session took.
 pub fn others_arent_heard()
     ensures { OthersArentHeard }
+{}
+
+/// The generations that are kept tell in which contexts an end takes startup datagrams, and stay
+/// where an event begins.
+pub fn generations_tell_startup()
+    ensures { TheyTellStartup }
 {}

@@ -1,9 +1,9 @@
 -- Logs as contracts see them: what an end was given, and its events.
 use Rattle.std.specs.Prelude.{ℕ, List, [], map, false, replicate}
 use Rattle.endpoint_model.specs.declared.config.Draws.{Draws}
-use Rattle.endpoint_model.specs.Event.{Setup, Call, Open, Seek, Cancel, Unseek, Close, Receive, Tick, Introduce, Done, Event}
+use Rattle.endpoint_model.specs.Event.{Setup, Call, Open, Seek, Cancel, Unseek, Close, Learn, Advance, Receive, Tick, Introduce, Done, Event}
 use Rattle.log_values.specs.declared.log.LoggedCall.{LoggedCall}
-use Rattle.log_values.specs.declared.log.LoggedCall.TheVariants.{Open as OpenCall, Seek as SeekCall, Cancel as CancelCall, Unseek as UnseekCall, Close as CloseCall, Receive as ReceiveCall, Tick as TickCall, Other as OtherCall}
+use Rattle.log_values.specs.declared.log.LoggedCall.TheVariants.{Open as OpenCall, Seek as SeekCall, Cancel as CancelCall, Unseek as UnseekCall, Close as CloseCall, Learn as LearnCall, Advance as AdvanceCall, Receive as ReceiveCall, Tick as TickCall, Other as OtherCall}
 use Rattle.log_values.specs.declared.log.Logged.{Logged}
 use Rattle.log_values.specs.declared.log.EndLog.{EndLog}
 
@@ -22,6 +22,8 @@ call_of nonce (SeekCall name tag) = Seek name [] (draws_of nonce tag)
 call_of nonce (CancelCall n) = Cancel n
 call_of nonce (UnseekCall near) = Unseek near
 call_of nonce (CloseCall near) = Close near
+call_of nonce (LearnCall secret) = Learn secret
+call_of nonce AdvanceCall = Advance
 call_of nonce (ReceiveCall from datagram) = Receive from datagram (draws_of nonce no_tag)
 call_of nonce TickCall = Tick (draws_of nonce no_tag)
 call_of nonce OtherCall = Introduce
@@ -33,6 +35,8 @@ moment_of (SeekCall name tag) moment = moment
 moment_of (CancelCall n) moment = 0
 moment_of (UnseekCall near) moment = 0
 moment_of (CloseCall near) moment = moment
+moment_of (LearnCall secret) moment = 0
+moment_of AdvanceCall moment = 0
 moment_of (ReceiveCall from datagram) moment = moment
 moment_of TickCall moment = moment
 moment_of OtherCall moment = 0

@@ -2,7 +2,7 @@
 //! contract of each is a table.
 
 ghost use Rattle.std.specs.Prelude.{◌≡◌, ◌∷◌, []};
-ghost use Rattle.log_values.specs.declared.log.LoggedCall.TheVariants.{Open, Seek, Cancel, Unseek, Close, Tick, Other};
+ghost use Rattle.log_values.specs.declared.log.LoggedCall.TheVariants.{Open, Seek, Cancel, Unseek, Close, Learn, Advance, Tick, Other};
 ghost use Rattle.log_values.specs.Events.{moment_of};
 ghost use Rattle.log_values.specs.Told.{history_in, times};
 ghost use Rattle.log_values.specs.Edges.{event, logs};
@@ -14,6 +14,8 @@ pub fn calls_that_are_given_a_moment()
     ensures cancel { moment_of (Cancel 1) 9 ≡ 0 }
     ensures unseek { moment_of (Unseek 1) 9 ≡ 0 }
     ensures close { moment_of (Close 1) 9 ≡ 9 }
+    ensures learn { moment_of (Learn (7 ∷ [])) 9 ≡ 0 }
+    ensures advance { moment_of Advance 9 ≡ 0 }
     ensures tick { moment_of Tick 9 ≡ 9 }
     ensures other { moment_of Other 9 ≡ 0 }
 {}

@@ -18,6 +18,10 @@ pub enum LoggedCall {
     Unseek { near: u32 },
     /// The session under this session ID is closed.
     Close { near: u32 },
+    /// The secret of the group's next generation is learnt.
+    Learn { secret: [u8; 32] },
+    /// The next generation of that secret becomes the current one.
+    Advance,
     /// A datagram came from this address.
     Receive { from: Address, datagram: Message },
     /// Time goes on.
@@ -46,9 +50,9 @@ pub struct EndLog {
     pub max_peers: u32,
     /// The most attempts, searches and sessions at a time.
     pub max_sessions: u32,
-    /// The number of the first secret of its group.
+    /// The number of its group's first generation.
     pub generation: u64,
-    /// That secret.
+    /// The secret of its group in that.
     pub secret: [u8; 32],
     /// The secret of its cookies.
     pub cookie_secret: [u8; 32],
