@@ -28,7 +28,7 @@ use Rattle.endpoint_model.specs.declared.config.Draws.{Draws}
 use Rattle.endpoint_model.specs.declared.place.Place.{Place}
 use Rattle.endpoint_model.specs.State.{State, Did, nothing, after_entries, then_do, fact_entries}
 use Rattle.endpoint_model.specs.State.{with_startup, full}
-use Rattle.endpoint_model.specs.Sending.{sent_answer, sent_if, sent_in_session}
+use Rattle.endpoint_model.specs.Sending.{is_spent, sent_answer, sent_if, sent_in_session}
 use Rattle.endpoint_model.specs.Admission.{group_at, sid_at}
 use Rattle.endpoint_model.specs.InSessions.{answers_by, close_taken_by, closed, moved_by}
 use Rattle.endpoint_model.specs.InSessions.{told_in_session}
@@ -80,12 +80,18 @@ does_nothing s place from chunk = adds_nothing s from (Ok chunk)
 -- What the hello of the end with this fingerprint does to the attempt or search that it answers,
 -- where it came under this secret of the group: a search starts as an attempt, which is told first,
 -- and the keying goes to where the hello came from.
-abbrev pub hello_did : State → GroupSecret → List ℕ → Option (ℕ × AttemptState) → AddressParts →
+abbrev pub greeting_did : State → GroupSecret → List ℕ → Option (ℕ × AttemptState) → AddressParts →
     List ℕ → Did
-hello_did s g print chosen from cookie = after_entries
+greeting_did s g print chosen from cookie = after_entries
     (fact_entries (answer_fact s.startup print chosen))
     (sent_if (with_startup s (after_answer s.startup print chosen from cookie s.moment g))
     (answer_keying s.startup print chosen from cookie g))
+
+-- It does so as long as a count of startup packets is left for the keying.
+abbrev pub hello_did : State → GroupSecret → List ℕ → Option (ℕ × AttemptState) → AddressParts →
+    List ℕ → Did
+hello_did s g print chosen from cookie =
+    if is_spent s then nothing s else greeting_did s g print chosen from cookie
 
 -- what it does
 abbrev pub verdict_did : State → Place → AddressParts → Draws → Verdict → Did

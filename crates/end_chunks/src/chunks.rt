@@ -14,7 +14,7 @@ ghost use Rattle.endpoint_model.specs.Effects.{IsQuiet, chunk_did, discards_for,
 ghost use Rattle.endpoint_model.specs.Causes.{chunk_cause};
 ghost use Rattle.endpoint_model.specs.Sending.{sent_answer, sent_if, sent_in_session};
 ghost use Rattle.endpoint_model.specs.State.{Done, nothing, with_startup};
-ghost use Rattle.end_chunks.specs.Judging.{IsSo, hello_did, verdict_did};
+ghost use Rattle.end_chunks.specs.Judging.{IsSo, greeting_did, hello_did, verdict_did};
 
 use crate::closing::take_close;
 use crate::flows::{Untaken, take_read};
@@ -129,7 +129,8 @@ fn answer_forwarded(
 }
 
 /// Takes a responder's hello with this cookie, which came from an address at a place and answers
-/// the attempt or the search that was found. A search starts as an attempt then.
+/// the attempt or the search that was found. Where no count of a startup packet is left for the
+/// keying it does nothing.
 fn take_hello(
     end: &mut EndState,
     place: Place,
@@ -142,6 +143,29 @@ fn take_hello(
         IsGreeted end.old.startup greeting.now chosen cert) }
     requires cookie { length cookie.now ≤ 128 }
     ensures ok { OnOk result (Done (hello_did end.old (group_at end.old place)
+        greeting.now.print (found_in end.old.startup greeting.now.found) from.now cookie.now)
+        end.new out.old out.new) }
+    ensures err { OnErr result (Done (nothing end.old) end.new out.old out.new) }
+{
+    if end.is_spent() {
+        return Ok(());
+    }
+    greet(end, place, greeting, cookie, from, out)
+}
+
+/// Answers such a hello by a keying. A search starts as an attempt then.
+fn greet(
+    end: &mut EndState,
+    place: Place,
+    greeting: &Greeting,
+    cookie: &[u8],
+    from: &Address,
+    out: &mut Outbox,
+) -> Result<(), AllocError>
+    requires greeted { (chosen : Option (ℕ × AttemptState)) × ((cert : List ℕ) ×
+        IsGreeted end.old.startup greeting.now chosen cert) }
+    requires cookie { length cookie.now ≤ 128 }
+    ensures ok { OnOk result (Done (greeting_did end.old (group_at end.old place)
         greeting.now.print (found_in end.old.startup greeting.now.found) from.now cookie.now)
         end.new out.old out.new) }
     ensures err { OnErr result (Done (nothing end.old) end.new out.old out.new) }

@@ -1,5 +1,5 @@
--- The context that a datagram's session ID names at an end, whether or not the datagram opens in
--- it.
+-- The context that a datagram's session ID names at an end where it names one alone, whether or not
+-- the datagram opens in it.
 use Rattle.std.specs.Prelude.{ℕ, nat_lt, false, if◌then◌else◌, List, [], ◌∷◌, length, Option, Some, None}
 use Rattle.std.specs.FinMap.{get}
 use Rattle.crypto_profile.specs.declared.keys.Context.{Context}
@@ -33,7 +33,14 @@ abbrev pub first_place : List Place → Option Place
 first_place [] = None
 first_place (place ∷ rest) = Some place
 
--- That of the first place. A datagram of fewer than 36 bytes names none.
+-- the place where it belongs if anywhere; none where there are two
+abbrev pub only_place : List Place → Option Place
+only_place [] = None
+only_place (place ∷ []) = Some place
+only_place (place ∷ next ∷ rest) = None
+
+-- That of the only place: under session ID 0 there is none while a next generation is known. A
+-- datagram of fewer than 36 bytes names none.
 abbrev pub named_context : State → List ℕ → Option Context
 named_context s datagram = if nat_lt (length datagram) 36 then None
-    else context_of_place s (first_place (places_of s (sid_of datagram)))
+    else context_of_place s (only_place (places_of s (sid_of datagram)))

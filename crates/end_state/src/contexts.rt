@@ -5,7 +5,7 @@ ghost use Rattle.std.specs.Int.{w32, from_be_bytes};
 ghost use Rattle.std.specs.FinMap.{get};
 ghost use Rattle.endpoint_model.specs.Admission.{attempt_group, next_places, places_of, sid_at};
 ghost use Rattle.end_state.specs.NamedContext.{context_towards, first_place, named_context};
-ghost use Rattle.end_state.specs.NamedContext.{named_id};
+ghost use Rattle.end_state.specs.NamedContext.{named_id, only_place};
 ghost use Rattle.endpoint_laws.specs.OpensIn.{context_at, context_first, context_in_session};
 ghost use Rattle.endpoint_laws.specs.OpensIn.{context_in_startup, opens_in};
 
@@ -76,14 +76,24 @@ impl EndState {
         self.place_of(sid)
     }
 
-    /// The context that a datagram's session ID names: the first one, where there are two.
+    /// The place where a datagram under a session ID may belong, where there is one alone.
+    fn only_place(&self, sid: u32) -> Option<Place>
+        ensures { result ≡ only_place (places_of self.now sid) }
+    {
+        if sid == 0 && self.groups.next.is_some() {
+            return None;
+        }
+        self.place_of(sid)
+    }
+
+    /// The context that a datagram's session ID names, where it names one alone.
     pub fn find_named(&self, datagram: &[u8]) -> Option<Context>
         ensures { result ≡ named_context self.now datagram.now }
     {
         let Some(sid) = session_id(datagram) else {
             return None;
         };
-        match self.place_of(sid) {
+        match self.only_place(sid) {
             Some(Place::Startup { generation }) => Some(Context::Startup { generation }),
             Some(Place::Attempt { generation, .. }) => Some(Context::Startup { generation }),
             Some(Place::Session(near)) => self.context_towards(near),

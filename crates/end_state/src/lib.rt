@@ -14,6 +14,7 @@ mod session_ids;
 mod session_sending;
 mod session_steps;
 mod settings;
+mod succeeding;
 mod taking;
 
 pub use contexts::{PLAIN_AT, session_id};

@@ -3,7 +3,7 @@
 ghost use Rattle.std.specs.Prelude.{◌≡◌, ◌≤◌, All, IfOk, length};
 ghost use Rattle.crypto_profile.specs.Keys.{startup_keys_of};
 ghost use Rattle.endpoint_model.specs.State.{Done};
-ghost use Rattle.endpoint_model.specs.Sending.{sent_answer, sent_each, sent_startup};
+ghost use Rattle.endpoint_model.specs.Sending.{is_spent, sent_answer, sent_each, sent_startup};
 ghost use Rattle.endpoint_model.specs.Sending.{startup_number};
 ghost use Rattle.end_state.specs.Steps.{Gives};
 
@@ -29,6 +29,13 @@ fn startup_number(print: &[u8; 32], count: u64) -> [u8; 16]
 }
 
 impl EndState {
+    /// Whether no count of a startup packet is left, so that none goes out any more.
+    pub fn is_spent(&self) -> bool
+        ensures { result ≡ is_spent self.now }
+    {
+        self.sealed == u64::MAX
+    }
+
     /// The entry of a startup packet that goes out under the keys of a generation, for which memory
     /// was found. There is none where all counts are used.
     fn startup_packet(
@@ -44,7 +51,7 @@ impl EndState {
         ensures { Gives (sent_startup self.old generation keys.now to.now sid plain.now) self.new
             result }
     {
-        if self.sealed == u64::MAX {
+        if self.is_spent() {
             return None;
         }
         self.sealed += 1;

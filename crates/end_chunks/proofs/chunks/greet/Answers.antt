@@ -10,11 +10,11 @@ use Rattle.endpoint_model.specs.State.{State, Done, fact_entries}
 use Rattle.end_state.specs.Stored.{state_of}
 use Rattle.end_state.proofs.Giving.{given_done}
 use Rattle.end_state.proofs.Under.{there_is}
-use Rattle.end_chunks.specs.Judging.{hello_did}
+use Rattle.end_chunks.specs.Judging.{greeting_did}
 use Rattle.end_chunks.proofs.Constants.{answer_keeps}
 use Rattle.end_chunks.proofs.Found.{hello_so}
 use Rattle.end_chunks.proofs.Keyed.{kept_end, startup_put, added_first, IsAdded}
-use Rattle.end_chunks.proofs.chunks.take_hello.Goals as goal
+use Rattle.end_chunks.proofs.chunks.greet.Goals as goal
 
 pub invariant_of-end : goal.invariant_of-end
 invariant_of-end c =
@@ -45,7 +45,7 @@ returns-in-Ok-clause-ok c =
     } in
     let sent = given_done (sent_answer t c.in-Ok.told.1) c.seal_answer.new.self c.seal_answer.result c.add_some.new.self c.add_some-in-Ok.new.self
     c.seal_answer.ensures c.add_some-in-Ok.ensures.entries c.add_some-in-Ok.ensures.free c.add_some-in-Ok.ensures.room in
-    subst (λ (s : State). Done (hello_did s (group_at s c.args.place) greeting.print (found_in s.startup greeting.found) c.args.from.now c.args.cookie.now) c.seal_answer.new.self c.args.out.now c.add_some-in-Ok.new.self) c.end.view_is
+    subst (λ (s : State). Done (greeting_did s (group_at s c.args.place) greeting.print (found_in s.startup greeting.found) c.args.from.now c.args.cookie.now) c.seal_answer.new.self c.args.out.now c.add_some-in-Ok.new.self) c.end.view_is
     (hello_so v t g (group_at v c.args.place) greeting.print chosen (found_in i.startup greeting.found) c.args.from.now c.args.cookie.now c.in-Ok.told.0 c.in-Ok.told.1 c.seal_answer.new.self c.args.out.now c.add_some-in-Ok.new.self
     (c.get.ensures ∙ c.at-group.ensures ∙ there_is i.settings i.moment i.sealed i.groups i.startup i.sessions.rows c.args.place)
     (found_is i.startup greeting.found chosen is) (c.in-Ok.ensures.fact chosen is) (c.in-Ok.ensures.answer chosen is) put
