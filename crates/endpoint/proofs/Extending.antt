@@ -19,8 +19,9 @@ use Rattle.endpoint_model.specs.declared.answers.SeekRefusal.TheVariants.{Memory
 use Rattle.endpoint_model.specs.declared.answers.Stopped.{Stopped as Stop}
 use Rattle.endpoint_model.specs.declared.entry.Entry.{Entry}
 use Rattle.endpoint_model.specs.Added.{Added}
-use Rattle.endpoint_model.specs.Event.{Event, Call, Open, Seek, Unseek, Cancel, Close, AddRow, Introduce, OnFlows, Tick, Answer, Done as IsDone, Refused as IsRefused, NotAdded as IsNotAdded}
+use Rattle.endpoint_model.specs.Event.{Event, Call, Open, Seek, Unseek, Cancel, Close, AddRow, Introduce, Learn, Advance, OnFlows, Tick, Answer, Done as IsDone, Succeeds as IsSucceeds, Refused as IsRefused, NotAdded as IsNotAdded}
 use Rattle.endpoint_model.specs.Introducing.{with_redirect, introducing}
+use Rattle.endpoint_model.specs.Succession.{learn_refusal, learning, advance_refusal, advancing}
 use Rattle.endpoint_model.specs.State.{State, Did, Does, Done, nothing, fresh, at_moment, free_from}
 use Rattle.endpoint_model.specs.Admission.{admission}
 use Rattle.endpoint_model.specs.InSessions.{held_row, closing}
@@ -28,9 +29,9 @@ use Rattle.endpoint_model.specs.FlowCall.{FlowCall}
 use Rattle.endpoint_model.specs.OnFlows.{call_refusal, flow_called}
 use Rattle.endpoint_model.specs.FlowTimes.{all_late}
 use Rattle.endpoint_model.specs.Effects.{open_refusal, opening, seek_refusal, seeking, unseek_refusal, unseeking, cancelling, ticks, received, first_due}
-use Rattle.endpoint_model.specs.Log.{Step, Answers, Leads, Extends, IsTaken, StopsSo, not_opened, not_sought, not_added, not_called, answer_of_open, answer_of_seek, answer_of_call, answer_of_row, answer_of_tick, event, open_event, seek_event, unseek_event, cancel_event, close_event, flow_event, row_event, introduce_event, tick_event, receive_event}
+use Rattle.endpoint_model.specs.Log.{Step, Answers, Leads, Extends, IsTaken, StopsSo, not_opened, not_sought, not_added, not_called, answer_of_open, answer_of_seek, answer_of_call, answer_of_row, answer_of_succession, answer_of_tick, event, open_event, seek_event, unseek_event, cancel_event, close_event, flow_event, row_event, introduce_event, learn_event, advance_event, tick_event, receive_event}
 use Rattle.endpoint.specs.Calls.{moment_given, answer_of, Gives, Adds, Called, called_event}
-use Rattle.endpoint.specs.Answered.{began, sought, done_as, done, added_row, ticked}
+use Rattle.endpoint.specs.Answered.{began, sought, done_as, done, added_row, succeeded, ticked}
 
 -- ---- a call and its event
 
@@ -283,6 +284,47 @@ introduced s t moment out is = record {
   added = adds_none out;
 }
 
+-- Of generations: the number is that of the log, where it is done.
+pub learnt : (s t : State) (moment : ℕ) (secret : List ℕ) (r : Result ℕ CallRefusal) (before after : Added) →
+    IfOk r (λ number. number ≡ s.group.generation + 1) →
+    OnOk r (Done (learning s secret) t before after) →
+    IfSome (learn_refusal s secret) (λ refusal. r ≡ Err refusal) →
+    IfNone (learn_refusal s secret) (IfErr r (λ refusal. refusal ≡ NoMemory)) →
+    OnErr r (Done (nothing s) t before after) →
+    Called s moment (Learn secret) (succeeded r) t before after
+learnt s t moment secret (Ok n) before after number ok refused memory err = record {
+  entries = (learning s secret).entries;
+  answers = unnoted s t (Learn secret) (IsSucceeds n) (learning s secret).entries (none_by (learn_refusal s secret) n refused, number, does (learning s secret) t before after ok);
+  numbered = tt;
+  added = adds (learning s secret) t before after ok;
+}
+learnt s t moment secret (Err refusal) before after number ok refused memory err = record {
+  entries = [];
+  answers = unnoted s t (Learn secret) (IsRefused refusal) [] (why_by ℕ (learn_refusal s secret) NoMemory refusal not_called refl (λ x. refl) refused memory, does (nothing s) t before after err);
+  numbered = tt;
+  added = adds (nothing s) t before after err;
+}
+
+pub advanced : (s t : State) (moment : ℕ) (r : Result ℕ CallRefusal) (before after : Added) →
+    IfOk r (λ number. number ≡ t.group.generation) →
+    OnOk r (Done (advancing s) t before after) →
+    IfSome (advance_refusal s) (λ refusal. r ≡ Err refusal) →
+    IfNone (advance_refusal s) (IfErr r (λ refusal. refusal ≡ NoMemory)) →
+    OnErr r (Done (nothing s) t before after) →
+    Called s moment Advance (succeeded r) t before after
+advanced s t moment (Ok n) before after number ok refused memory err = record {
+  entries = (advancing s).entries;
+  answers = unnoted s t Advance (IsSucceeds n) (advancing s).entries (none_by (advance_refusal s) n refused, number, does (advancing s) t before after ok);
+  numbered = tt;
+  added = adds (advancing s) t before after ok;
+}
+advanced s t moment (Err refusal) before after number ok refused memory err = record {
+  entries = [];
+  answers = unnoted s t Advance (IsRefused refusal) [] (why_by ℕ (advance_refusal s) NoMemory refusal not_called refl (λ x. refl) refused memory, does (nothing s) t before after err);
+  numbered = tt;
+  added = adds (nothing s) t before after err;
+}
+
 pub ticked_as : (s t : State) (moment : ℕ) (draws : Draws) (r : Result (Unit {0}) Memory) (before after : Added) →
     (count : ℕ) × Done (ticks count (all_late (at_moment s moment))) t before after → OnOk r (first_due t ≡ None) → OnErr r (IsSome (first_due t)) →
     Called s moment (Tick draws) (ticked r) t before after
@@ -306,6 +348,10 @@ answer_of_sought (Err refusal) = refl
 pub answer_of_done : {A : Type 0} (answer : A → Answered) (r : Result A CallRefusal) → ((x : A) → answer_of (answer x) ≡ IsDone) → answer_of (done_as answer r) ≡ answer_of_call r
 answer_of_done answer (Ok x) is = is x
 answer_of_done answer (Err refusal) is = refl
+
+answer_of_succeeded : (r : Result ℕ CallRefusal) → answer_of (succeeded r) ≡ answer_of_succession r
+answer_of_succeeded (Ok n) = refl
+answer_of_succeeded (Err refusal) = refl
 
 answer_of_added : (r : Result (Unit {0}) RowRefusal) → answer_of (added_row r) ≡ answer_of_row r
 answer_of_added (Ok x) = refl
@@ -339,6 +385,12 @@ close_stands s t near moment r before after did = method_extends s t moment (Clo
 pub flow_stands : {A : Type 0} (answer : A → Answered) (s t : State) (near : ℕ) (call : FlowCall) (r : Result A CallRefusal) (before after : Added) → ((x : A) → answer_of (answer x) ≡ IsDone) →
     Called s 0 (OnFlows near call) (done_as answer r) t before after → Extends s t (flow_event near call r before.entries after.entries)
 flow_stands answer s t near call r before after is did = method_extends s t 0 (OnFlows near call) (done_as answer r) before after (answer_of_call r) (answer_of_done answer r is) did
+
+pub learn_stands : (s t : State) (secret : List ℕ) (r : Result ℕ CallRefusal) (before after : Added) → Called s 0 (Learn secret) (succeeded r) t before after → Extends s t (learn_event secret r before.entries after.entries)
+learn_stands s t secret r before after did = method_extends s t 0 (Learn secret) (succeeded r) before after (answer_of_succession r) (answer_of_succeeded r) did
+
+pub advance_stands : (s t : State) (r : Result ℕ CallRefusal) (before after : Added) → Called s 0 Advance (succeeded r) t before after → Extends s t (advance_event r before.entries after.entries)
+advance_stands s t r before after did = method_extends s t 0 Advance (succeeded r) before after (answer_of_succession r) (answer_of_succeeded r) did
 
 -- a call that is given no outbox
 abbrev none : Added

@@ -23,20 +23,20 @@ use Rattle.startup.specs.Aims.{IsHeldAs}
 use Rattle.startup.specs.State.{AttemptState}
 use Rattle.endpoint_laws.specs.OfTheLog.{IsOfAim, IsThing, SessionStands, IsClosingStage, IsOfTheLog, TheStateIsOfTheLog}
 use Rattle.endpoint_laws.specs.Within.{FlowsAreWithin, FlowsHoldFew, NoAckIsOwed}
-use Rattle.endpoint_laws.proofs.Logged.{tied_to_log}
 use Rattle.endpoint.specs.Reached.{IsReached}
+use Rattle.endpoint.proofs.Reaching.{tied_there}
 use Rattle.endpoint.specs.Holding.{SessionIsHeld, SessionIsThere, HoldsWhatIsThere, AllFlowsAreWithin, AllFlowsHoldFew, NoneOwesAcks}
 
 -- ---- how many there are
 
 pub few_uses : (s : State) → IsReached s → uses s ≤ s.config.max_sessions
 few_uses s is =
-    let tied = tied_to_log is.setup is.log s is.sizes is.calls is.stands in
+    let tied = (tied_there s is).tied in
     subst (λ (config : Config). uses s ≤ config.max_sessions) (sym tied.config) tied.within
 
 pub few_rows : (s : State) → IsReached s → row_count s.startup.ledger ≤ s.config.max_peers
 few_rows s is =
-    let tied = tied_to_log is.setup is.log s is.sizes is.calls is.stands in
+    let tied = (tied_there s is).tied in
     subst (λ (config : Config). row_count s.startup.ledger ≤ config.max_peers) (sym tied.config) tied.rows
 
 pub flows_within : FlowsAreWithin → (s : State) → IsReached s → AllFlowsAreWithin s
@@ -133,5 +133,5 @@ module _ (law : TheStateIsOfTheLog) (s : State) (is : IsReached s) where
     sessions = λ near row e. stands_so near row.session (of_log.sessions near row e).stands;
     sessions_there = session_there;
     ids = λ near row e. (of_log.sessions near row e).id;
-    apart = (tied_to_log is.setup is.log s is.sizes is.calls is.stands).apart;
+    apart = (tied_there s is).tied.apart;
   }

@@ -4,6 +4,7 @@ use Rattle.endpoint_model.specs.Event.{Setup, Event}
 use Rattle.endpoint_model.specs.State.{State}
 use Rattle.endpoint_model.specs.Log.{StandsFor, Extends}
 use Rattle.endpoint_laws.specs.Laws.{IsSetup, IsCall, AreCalls}
+use Rattle.endpoint_laws.proofs.Logged.{TiedToLog, tied_to_log}
 use Rattle.endpoint.specs.Reached.{IsReached}
 
 pub calls_more : (log : List Event) (e : Event) → AreCalls log → IsCall e.call → AreCalls (log ++ e ∷ [])
@@ -23,3 +24,7 @@ reached_more s t e is extends call = record {
   calls = calls_more is.log e is.calls call;
   stands = extends is.setup is.log is.stands;
 }
+
+-- the state agrees with the log that leads to it, by the secrets that the end was given and learnt
+pub tied_there : (s : State) (is : IsReached s) → TiedToLog is.setup is.log s
+tied_there s is = tied_to_log is.setup is.log s is.sizes is.calls is.stands

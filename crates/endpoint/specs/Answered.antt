@@ -30,6 +30,9 @@ flow_opened = done_as (λ flow. told.FlowOpened flow)
 abbrev pub queued : Result ℕ CallRefusal → Answered
 queued = done_as (λ seq. told.Queued seq)
 
+abbrev pub succeeded : Result ℕ CallRefusal → Answered
+succeeded = done_as (λ generation. told.Succeeds generation)
+
 abbrev pub added_row : Result (Unit {0}) RowRefusal → Answered
 added_row (Ok unit) = told.Done
 added_row (Err refusal) = told.NotAdded refusal

@@ -10,7 +10,7 @@ use Rattle.endpoint_model.specs.declared.entry.Entry.{Entry}
 use Rattle.endpoint_model.specs.declared.entry.Entry.TheVariants as entry
 use Rattle.endpoint_model.specs.Added.{Added}
 use Rattle.endpoint_model.specs.FlowCall.{FlowCall, OpenFlow, Queue, Abandon, Finish}
-use Rattle.endpoint_model.specs.Event.{Call, Open, Seek, Unseek, Cancel, Close, AddRow, Introduce, OnFlows, Receive, Tick, Answer, Began, Searching, Done, NotOpened, NotSought, Refused, NotAdded, OutOfMemory, Event}
+use Rattle.endpoint_model.specs.Event.{Call, Open, Seek, Unseek, Cancel, Close, AddRow, Introduce, Learn, Advance, OnFlows, Receive, Tick, Answer, Began, Searching, Done, Succeeds, NotOpened, NotSought, Refused, NotAdded, OutOfMemory, Event}
 use Rattle.endpoint_model.specs.State.{State, at_moment}
 use Rattle.endpoint_model.specs.Log.{Answers, event}
 
@@ -29,6 +29,8 @@ call_of (given.Abandon near flow seq) draws = OnFlows near (Abandon flow seq)
 call_of (given.Finish near flow) draws = OnFlows near (Finish flow)
 call_of (given.AddRow print addresses) draws = AddRow print.now addresses.now
 call_of given.Introduce draws = Introduce
+call_of (given.Learn secret) draws = Learn secret.now
+call_of given.Advance draws = Advance
 call_of given.Tick draws = Tick draws
 
 -- its moment, or 0 where it is given none
@@ -46,6 +48,7 @@ answer_of (told.Began n) = Began n
 answer_of (told.Searching near) = Searching near
 answer_of (told.FlowOpened flow) = Done
 answer_of (told.Queued seq) = Done
+answer_of (told.Succeeds generation) = Succeeds generation
 answer_of told.Done = Done
 answer_of (told.NotOpened refusal) = NotOpened refusal
 answer_of (told.NotSought refusal) = NotSought refusal

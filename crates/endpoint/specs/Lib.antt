@@ -5,3 +5,4 @@ pub mod Kinds
 pub mod StreamKeys
 pub mod Reached
 pub mod Holding
+pub mod Forgetting

@@ -68,6 +68,12 @@ pub enum EndCall<'a> {
     },
     /// The end introduces others to each other from now on.
     Introduce,
+    /// The secret of the group's next generation is learnt.
+    Learn {
+        secret: &'a [u8; 32],
+    },
+    /// The next generation becomes the current one.
+    Advance,
     /// All is done that is due.
     Tick,
 }
@@ -83,6 +89,8 @@ pub enum Answered {
     FlowOpened(u64),
     /// A message was queued; the number of its first fragment.
     Queued(u64),
+    /// A generation of the group's secret was learnt, or became the current one; its number.
+    Succeeds(u64),
     /// A call was done that gives no number.
     Done,
     NotOpened(OpenRefusal),

@@ -4,7 +4,7 @@ ghost use Rattle.std.specs.Prelude.{◌≡◌};
 ghost use Rattle.endpoint.specs.Calls.{Called, call_of, called_event};
 ghost use Rattle.endpoint_model.specs.Log.{Extends};
 ghost use Rattle.endpoint.specs.Answered.{added_row, began, done, flow_opened, queued, sought};
-ghost use Rattle.endpoint.specs.Answered.{ticked};
+ghost use Rattle.endpoint.specs.Answered.{succeeded, ticked};
 
 use crate::call::{Answered, EndCall};
 use crate::endpoint::Endpoint;
@@ -70,6 +70,8 @@ impl Endpoint {
                 self.introduce();
                 Answered::Done
             }
+            EndCall::Learn { secret } => succeeded(self.learn(**secret, out)),
+            EndCall::Advance => succeeded(self.advance(out)),
             EndCall::Tick => ticked(self.tick(moment, draws, out)),
         }
     }
@@ -121,6 +123,16 @@ fn queued(answer: Result<u64, CallRefusal>) -> Answered
 {
     match answer {
         Ok(seq) => Answered::Queued(seq),
+        Err(refusal) => Answered::Refused(refusal),
+    }
+}
+
+/// What was answered where a generation was to be learnt, or gone over to.
+fn succeeded(answer: Result<u64, CallRefusal>) -> Answered
+    ensures { result ≡ succeeded answer }
+{
+    match answer {
+        Ok(generation) => Answered::Succeeds(generation),
         Err(refusal) => Answered::Refused(refusal),
     }
 }

@@ -15,6 +15,7 @@ pub mod laws;
 mod receiving;
 mod searches;
 pub mod sizes;
+mod succeeding;
 mod ticking;
 
 pub use call::{Answered, EndCall};

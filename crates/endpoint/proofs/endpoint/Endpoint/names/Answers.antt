@@ -1,6 +1,4 @@
-use Rattle.std.proofs.Common.{rules, subst}
-use Rattle.endpoint_model.specs.State.{State}
-use Rattle.endpoint.specs.Reached.{IsReached}
+use Rattle.std.proofs.Common.{rules}
 use Rattle.endpoint.proofs.NamedContexts.{opens_only_in}
 use Rattle.endpoint.proofs.endpoint.Endpoint.names.Goals as goal
 
@@ -9,4 +7,4 @@ returns-in-Some-clause-named c = search rules
 
 pub returns-in-Some-clause-opens : goal.returns-in-Some-clause-opens
 returns-in-Some-clause-opens c =
-    λ yes other opens. opens_only_in c.args.self.now c.args.datagram.now c.args.context.now other (subst (λ (s : State). IsReached s) c.self.view_is c.self.invariant) ((returns-in-Some-clause-named c).0 yes) opens
+    λ yes other opens. opens_only_in c.args.self.now c.args.datagram.now c.args.context.now other ((returns-in-Some-clause-named c).0 yes) opens
