@@ -26,11 +26,12 @@ ANSWERS = {
     "E_NAME": -19,
     "E_NO_ATTEMPT": -20, "E_NO_SESSION": -21, "E_NO_FLOW": -22, "E_FLOWS_FULL": -23, "E_WIDE": -24,
     "E_NOT_QUEUED": -25, "E_FINISHED": -26, "E_MESSAGE": -27, "E_BACKLOG": -28, "E_SEQUENCE_SPENT": -29,
+    "E_NEXT_KNOWN": -30, "E_GENERATIONS_SPENT": -31, "E_SAME_SECRET": -32, "E_NO_NEXT": -33,
 }
 KINDS = ("OUT", "HANDED", "STARTED", "BORN", "OPENED", "CONFIRMED", "ENDED", "CLOSED", "MOVED", "FLOW_OPENED", "QUEUED",
-         "FINISHED", "ABANDONED", "DISCARD", "SOUGHT", "UNSOUGHT")
+         "FINISHED", "ABANDONED", "DISCARD", "SOUGHT", "UNSOUGHT", "LEARNT", "ADVANCED")
 (OUT, HANDED, STARTED, BORN, OPENED, CONFIRMED, ENDED, CLOSED, MOVED, FLOW_OPENED, QUEUED, FINISHED, ABANDONED,
- DISCARD, SOUGHT, UNSOUGHT) = range(1, 17)
+ DISCARD, SOUGHT, UNSOUGHT, LEARNT, ADVANCED) = range(1, 19)
 
 
 class Config(C.Structure):
@@ -90,6 +91,8 @@ CALLS = {
     "finish": (_I32, [_END, _U32, _U64]),
     "add_row": (_I32, [_END, _BYTES, _PLACES, _SIZE]),
     "introduce": (_I32, [_END]),
+    "learn": (_I32, [_END, _BYTES, _NUMBER]),
+    "advance": (_I32, [_END, _NUMBER]),
     "keeps": (_I32, [_END, _BYTES]),
     "receive": (_I32, [_END, _PLACES, _U64, _WRITTEN, _SIZE, _DRAWS]),
     "tick": (_I32, [_END, _U64, _DRAWS]),
@@ -215,6 +218,14 @@ class End:
 
     def introduce(self):
         self._do("introduce")
+
+    def learn(self, secret):
+        """Learns the secret of the group's next generation, and gives that generation's number."""
+        return self._number("learn", _thirty_two(secret))
+
+    def advance(self):
+        """Goes over to the generation that was learnt, and gives its number."""
+        return self._number("advance")
 
     def keeps(self, print):
         return self._do("keeps", _thirty_two(print)) == 1

@@ -99,6 +99,10 @@ call_number (call.FlowsFull count) = minus 23
 call_number (call.WideMetadata bytes) = minus 24
 call_number call.NotQueued = minus 25
 call_number call.Finished = minus 26
+call_number (call.NextKnown generation) = minus 30
+call_number call.GenerationsSpent = minus 31
+call_number call.SameSecret = minus 32
+call_number call.NoNext = minus 33
 call_number (call.Queue refusal) = queue_number refusal
 call_number call.Memory = no_memory
 
@@ -107,6 +111,7 @@ number_of (told.Began n) = done
 number_of (told.Searching near) = done
 number_of (told.FlowOpened flow) = done
 number_of (told.Queued seq) = done
+number_of (told.Succeeds generation) = done
 number_of told.Done = done
 number_of (told.NotOpened refusal) = open_number refusal
 number_of (told.NotSought refusal) = seek_number refusal
@@ -125,12 +130,13 @@ took_number (Some (Ok unit)) = done
 took_number (Some (Err stop)) = if stop.taken then partly else no_memory
 took_number None = empty
 
--- the number that an answer gives: of an attempt, a flow or a message
+-- the number that an answer gives: of an attempt, a flow, a message or a generation
 abbrev pub value_in : Answered → Option ℕ
 value_in (told.Began n) = Some n
 value_in (told.Searching near) = None
 value_in (told.FlowOpened flow) = Some flow
 value_in (told.Queued seq) = Some seq
+value_in (told.Succeeds generation) = Some generation
 value_in told.Done = None
 value_in (told.NotOpened refusal) = None
 value_in (told.NotSought refusal) = None
@@ -149,6 +155,7 @@ near_in (told.Began n) = None
 near_in (told.Searching near) = Some near
 near_in (told.FlowOpened flow) = None
 near_in (told.Queued seq) = None
+near_in (told.Succeeds generation) = None
 near_in told.Done = None
 near_in (told.NotOpened refusal) = None
 near_in (told.NotSought refusal) = None

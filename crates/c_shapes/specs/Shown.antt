@@ -110,6 +110,8 @@ bytes_of (entry.Closed near) = []
 bytes_of (entry.Sought near name) = name
 bytes_of (entry.Unsought near reason) = []
 bytes_of (entry.Moved near to) = []
+bytes_of (entry.Learnt generation) = []
+bytes_of (entry.Advanced generation) = []
 bytes_of (entry.FlowOpened near flow) = []
 bytes_of (entry.Queued near flow seq message) = message
 bytes_of (entry.Finished near flow seq) = []
@@ -128,6 +130,8 @@ shown at (entry.Sought near name) =
     record (blank 15) { near = near; at = at; len = length name }
 shown at (entry.Unsought near reason) = record (blank 16) { near = near; code = why_number reason }
 shown at (entry.Moved near to) = record (blank 9) { near = near; to = shown_address to }
+shown at (entry.Learnt generation) = record (blank 17) { number = generation }
+shown at (entry.Advanced generation) = record (blank 18) { number = generation }
 shown at (entry.FlowOpened near flow) = shown_flow 10 near flow 0
 shown at (entry.Queued near flow seq message) =
     record (shown_flow 11 near flow seq) { at = at; len = length message }

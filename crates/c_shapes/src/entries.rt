@@ -42,6 +42,8 @@ pub fn entry_of(entry: &Entry) -> CEntry
             told.to = shown_address(to);
             told
         }
+        Entry::Learnt { generation } => numbered(17, *generation),
+        Entry::Advanced { generation } => numbered(18, *generation),
         Entry::FlowOpened { near, flow } => shown_flow(10, *near, *flow, 0),
         Entry::Queued {
             near,
@@ -74,6 +76,8 @@ pub fn bytes_of(entry: &Entry) -> &[u8]
         Entry::Sought { name, .. } => name.bytes(),
         Entry::Unsought { .. } => &[],
         Entry::Moved { .. } => &[],
+        Entry::Learnt { .. } => &[],
+        Entry::Advanced { .. } => &[],
         Entry::FlowOpened { .. } => &[],
         Entry::Queued { message, .. } => message.bytes(),
         Entry::Finished { .. } => &[],
@@ -110,6 +114,15 @@ fn near_alone(kind: u32, near: u32) -> CEntry
 {
     let mut told = blank(kind);
     told.near = near;
+    told
+}
+
+/// An entry that tells its kind and a number.
+fn numbered(kind: u32, number: u64) -> CEntry
+    ensures { result ≡ record (blank kind) { number = number } }
+{
+    let mut told = blank(kind);
+    told.number = number;
     told
 }
 

@@ -120,6 +120,10 @@ fn call_number(refusal: CallRefusal) -> i32
         CallRefusal::WideMetadata(_) => -24,
         CallRefusal::NotQueued => -25,
         CallRefusal::Finished => -26,
+        CallRefusal::NextKnown(_) => -30,
+        CallRefusal::GenerationsSpent => -31,
+        CallRefusal::SameSecret => -32,
+        CallRefusal::NoNext => -33,
         CallRefusal::Queue(queue) => queue_number(queue),
         CallRefusal::Memory => MEMORY,
     }
@@ -134,6 +138,7 @@ pub fn number_of(answered: Answered) -> i32
         Answered::Searching(_) => OK,
         Answered::FlowOpened(_) => OK,
         Answered::Queued(_) => OK,
+        Answered::Succeeds(_) => OK,
         Answered::Done => OK,
         Answered::NotOpened(refusal) => open_number(refusal),
         Answered::NotSought(refusal) => seek_number(refusal),
@@ -164,7 +169,7 @@ pub fn took_number(answered: Option<Result<(), Stopped>>) -> i32
     }
 }
 
-/// The number that an answer gives: of an attempt, a flow or a message.
+/// The number that an answer gives: of an attempt, a flow, a message or a generation.
 fn value_in(answered: Answered) -> Option<u64>
     ensures { result ≡ value_in answered }
 {
@@ -173,6 +178,7 @@ fn value_in(answered: Answered) -> Option<u64>
         Answered::Searching(_) => None,
         Answered::FlowOpened(flow) => Some(flow),
         Answered::Queued(seq) => Some(seq),
+        Answered::Succeeds(generation) => Some(generation),
         Answered::Done => None,
         Answered::NotOpened(_) => None,
         Answered::NotSought(_) => None,
@@ -204,6 +210,7 @@ fn near_in(answered: Answered) -> Option<u32>
         Answered::Searching(near) => Some(near),
         Answered::FlowOpened(_) => None,
         Answered::Queued(_) => None,
+        Answered::Succeeds(_) => None,
         Answered::Done => None,
         Answered::NotOpened(_) => None,
         Answered::NotSought(_) => None,

@@ -57,7 +57,7 @@ extern "C" {
 
 /* The version of this header: 0x00MMmmpp. A library of another major number (while that is 0, of
  * another minor number) isn't to be used with it. */
-#define RTMFP_VERSION 0x000300u
+#define RTMFP_VERSION 0x000400u
 uint32_t rtmfp_version(void);
 
 #define RTMFP_MAX_DATAGRAM 2048u   /* the most bytes that rtmfp_receive takes */
@@ -103,7 +103,11 @@ uint32_t rtmfp_version(void);
     X(E_FINISHED, -26, "the flow is finished") \
     X(E_MESSAGE, -27, "the message has more than 1,048,576 bytes") \
     X(E_BACKLOG, -28, "the flow has no room until acknowledgements come") \
-    X(E_SEQUENCE_SPENT, -29, "the flow has no numbers left")
+    X(E_SEQUENCE_SPENT, -29, "the flow has no numbers left") \
+    X(E_NEXT_KNOWN, -30, "the next generation is known already") \
+    X(E_GENERATIONS_SPENT, -31, "no generation follows the last number") \
+    X(E_SAME_SECRET, -32, "the secret is the current one") \
+    X(E_NO_NEXT, -33, "the next generation isn't known")
 
 enum {
 #define RTMFP_ANSWER_(name, number, text) RTMFP_##name = number,
@@ -165,6 +169,8 @@ typedef struct rtmfp_address {
  *                attempt towards it has the search's ID, and STARTED tells it
  *   UNSOUGHT     near, code (RTMFP_WHY_..): a search is over, and no attempt came of it
  *   MOVED        near, to: the session's datagrams go there from now on
+ *   LEARNT       number: the secret of this generation of the group was learnt
+ *   ADVANCED     number: this generation became the current one
  *   FLOW_OPENED  near, flow
  *   QUEUED       near, flow, seq, data, len
  *   FINISHED     near, flow, seq
@@ -176,7 +182,7 @@ typedef struct rtmfp_address {
 #define RTMFP_KINDS(X) \
     X(OUT, 1) X(HANDED, 2) X(STARTED, 3) X(BORN, 4) X(OPENED, 5) X(CONFIRMED, 6) X(ENDED, 7) \
     X(CLOSED, 8) X(MOVED, 9) X(FLOW_OPENED, 10) X(QUEUED, 11) X(FINISHED, 12) X(ABANDONED, 13) \
-    X(DISCARD, 14) X(SOUGHT, 15) X(UNSOUGHT, 16)
+    X(DISCARD, 14) X(SOUGHT, 15) X(UNSOUGHT, 16) X(LEARNT, 17) X(ADVANCED, 18)
 
 /* Why an attempt, a search or a session ended: X(name, number). */
 #define RTMFP_WHYS(X) \
@@ -289,6 +295,16 @@ int32_t rtmfp_add_row(rtmfp_end *end, const uint8_t print[32], const rtmfp_addre
 
 /* Has the end introduce others from now on, as `introduces` of its config does. */
 int32_t rtmfp_introduce(rtmfp_end *end);
+
+/* Learns the secret of the generation after the current one; *generation is its number. Packets of it
+ * are understood from now on, and the end goes on sending in the current one. The first that stands:
+ * RTMFP_E_NEXT_KNOWN, RTMFP_E_GENERATIONS_SPENT, RTMFP_E_SAME_SECRET. */
+int32_t rtmfp_learn(rtmfp_end *end, const uint8_t secret[32], uint64_t *generation);
+
+/* Goes over to the generation that was learnt, once all ends of the group know it; *generation is its
+ * number. Sessions go on; an attempt whose keying went out before keeps the old secret until it ends,
+ * so cancel it and open again if its peer has gone over, too. RTMFP_E_NO_NEXT: none was learnt. */
+int32_t rtmfp_advance(rtmfp_end *end, uint64_t *generation);
 
 /* 1 if the end keeps a session with this peer, one that is no longer half-open, and else 0; or
  * RTMFP_E_EMPTY. */

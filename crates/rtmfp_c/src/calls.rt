@@ -29,9 +29,9 @@ const FIRST_ROOM: u32 = 8;
 /// The version of the interface.
 #[unsafe(no_mangle)]
 pub extern "C" fn rtmfp_version() -> u32
-    ensures { result ≡ 0x300 }
+    ensures { result ≡ 0x400 }
 {
-    0x00_03_00
+    0x00_04_00
 }
 
 /// Writes the fingerprint of a certificate.

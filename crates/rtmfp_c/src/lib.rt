@@ -14,4 +14,5 @@ mod outbox;
 mod receiving;
 mod rows;
 mod searches;
+mod succeeding;
 mod taking;
