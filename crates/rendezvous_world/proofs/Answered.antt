@@ -4,6 +4,7 @@ use Rattle.rtmfp_base.specs.Reasons.{first_that_stands, where_true}
 use Rattle.rtmfp_forms.specs.Address.{AddressParts}
 use Rattle.glare_core.specs.declared.answers.StartRefusal.{StartRefusal}
 use Rattle.glare_core.specs.Calls.{start_refusal}
+use Rattle.crypto_profile.specs.declared.group.GroupSecret.{GroupSecret}
 use Rattle.endpoint_model.specs.Added.{Added}
 use Rattle.endpoint_model.specs.declared.config.Draws.{Draws}
 use Rattle.endpoint_model.specs.declared.entry.Entry.{Entry}
@@ -16,8 +17,9 @@ use Rattle.session_flows.specs.declared.refusal.CallRefusal.TheVariants.{NoSessi
 use Rattle.introducer.specs.declared.refusal.RowRefusal.{RowRefusal}
 use Rattle.introducer.specs.declared.refusal.RowRefusal.TheVariants.{Memory as NoMemoryForRow}
 use Rattle.endpoint_model.specs.declared.answers.Stopped.{Stopped as Stop}
-use Rattle.endpoint_model.specs.Event.{Call, Receive, Answer, Began, Searching, Done, NotOpened, NotSought, Refused as RefusedCall, NotAdded, OutOfMemory, Event}
-use Rattle.endpoint_model.specs.State.{State, at_moment, full}
+use Rattle.endpoint_model.specs.Event.{Call, Receive, Answer, Began, Searching, Done, Succeeds, NotOpened, NotSought, Refused as RefusedCall, NotAdded, OutOfMemory, Event}
+use Rattle.endpoint_model.specs.State.{State, Does, at_moment, full}
+use Rattle.endpoint_model.specs.Succession.{no_next, advancing_to}
 use Rattle.endpoint_model.specs.InSessions.{held_row}
 use Rattle.endpoint_model.specs.Effects.{candidates_refusal, start_refused, full_refused, places_refusal, no_place}
 use Rattle.endpoint_model.specs.Log.{Answers, Step as StepOf, not_opened, not_sought}
@@ -29,9 +31,9 @@ use Rattle.rendezvous_world.specs.declared.step.Step.{Step}
 use Rattle.rendezvous_world.specs.declared.step.DeedCall.{DeedCall}
 use Rattle.rendezvous_world.specs.declared.step.Source.{Source}
 use Rattle.rendezvous_world.specs.declared.step.Source.TheVariants.{Delivered, Turned, Injected, Sealed}
-use Rattle.rendezvous_world.specs.Deed.{StepCall, Opens, Seeks, Unseeks, Cancels, Closes, CallsFlows, Introduces, Redirects, Ticks, Deed, Calls, deed_of}
+use Rattle.rendezvous_world.specs.Deed.{StepCall, Opens, Seeks, Unseeks, Cancels, Closes, CallsFlows, Introduces, Redirects, Learns, Advances, Ticks, Deed, Calls, deed_of}
 use Rattle.rendezvous_world.specs.Draws.{draws_of}
-use Rattle.rendezvous_world.specs.Calls.{made, moment_in, number_started, near_sought, answer_in, answer_to_datagram, IsDoneOrRefused, MayAnswer, LeavesUndone}
+use Rattle.rendezvous_world.specs.Calls.{made, moment_in, number_started, near_sought, number_succeeded, answer_in, answer_to_datagram, IsDoneOrRefused, MayAnswer, LeavesUndone}
 use Rattle.rendezvous_world.specs.History.{call_by, moment_given, answer_by}
 use Rattle.rendezvous_world.specs.Stepping.{HasAnswer, HasItsAnswer}
 use Rattle.rendezvous_world.specs.Entering.{bringing, made_by, IsCallBy, IsCallOf, peer_by, event_by, refused_in, stopped_in, FoundNone, IsUndoneIn, IsUndone}
@@ -48,7 +50,14 @@ moment_same (Closes near) print draws moment = refl
 moment_same (CallsFlows near call) print draws moment = refl
 moment_same Introduces print draws moment = refl
 moment_same (Redirects peer list) print draws moment = refl
+moment_same Learns print draws moment = refl
+moment_same Advances print draws moment = refl
 moment_same Ticks print draws moment = refl
+
+-- an advance tells the number of the generation that is the current one then
+advanced_number : (s t : State) (next : Option GroupSecret) (entries : List Entry) → no_next next ≡ None → Does (advancing_to s next) t [] entries → t.group.generation ≡ number_succeeded entries
+advanced_number s t None entries known did = absurd (cc)
+advanced_number s t (Some next) entries known did = ap (λ (x : State). x.group.generation) did.state ∙ ap number_succeeded (sym did.entries)
 
 -- what a line tells of its answer says what it answered
 fits : (call : StepCall) (print : List ℕ) (draws : Draws) (s t : State) (answer : Answer) (entries : List Entry) → Answers s (made call print draws) answer entries t →
@@ -76,6 +85,12 @@ fits Introduces print draws s t answer entries h = absurd h
 fits (Redirects peer list) print draws s t Done entries h = refl
 fits (Redirects peer list) print draws s t (NotAdded refusal) entries h = refl
 fits (Redirects peer list) print draws s t answer entries h = absurd h
+fits Learns print draws s t (Succeeds generation) entries h = ap Succeeds h.1 ∙ ap (λ (es : List Entry). Succeeds (number_succeeded es)) (sym h.2.entries)
+fits Learns print draws s t (RefusedCall refusal) entries h = refl
+fits Learns print draws s t answer entries h = absurd h
+fits Advances print draws s t (Succeeds generation) entries h = ap Succeeds (h.1 ∙ advanced_number s t s.next entries h.0 h.2)
+fits Advances print draws s t (RefusedCall refusal) entries h = refl
+fits Advances print draws s t answer entries h = absurd h
 fits Ticks print draws s t Done entries h = refl
 fits Ticks print draws s t OutOfMemory entries h = refl
 fits Ticks print draws s t answer entries h = absurd h
@@ -121,6 +136,12 @@ may Introduces print draws s t answer entries h other = absurd h
 may (Redirects peer list) print draws s t Done entries h other = (refl, no_refusal)
 may (Redirects peer list) print draws s t (NotAdded refusal) entries h other = (refl, not_added_for refusal other)
 may (Redirects peer list) print draws s t answer entries h other = absurd h
+may Learns print draws s t (Succeeds generation) entries h other = (refl, no_refusal)
+may Learns print draws s t (RefusedCall refusal) entries h other = (refl, not_called_for refusal other)
+may Learns print draws s t answer entries h other = absurd h
+may Advances print draws s t (Succeeds generation) entries h other = (refl, no_refusal)
+may Advances print draws s t (RefusedCall refusal) entries h other = (refl, not_called_for refusal other)
+may Advances print draws s t answer entries h other = absurd h
 may Ticks print draws s t Done entries h other = (refl, tt)
 may Ticks print draws s t OutOfMemory entries h other = (refl, refl)
 may Ticks print draws s t answer entries h other = absurd h
@@ -186,6 +207,12 @@ left Introduces print draws moment s t answer entries h none = absurd h
 left (Redirects peer list) print draws moment s t (NotAdded refusal) entries h none = h.1.state ∙ at_zero s
 left (Redirects peer list) print draws moment s t Done entries h none = absurd none
 left (Redirects peer list) print draws moment s t answer entries h none = absurd h
+left Learns print draws moment s t (RefusedCall refusal) entries h none = h.1.state ∙ at_zero s
+left Learns print draws moment s t (Succeeds generation) entries h none = absurd none
+left Learns print draws moment s t answer entries h none = absurd h
+left Advances print draws moment s t (RefusedCall refusal) entries h none = h.1.state ∙ at_zero s
+left Advances print draws moment s t (Succeeds generation) entries h none = absurd none
+left Advances print draws moment s t answer entries h none = absurd h
 left Ticks print draws moment s t Done entries h none = absurd none
 left Ticks print draws moment s t OutOfMemory entries h none = absurd none
 left Ticks print draws moment s t answer entries h none = absurd h

@@ -1,5 +1,5 @@
 -- A step that calls an end leaves a world.
-use Rattle.std.proofs.Common.{◌≡◌, ℕ, ◌<◌, ◌≤◌, ◌^◌, List, [], ◌∷◌, ◌++◌, length, drop, slice_get, Bool, true, false, Option, Some, None, inl, inr, ◌⊎◌, refl, sym, ap, subst, ◌∙◌, arith}
+use Rattle.std.proofs.Common.{◌≡◌, ℕ, ◌<◌, ◌≤◌, ◌^◌, List, [], ◌∷◌, ◌++◌, length, drop, slice_get, Bool, true, false, Option, Some, None, inl, inr, refl, sym, ap, subst, ◌∙◌, arith}
 use Rattle.std.specs.Int.{w64, to_be_bytes, from_be_bytes}
 use Rattle.std.specs.List.{AllByRecursion}
 use Rattle.std.proofs.lemmas.Bool.{or_parts}
@@ -18,31 +18,33 @@ use Rattle.endpoint_model.specs.State.{State}
 use Rattle.endpoint_laws.specs.OpensIn.{opens_in}
 use Rattle.endpoint_laws.specs.Draws.{draws_of as draws_of_past, drawn_in}
 use Rattle.endpoint_model.specs.Log.{Step as StepOf}
-use Rattle.endpoint_laws.specs.Laws.{AreBytes, IsCall, AreCalls}
+use Rattle.endpoint_laws.specs.Contexts.{Knows}
+use Rattle.endpoint_laws.specs.Laws.{AreBytes, IsCall, IsSetup, AreCalls}
 use Rattle.endpoint_laws.specs.History.{Happened, History, log_of, past_at, IsHonestCall, IsHonest, WasSent}
 use Rattle.endpoint_laws.proofs.Opened.{opens_in_found}
 use Rattle.endpoint.proofs.Reaching.{calls_more}
+use Rattle.counted_secrets.specs.Secrets.{secret_after}
 use Rattle.rendezvous_world.specs.declared.journal.JournalLine.{JournalLine}
 use Rattle.rendezvous_world.specs.declared.step.Step.{Step}
 use Rattle.rendezvous_world.specs.declared.step.StepFault.{StepFault}
 use Rattle.rendezvous_world.specs.declared.step.StepFault.TheVariants.{NoEnd, NoDatagram, BadStep, Forged}
-use Rattle.rendezvous_world.specs.Deed.{Opens, Seeks, Closes, Ticks, Deed, Calls, Brings, deed_of, end_of}
+use Rattle.rendezvous_world.specs.Deed.{Opens, Seeks, Closes, Learns, Ticks, Deed, Calls, Brings, deed_of, end_of}
 use Rattle.rendezvous_world.specs.Calls.{peer_in}
 use Rattle.rendezvous_world.specs.Entering.{IsSizedDeed}
 use Rattle.rendezvous_world.specs.Seen.{group_secrets, EndSeen, Seen, print_at, setup_at}
 use Rattle.rendezvous_world.specs.Draws.{two_numbers, draws_of}
-use Rattle.rendezvous_world.specs.Sent.{sent_in}
-use Rattle.rendezvous_world.specs.Datagrams.{datagram_had, datagram_in}
-use Rattle.rendezvous_world.specs.History.{bytes_or_none, peer_of, call_by, call_of, moment_given, event_of, happened, after_lines, history_of}
+use Rattle.rendezvous_world.specs.Datagrams.{datagram_for, datagram_in}
+use Rattle.rendezvous_world.specs.History.{bytes_or_none, peer_of, call_by, call_of, moment_given, event_of, happened, after_lines, history_of, given_by}
 use Rattle.rendezvous_world.specs.Sound.{AreBelow, StandsUpTo}
 use Rattle.rendezvous_world.specs.Stepping.{in_state, with_state, called_by, HasItsAnswer, IsAnswered, IsLineOf, Called}
 use Rattle.rendezvous_world.specs.Faults.{is_missing, lacks_peer, lacks_end_in, lacks_end, lacks_datagram, is_bad, is_forged_by, is_forged_in, is_forged, step_fault}
-use Rattle.rendezvous_world.specs.Kept.{IsGiven, name_of, print_of, IsNamed, HasPeerIn, HasPeer, IsLineIn, IsOfLine, IsWorld}
+use Rattle.rendezvous_world.specs.Kept.{name_of, print_of, IsNamed, HasPeerIn, HasPeer, IsLineIn, IsOfLine, IsWorld}
 use Rattle.endpoint_laws.proofs.Drawn.{OneDraw, MayDraw, event_draws}
-use Rattle.rendezvous_world.proofs.Ends.{tested, setup_is, below_length, setups_stay, length-with_state, changed_end, other_end, was_there, apart_with_state}
+use Rattle.rendezvous_world.proofs.Ends.{tested, setup_is, generation_is, below_length, setups_stay, length-with_state, changed_end, other_end, was_there, apart_with_state}
 use Rattle.rendezvous_world.proofs.Told.{SameSetups, same_happened, same_lines, one_more_line, all_more, rise_more, of_line_stays, of_line_new, number_below, log_same, log_other, honest_same}
 use Rattle.rendezvous_world.proofs.Forging.{was_sent}
 use Rattle.rendezvous_world.proofs.Noting.{IsGivenFrom, opens_noted, stands_more}
+use Rattle.rendezvous_world.proofs.Learning.{knows_more, given_learnt}
 
 -- ---- what a step that isn't refused says
 
@@ -100,10 +102,16 @@ two_apart a b small_a small_b same =
     let bytes : to_be_bytes w64 a ≡ to_be_bytes w64 b = ap (drop 8) same in
     sym (from_be_bytes-to_be_bytes_8 a wide_a) ∙ ap (from_be_bytes w64) bytes ∙ from_be_bytes-to_be_bytes_8 b wide_b
 
+-- a fingerprint and a secret have 32 bytes
+given_wide : (print : List ℕ) (generation : ℕ) (deed : Deed) → length print ≡ 32 → length (given_by print generation deed) ≡ 32
+given_wide print generation (Calls end Learns) wide = refl
+given_wide print generation deed wide = wide
+
 -- what a call is given has its sizes
 is_call : (print : List ℕ) (number : ℕ) (bytes : List ℕ) (deed : Deed) → length print ≡ 32 → number < 2 ^ 32 → AreBytes bytes → IsSizedDeed deed → IsCall (call_by print number bytes deed)
 is_call print number bytes (Calls end (Opens peer list)) wide small are sized = (wide, length-two 0 number, small, length-two 2 number)
 is_call print number bytes (Calls end (Seeks name list)) wide small are sized = (sized, length-two 0 number, small, length-two 2 number)
+is_call print number bytes (Calls end Learns) wide small are sized = wide
 is_call print number bytes (Brings end from source) wide small are sized = (are, length-two 0 number, small, length-two 1 number)
 is_call print number bytes deed wide small are sized = tt
 
@@ -132,7 +140,7 @@ module _ (w : Seen) (is : IsWorld w) where
       subst (λ (setup : Setup). IsHonestCall group_secrets setup (past_at who (history_of w)) (history_of w) (Receive from (bytes_or_none o) draws)) (sym (setup_is w.ends who end there))
       (λ contexts context plain named opens. sent o unforged context
       (opens_noted end.state stands.told stands.noted (bytes_or_none o) stands.state
-      ∙ opens_in_found group_secrets end.setup (log_of who (history_of w)) stands.told (bytes_or_none o) (is.given who end there).known (is.given who end there).sized (is.calls who) stands.stands contexts context plain named opens))
+      ∙ opens_in_found group_secrets end.setup (log_of who (history_of w)) stands.told (bytes_or_none o) (is.known who end there) (is.given who end there) (is.calls who) stands.stands contexts context plain named opens))
     where
       stands : StandsUpTo w.moment end.setup (log_of who (history_of w)) end.state
       stands = is.stand who end there
@@ -142,8 +150,8 @@ module _ (w : Seen) (is : IsWorld w) where
       sent (Some bytes) unforged context opens = was_sent w.ends w.ends who end bytes w.lines context there unforged opens
 
   honest_deed : (print : List ℕ) (number : ℕ) (end : EndSeen) (deed : Deed) → slice_get w.ends (end_of deed) ≡ Some end → is_forged_in w deed ≡ false →
-      IsHonestCall group_secrets (setup_at w.ends (end_of deed)) (past_at (end_of deed) (history_of w)) (history_of w) (call_by print number (bytes_or_none (datagram_in (sent_in w.lines) deed)) deed)
-  honest_deed print number end (Brings who from source) there unforged = honest_datagram who end (datagram_had (sent_in w.lines) source) from (draws_of number) there unforged
+      IsHonestCall group_secrets (setup_at w.ends (end_of deed)) (past_at (end_of deed) (history_of w)) (history_of w) (call_by print number (bytes_or_none (datagram_in w deed)) deed)
+  honest_deed print number end (Brings who from source) there unforged = honest_datagram who end (datagram_for w who source) from (draws_of number) there unforged
   honest_deed print number end (Calls who (Opens peer list)) there unforged = tt
   honest_deed print number end (Calls who (Seeks name list)) there unforged = tt
   honest_deed print number end deed there unforged = tt
@@ -162,6 +170,7 @@ pub record IsNext (w : Seen) (line : JournalLine) (end : EndSeen) (state : State
   pub sized : IsSizedDeed (deed_of line.step)
   pub peer : HasPeer (length w.ends) line.step
   pub moment : line.moment ≡ w.moment
+  pub generation : line.generation ≡ end.state.group.generation
   pub answer : IsAnswered line
   pub there : slice_get w.ends line.end ≡ Some end
   pub event : StepOf end.state (event_of w.ends line) state
@@ -176,6 +185,10 @@ module _ (w : Seen) (line : JournalLine) (end : EndSeen) (state : State) (is : I
 
   abbrev who_named : ℕ
   who_named = peer_of (deed_of line.step)
+
+  -- the fingerprint or the secret that the call is given
+  abbrev the_given : List ℕ
+  the_given = given_by (print_at w.ends who_named) line.generation (deed_of line.step)
 
   stay : SameSetups (length w.ends) w.ends later
   stay who below = setups_stay w.ends line.end state who
@@ -198,7 +211,7 @@ module _ (w : Seen) (line : JournalLine) (end : EndSeen) (state : State) (is : I
   ]
     where
       given : IsGivenFrom w.moment h.event.moment h.event.call
-      given = given_from (print_at w.ends who_named) line.line (bytes_or_none line.datagram) w.moment line.moment (deed_of line.step) (let same : line.moment ≡ w.moment = next.moment in omega arith)
+      given = given_from the_given line.line (bytes_or_none line.datagram) w.moment line.moment (deed_of line.step) (let same : line.moment ≡ w.moment = next.moment in omega arith)
 
       here : line.end ≡ who → StandsUpTo w.moment x.setup (log_of who (h ∷ history_of w)) x.state
       here same =
@@ -218,16 +231,36 @@ module _ (w : Seen) (line : JournalLine) (end : EndSeen) (state : State) (is : I
           is.stand who x (sym (other_end w.ends line.end who state (λ same. other (sym same))) ∙ at) in
           subst (λ (log : List Event). StandsUpTo w.moment x.setup log x.state) (sym (log_other who h (history_of w) other)) before
 
-  given_now : (who : ℕ) (x : EndSeen) → slice_get later who ≡ Some x → IsGiven x.setup
+  given_now : (who : ℕ) (x : EndSeen) → slice_get later who ≡ Some x → IsSetup x.setup
   given_now who x at =
       let was = was_there w.ends line.end state who x at in
-      subst (λ (setup : Setup). IsGiven setup) was.setup (is.given who was.before was.there)
+      subst IsSetup was.setup (is.given who was.before was.there)
+
+  known_now : (who : ℕ) (x : EndSeen) → slice_get later who ≡ Some x → Knows group_secrets x.setup (past_at who (h ∷ history_of w))
+  known_now who x at = elim (tested line.end who) [
+    | inl hit ↦ knows_here hit.0
+    | inr miss ↦
+        subst (λ (log : List Event). Knows group_secrets x.setup (past_of_log log)) (sym (log_other who h (history_of w) miss.0))
+        (is.known who x (sym (other_end w.ends line.end who state (λ same. miss.0 (sym same))) ∙ at))
+  ]
+    where
+      knows_here : line.end ≡ who → Knows group_secrets x.setup (past_at who (h ∷ history_of w))
+      knows_here same =
+          let there : slice_get w.ends who ≡ Some end = subst (λ (k : ℕ). slice_get w.ends k ≡ Some end) same next.there in
+          let before : StandsUpTo w.moment end.setup (log_of who (history_of w)) end.state = is.stand who end there in
+          let after : Knows group_secrets end.setup (past_of_log (log_of who (history_of w) ++ h.event ∷ [])) =
+          knows_more end.setup (log_of who (history_of w)) before.told end.state state before.noted h.event (is.given who end there) (is.calls who) before.stands (is.known who end there) before.state next.event
+          (λ secret learns. given_learnt (print_at w.ends who_named) line.generation line.line (bytes_or_none line.datagram) (deed_of line.step) secret learns ∙ ap secret_after next.generation) in
+          let was = was_there w.ends line.end state who x at in
+          let setup : end.setup ≡ x.setup = (let both : ◌≡◌ {A = Option EndSeen} (Some end) (Some was.before) = sym there ∙ was.there in let is_end : end ≡ was.before = cc in ap (λ (y : EndSeen). y.setup) is_end ∙ was.setup) in
+          subst (λ (z : Setup). Knows group_secrets z (past_at who (h ∷ history_of w))) setup
+          (subst (λ (log : List Event). Knows group_secrets end.setup (past_of_log log)) (sym (log_same who h (history_of w) same)) after)
 
   calls_now : (who : ℕ) → AreCalls (log_of who (h ∷ history_of w))
   calls_now who = elim (tested line.end who) [
     | inl hit ↦
         subst (λ (log : List Event). AreCalls log) (sym (log_same who h (history_of w) hit.0))
-        (calls_more (log_of who (history_of w)) h.event (is.calls who) (is_call (print_at w.ends who_named) line.line (bytes_or_none line.datagram) (deed_of line.step) (length-sha256 (setup_at w.ends who_named).cert) next.small next.bytes next.sized))
+        (calls_more (log_of who (history_of w)) h.event (is.calls who) (is_call the_given line.line (bytes_or_none line.datagram) (deed_of line.step) (given_wide (print_at w.ends who_named) line.generation (deed_of line.step) (length-sha256 (setup_at w.ends who_named).cert)) next.small next.bytes next.sized))
     | inr miss ↦ subst (λ (log : List Event). AreCalls log) (sym (log_other who h (history_of w) miss.0)) (is.calls who)
   ]
 
@@ -269,12 +302,13 @@ module _ (w : Seen) (line : JournalLine) (end : EndSeen) (state : State) (is : I
   fresh_now : Fresh (drawn_in (h ∷ history_of w))
   fresh_now =
       fresh_after (draws_of_past (past_of_log (h.event ∷ [])))
-      (draws_line (print_at w.ends who_named) line.line (bytes_or_none line.datagram) (deed_of line.step) (draws_of_past (past_of_log (h.event ∷ []))) (event_draws end.state state h.event next.event))
+      (draws_line the_given line.line (bytes_or_none line.datagram) (deed_of line.step) (draws_of_past (past_of_log (h.event ∷ []))) (event_draws end.state state h.event next.event))
 
   pub grown_is_world : IsWorld (grown w line state)
   grown_is_world = record {
     stand = subst (λ (x : History). (who : ℕ) (y : EndSeen) → slice_get later who ≡ Some y → StandsUpTo w.moment y.setup (log_of who x) y.state) (sym is_grown) stand_now;
     given = given_now;
+    known = subst (λ (x : History). (who : ℕ) (y : EndSeen) → slice_get later who ≡ Some y → Knows group_secrets y.setup (past_at who x)) (sym is_grown) known_now;
     names = apart_with_state name_of w.ends line.end state (λ x y name setup. name) is.names;
     prints = apart_with_state print_of w.ends line.end state (λ x y name setup. ap own_of setup) is.prints;
     calls = subst (λ (x : History). (who : ℕ) → AreCalls (log_of who x)) (sym is_grown) calls_now;
@@ -306,6 +340,7 @@ called_may w number step line t is below small may called bytes sized =
       sized = subst (λ (s : Step). IsSizedDeed (deed_of s)) (sym of_step.step) sized;
       peer = subst (λ (s : Step). HasPeer (length w.ends) s) (sym of_step.step) (has_peer w (deed_of step) may.ends);
       moment = of_step.moment;
+      generation = of_step.generation ∙ generation_is w.ends (called_by step) called.end (at_step of_step);
       answer = subst (λ (s : Step). HasItsAnswer s line.refused line.stopped) (sym of_step.step) of_step.answer;
       there = called.is_end;
       event = called.event;
@@ -314,13 +349,15 @@ called_may w number step line t is below small may called bytes sized =
     subst (λ (x : Seen). IsWorld x) (sym (seen_is t w.moment (with_state w.ends line.end called.state) (w.lines ++ line ∷ []) called.moment called.ends called.lines))
     (grown_is_world w line called.end called.state is next)
   where
+    at_step : IsLineOf w number step line → slice_get w.ends (called_by step) ≡ Some called.end
+    at_step of_step = subst (λ (k : ℕ). slice_get w.ends k ≡ Some called.end) of_step.end called.is_end
+
     honest_line : IsLineOf w number step line → IsHonestCall group_secrets (setup_at w.ends line.end) (past_at line.end (history_of w)) (history_of w) (event_of w.ends line).call
     honest_line of_step =
-        let there : slice_get w.ends (called_by step) ≡ Some called.end = subst (λ (k : ℕ). slice_get w.ends k ≡ Some called.end) of_step.end called.is_end in
         subst (λ (k : ℕ). IsHonestCall group_secrets (setup_at w.ends k) (past_at k (history_of w)) (history_of w) (event_of w.ends line).call) (sym of_step.end)
-        (subst (λ (s : Step). IsHonestCall group_secrets (setup_at w.ends (called_by step)) (past_at (called_by step) (history_of w)) (history_of w) (call_of w.ends line.line line.datagram s)) (sym of_step.step)
-        (subst (λ (o : Option (List ℕ)). IsHonestCall group_secrets (setup_at w.ends (called_by step)) (past_at (called_by step) (history_of w)) (history_of w) (call_of w.ends line.line o step)) (sym of_step.datagram)
-        (honest_deed w is (print_at w.ends (peer_of (deed_of step))) line.line called.end (deed_of step) there may.unforged)))
+        (subst (λ (s : Step). IsHonestCall group_secrets (setup_at w.ends (called_by step)) (past_at (called_by step) (history_of w)) (history_of w) (call_of w.ends line.line line.generation line.datagram s)) (sym of_step.step)
+        (subst (λ (o : Option (List ℕ)). IsHonestCall group_secrets (setup_at w.ends (called_by step)) (past_at (called_by step) (history_of w)) (history_of w) (call_of w.ends line.line line.generation o step)) (sym of_step.datagram)
+        (honest_deed w is (given_by (print_at w.ends (peer_of (deed_of step))) line.generation (deed_of step)) line.line called.end (deed_of step) (at_step of_step) may.unforged)))
 
 pub called_is_world : (w : Seen) (number : ℕ) (step : Step) (line : JournalLine) (t : Seen) → IsWorld w → AreBelow w.lines number → number < 2 ^ 32 → step_fault w step ≡ None → Called w number step line t →
     AreBytes (bytes_or_none line.datagram) → IsSizedDeed (deed_of step) → IsWorld t

@@ -13,7 +13,7 @@ use Rattle.endpoint_model.specs.declared.answers.SeekRefusal.TheVariants.{Memory
 use Rattle.session_flows.specs.declared.refusal.CallRefusal.{CallRefusal}
 use Rattle.session_flows.specs.declared.refusal.CallRefusal.TheVariants.{NoAttempt, NoSession, Memory as NoMemoryToCall}
 use Rattle.endpoint_model.specs.declared.answers.Stopped.{Stopped as Stop}
-use Rattle.endpoint_model.specs.Event.{Call, Open as OpenCall, Seek as SeekCall, Unseek as UnseekCall, Cancel as CancelCall, Close as CloseCall, AddRow, Introduce as IntroduceCall, OnFlows, Receive, Tick as TickCall, Answer, Began, Searching, Done, NotOpened, NotSought, Refused as RefusedCall, NotAdded, Stopped, OutOfMemory, Event}
+use Rattle.endpoint_model.specs.Event.{Call, Open as OpenCall, Seek as SeekCall, Unseek as UnseekCall, Cancel as CancelCall, Close as CloseCall, AddRow, Introduce as IntroduceCall, Learn as LearnCall, Advance as AdvanceCall, OnFlows, Receive, Tick as TickCall, Answer, Began, Searching, Succeeds, Done, NotOpened, NotSought, Refused as RefusedCall, NotAdded, Stopped, OutOfMemory, Event}
 use Rattle.endpoint_model.specs.State.{State, Did, Does, after_entries, at_moment, nothing, then_do}
 use Rattle.endpoint_model.specs.Admission.{admission}
 use Rattle.endpoint_model.specs.InSessions.{held_row, closing}
@@ -22,6 +22,7 @@ use Rattle.endpoint_model.specs.OnFlows.{flow_called}
 use Rattle.endpoint_model.specs.FlowTimes.{all_late}
 use Rattle.endpoint_model.specs.Effects.{cancelling, opening, seeking, unseeking, received, tick_once, ticks, first_due, item_done}
 use Rattle.endpoint_model.specs.Introducing.{with_redirect, introducing}
+use Rattle.endpoint_model.specs.Succession.{learning, advancing}
 use Rattle.introducer.specs.declared.refusal.RowRefusal.{RowRefusal}
 use Rattle.introducer.specs.declared.refusal.RowRefusal.TheVariants.{Memory as NoMemoryForRow}
 use Rattle.endpoint_model.specs.Log.{Answers, Step as StepOf, not_opened, not_sought, not_added, not_called}
@@ -29,15 +30,15 @@ use Rattle.rendezvous_world.specs.declared.journal.JournalLine.{JournalLine}
 use Rattle.rendezvous_world.specs.declared.journal.Refused.{Refused}
 use Rattle.rendezvous_world.specs.declared.journal.Refused.TheVariants.{Open as OpenRefused, Seek as SeekRefused, Call as CallRefused, Row as RowRefused}
 use Rattle.rendezvous_world.specs.declared.step.Step.{Step}
-use Rattle.rendezvous_world.specs.Deed.{Opens, Seeks, Introduces, Ticks, Deed, NewEnd, NewMoment, Calls, Brings, deed_of}
-use Rattle.rendezvous_world.specs.Calls.{answer_to_call, answer_to_datagram, answer_to_open, answer_to_seek, answer_to_tick, IsDoneOrRefused}
-use Rattle.rendezvous_world.specs.Seen.{EndSeen, Seen}
+use Rattle.rendezvous_world.specs.Deed.{Opens, Seeks, Introduces, Learns, Advances, Ticks, Deed, NewEnd, NewMoment, Calls, Brings, deed_of}
+use Rattle.rendezvous_world.specs.Calls.{answer_to_call, answer_to_datagram, answer_to_open, answer_to_seek, answer_to_succession, answer_to_tick, IsDoneOrRefused}
+use Rattle.rendezvous_world.specs.Seen.{EndSeen, Seen, generation_at}
 use Rattle.rendezvous_world.specs.Same.{AreSameWorlds, without_room}
 use Rattle.rendezvous_world.specs.Sent.{Sent, sent_among, sent_in}
-use Rattle.rendezvous_world.specs.Datagrams.{datagram_of}
+use Rattle.rendezvous_world.specs.Datagrams.{datagram_from}
 use Rattle.rendezvous_world.specs.Entering.{refused_in}
 use Rattle.rendezvous_world.specs.History.{answer_by, answer_of, call_of, event_of, moment_given}
-use Rattle.rendezvous_world.specs.Stepping.{Called, HasAnswer, HasItsAnswer, SteppedAs, Stepped, new_end, new_setup, with_end, with_moment, with_state}
+use Rattle.rendezvous_world.specs.Stepping.{Called, called_by, HasAnswer, HasItsAnswer, SteppedAs, Stepped, new_end, new_setup, with_end, with_moment, with_state}
 
 -- ---- ticks
 
@@ -63,6 +64,7 @@ IsWhole (Began n) = Unit {0}
 IsWhole Done = Unit {0}
 IsWhole (NotOpened refusal) = refusal ≢ NoMemoryToOpen
 IsWhole (Searching near) = Unit {0}
+IsWhole (Succeeds generation) = Unit {0}
 IsWhole (NotSought refusal) = refusal ≢ NoMemoryToSeek
 IsWhole (RefusedCall refusal) = refusal ≢ NoMemoryToCall
 IsWhole (NotAdded refusal) = refusal ≢ NoMemoryForRow
@@ -163,6 +165,30 @@ one_introduce s Done Done xs ys t r p q h k = same_did Done Done (nothing (intro
 one_introduce s Done other xs ys t r p q h k = absurd k
 one_introduce s answer other xs ys t r p q h k = absurd h
 
+-- a call on the group's secrets that isn't refused for want of memory
+one_learn : (s : State) (secret : List ℕ) (a b : Answer) (xs ys : List Entry) (t r : State) → IsWhole a → IsWhole b → Answers s (LearnCall secret) a xs t → Answers s (LearnCall secret) b ys r → SameAnswer a b xs ys t r
+one_learn s secret (Succeeds n) (Succeeds m) xs ys t r p q h k =
+    same_did (Succeeds n) (Succeeds m) (learning s secret) (learning s secret) xs ys t r (ap Succeeds (h.1 ∙ sym k.1)) refl h.2 k.2
+one_learn s secret (Succeeds n) (RefusedCall refusal) xs ys t r p q h k = absurd (q (k.0 ∙ ap not_called h.0))
+one_learn s secret (Succeeds n) other xs ys t r p q h k = absurd k
+one_learn s secret (RefusedCall refusal) (Succeeds m) xs ys t r p q h k = absurd (p (h.0 ∙ ap not_called k.0))
+one_learn s secret (RefusedCall refusal) (RefusedCall other) xs ys t r p q h k =
+    same_did (RefusedCall refusal) (RefusedCall other) (nothing s) (nothing s) xs ys t r (ap RefusedCall (h.0 ∙ sym k.0)) refl h.1 k.1
+one_learn s secret (RefusedCall refusal) other xs ys t r p q h k = absurd k
+one_learn s secret answer other xs ys t r p q h k = absurd h
+
+one_advance : (s : State) (a b : Answer) (xs ys : List Entry) (t r : State) → IsWhole a → IsWhole b → Answers s AdvanceCall a xs t → Answers s AdvanceCall b ys r → SameAnswer a b xs ys t r
+one_advance s (Succeeds n) (Succeeds m) xs ys t r p q h k =
+    let same : t ≡ r = h.2.state ∙ sym k.2.state in
+    same_did (Succeeds n) (Succeeds m) (advancing s) (advancing s) xs ys t r (ap Succeeds (h.1 ∙ ap (λ (x : State). x.group.generation) same ∙ sym k.1)) refl h.2 k.2
+one_advance s (Succeeds n) (RefusedCall refusal) xs ys t r p q h k = absurd (q (k.0 ∙ ap not_called h.0))
+one_advance s (Succeeds n) other xs ys t r p q h k = absurd k
+one_advance s (RefusedCall refusal) (Succeeds m) xs ys t r p q h k = absurd (p (h.0 ∙ ap not_called k.0))
+one_advance s (RefusedCall refusal) (RefusedCall other) xs ys t r p q h k =
+    same_did (RefusedCall refusal) (RefusedCall other) (nothing s) (nothing s) xs ys t r (ap RefusedCall (h.0 ∙ sym k.0)) refl h.1 k.1
+one_advance s (RefusedCall refusal) other xs ys t r p q h k = absurd k
+one_advance s answer other xs ys t r p q h k = absurd h
+
 -- a call on flows that isn't refused for want of memory
 one_flow : (s : State) (near : ℕ) (call : FlowCall) (a b : Answer) (xs ys : List Entry) (t r : State) → IsWhole a → IsWhole b →
     Answers s (OnFlows near call) a xs t → Answers s (OnFlows near call) b ys r → SameAnswer a b xs ys t r
@@ -203,6 +229,8 @@ one_call s (CancelCall n) a b xs ys t r p q h k = one_cancel s n a b xs ys t r p
 one_call s (CloseCall near) a b xs ys t r p q h k = one_close s near a b xs ys t r p q h k
 one_call s (AddRow print addresses) a b xs ys t r p q h k = one_row s print addresses a b xs ys t r p q h k
 one_call s IntroduceCall a b xs ys t r p q h k = one_introduce s a b xs ys t r p q h k
+one_call s (LearnCall secret) a b xs ys t r p q h k = one_learn s secret a b xs ys t r p q h k
+one_call s AdvanceCall a b xs ys t r p q h k = one_advance s a b xs ys t r p q h k
 one_call s (OnFlows near call) a b xs ys t r p q h k = one_flow s near call a b xs ys t r p q h k
 one_call s (Receive from datagram draws) a b xs ys t r p q h k = one_receive s from datagram draws a b xs ys t r p q h k
 one_call s (TickCall draws) a b xs ys t r p q h k = one_tick s draws a b xs ys t r p q h k
@@ -231,6 +259,13 @@ sought_whole (Some (SeekRefused refusal)) entries h = λ e. h.sought (ap (λ (x 
 sought_whole (Some (CallRefused refusal)) entries h = λ e. h.called (ap (λ (x : CallRefusal). Some (CallRefused x)) e)
 sought_whole (Some (RowRefused refusal)) entries h = λ e. h.added (ap (λ (x : RowRefusal). Some (RowRefused x)) e)
 
+succeeded_whole : (refused : Option Refused) (entries : List Entry) → IsDoneOrRefused refused → IsWhole (answer_to_succession refused entries)
+succeeded_whole None entries h = tt
+succeeded_whole (Some (OpenRefused refusal)) entries h = λ e. h.opened (ap (λ (x : OpenRefusal). Some (OpenRefused x)) e)
+succeeded_whole (Some (SeekRefused refusal)) entries h = λ e. h.sought (ap (λ (x : SeekRefusal). Some (SeekRefused x)) e)
+succeeded_whole (Some (CallRefused refusal)) entries h = λ e. h.called (ap (λ (x : CallRefusal). Some (CallRefused x)) e)
+succeeded_whole (Some (RowRefused refusal)) entries h = λ e. h.added (ap (λ (x : RowRefusal). Some (RowRefused x)) e)
+
 ticked_whole : (stopped : Option Stop) → is_some stopped ≡ false → IsWhole (answer_to_tick stopped)
 ticked_whole None none = tt
 ticked_whole (Some stop) none = absurd (cc)
@@ -242,6 +277,8 @@ brought_whole (Some stop) none = absurd (cc)
 whole : (deed : Deed) (refused : Option Refused) (stopped : Option Stop) (entries : List Entry) → HasAnswer deed refused stopped → is_some stopped ≡ false → IsWhole (answer_by deed refused stopped entries)
 whole (Calls end (Opens peer list)) refused stopped entries h none = opened_whole refused entries h.1
 whole (Calls end (Seeks name list)) refused stopped entries h none = sought_whole refused entries h.1
+whole (Calls end Learns) refused stopped entries h none = succeeded_whole refused entries h.1
+whole (Calls end Advances) refused stopped entries h none = succeeded_whole refused entries h.1
 whole (Calls end Introduces) refused stopped entries h none = tt
 whole (Calls end Ticks) refused stopped entries h none = ticked_whole stopped none
 whole (Calls end call) refused stopped entries h none = called_whole refused h.1
@@ -270,10 +307,19 @@ sought_for (Some (SeekRefused refusal)) entries = refl
 sought_for (Some (CallRefused refusal)) entries = refl
 sought_for (Some (RowRefused refusal)) entries = refl
 
+succeeded_for : (refused : Option Refused) (entries : List Entry) → refused_in (answer_to_succession refused entries) ≡ refused
+succeeded_for None entries = refl
+succeeded_for (Some (OpenRefused refusal)) entries = refl
+succeeded_for (Some (SeekRefused refusal)) entries = refl
+succeeded_for (Some (CallRefused refusal)) entries = refl
+succeeded_for (Some (RowRefused refusal)) entries = refl
+
 -- two answers that are the same were refused for the same
 one_refusal : (deed : Deed) (a b : Option Refused) (p q : Option Stop) (xs ys : List Entry) → HasAnswer deed a p → HasAnswer deed b q → answer_by deed a p xs ≡ answer_by deed b q ys → a ≡ b
 one_refusal (Calls end (Opens peer list)) a b p q xs ys h k e = sym (opened_for a xs) ∙ ap refused_in e ∙ opened_for b ys
 one_refusal (Calls end (Seeks name list)) a b p q xs ys h k e = sym (sought_for a xs) ∙ ap refused_in e ∙ sought_for b ys
+one_refusal (Calls end Learns) a b p q xs ys h k e = sym (succeeded_for a xs) ∙ ap refused_in e ∙ succeeded_for b ys
+one_refusal (Calls end Advances) a b p q xs ys h k e = sym (succeeded_for a xs) ∙ ap refused_in e ∙ succeeded_for b ys
 one_refusal (Calls end Introduces) a b p q xs ys h k e = h.0 ∙ sym k.0
 one_refusal (Calls end Ticks) a b p q xs ys h k e = h.0 ∙ sym k.0
 one_refusal (Calls end call) a b p q xs ys h k e = sym (called_for a) ∙ ap refused_in e ∙ called_for b
@@ -294,6 +340,7 @@ pub record SameLine (k l : JournalLine) : Type 0 where
   pub line : k.line ≡ l.line
   pub end : k.end ≡ l.end
   pub moment : k.moment ≡ l.moment
+  pub generation : k.generation ≡ l.generation
   pub step : k.step ≡ l.step
   pub datagram : k.datagram ≡ l.datagram
   pub refused : k.refused ≡ l.refused
@@ -322,15 +369,18 @@ one_step w v n step k l t s moments ends sent p q a b =
     let who : k.end ≡ l.end = a.is_line.end ∙ sym b.is_line.end in
     let when : k.moment ≡ l.moment = a.is_line.moment ∙ moments ∙ sym b.is_line.moment in
     let steps : k.step ≡ l.step = a.is_line.step ∙ sym b.is_line.step in
-    let datagrams : k.datagram ≡ l.datagram = a.is_line.datagram ∙ ap (λ (x : List Sent). datagram_of x step) sent ∙ sym b.is_line.datagram in
+    let datagrams : k.datagram ≡ l.datagram = a.is_line.datagram ∙ ap (λ (x : List Sent). datagram_from x w.ends (deed_of step)) sent
+    ∙ ap (λ (x : List EndSeen). datagram_from (sent_in v.lines) x (deed_of step)) ends ∙ sym b.is_line.datagram in
+    let generations : k.generation ≡ l.generation = a.is_line.generation ∙ ap (λ (x : List EndSeen). generation_at x (called_by step)) ends ∙ sym b.is_line.generation in
     let found : slice_get w.ends k.end ≡ slice_get v.ends l.end = ap (λ (x : List EndSeen). slice_get x k.end) ends ∙ ap (λ (i : ℕ). slice_get v.ends i) who in
     let same_end : a.end ≡ b.end = same_some a.end b.end (sym a.is_end ∙ found ∙ b.is_end) in
     let given : moment_given k.moment (deed_of k.step) ≡ moment_given l.moment (deed_of l.step) = ap (λ (m : ℕ). moment_given m (deed_of k.step)) when ∙ ap (λ (x : Step). moment_given l.moment (deed_of x)) steps in
-    let calls : call_of w.ends k.line k.datagram k.step ≡ call_of v.ends l.line l.datagram l.step =
-    ap (λ (x : List EndSeen). call_of x k.line k.datagram k.step) ends
-    ∙ ap (λ (x : ℕ). call_of v.ends x k.datagram k.step) lines
-    ∙ ap (λ (x : Option (List ℕ)). call_of v.ends l.line x k.step) datagrams
-    ∙ ap (λ (x : Step). call_of v.ends l.line l.datagram x) steps in
+    let calls : call_of w.ends k.line k.generation k.datagram k.step ≡ call_of v.ends l.line l.generation l.datagram l.step =
+    ap (λ (x : List EndSeen). call_of x k.line k.generation k.datagram k.step) ends
+    ∙ ap (λ (x : ℕ). call_of v.ends x k.generation k.datagram k.step) lines
+    ∙ ap (λ (x : ℕ). call_of v.ends l.line x k.datagram k.step) generations
+    ∙ ap (λ (x : Option (List ℕ)). call_of v.ends l.line l.generation x k.step) datagrams
+    ∙ ap (λ (x : Step). call_of v.ends l.line l.generation l.datagram x) steps in
     let done : SameAnswer (event_of w.ends k).answer (event_of v.ends l).answer k.out.entries l.out.entries a.state b.state =
     one_event a.end.state b.end.state (event_of w.ends k) (event_of v.ends l) a.state b.state (ap (λ (x : EndSeen). x.state) same_end) given calls
     (whole_event w.ends step k a.is_line.step a.is_line.answer p) (whole_event v.ends step l b.is_line.step b.is_line.answer q) a.event b.event in
@@ -341,6 +391,7 @@ one_step w v n step k l t s moments ends sent p q a b =
         line = lines;
         end = who;
         moment = when;
+        generation = generations;
         step = steps;
         datagram = datagrams;
         refused = one_refusal (deed_of step) k.refused l.refused k.stopped l.stopped k.out.entries l.out.entries a.is_line.answer b.is_line.answer answers;
@@ -352,11 +403,12 @@ one_step w v n step k l t s moments ends sent p q a b =
 
 -- ---- lines of the journal
 
-made : (line end moment : ℕ) (step : Step) (datagram : Option (List ℕ)) (refused : Option Refused) (stopped : Option Stop) (entries : List Entry) → JournalLine
-made line end moment step datagram refused stopped entries = record {
+made : (line end moment generation : ℕ) (step : Step) (datagram : Option (List ℕ)) (refused : Option Refused) (stopped : Option Stop) (entries : List Entry) → JournalLine
+made line end moment generation step datagram refused stopped entries = record {
   line = line;
   end = end;
   moment = moment;
+  generation = generation;
   step = step;
   datagram = datagram;
   refused = refused;
@@ -364,11 +416,11 @@ made line end moment step datagram refused stopped entries = record {
   out = record { entries = entries; free = 0; room = 0 };
 }
 
-is_made : (k : JournalLine) → without_room k ≡ made k.line k.end k.moment k.step k.datagram k.refused k.stopped k.out.entries
+is_made : (k : JournalLine) → without_room k ≡ made k.line k.end k.moment k.generation k.step k.datagram k.refused k.stopped k.out.entries
 unfolding made
 is_made k = refl
 
-same_made : (k l : JournalLine) → SameLine k l → made k.line k.end k.moment k.step k.datagram k.refused k.stopped k.out.entries ≡ made l.line l.end l.moment l.step l.datagram l.refused l.stopped l.out.entries
+same_made : (k l : JournalLine) → SameLine k l → made k.line k.end k.moment k.generation k.step k.datagram k.refused k.stopped k.out.entries ≡ made l.line l.end l.moment l.generation l.step l.datagram l.refused l.stopped l.out.entries
 same_made k l same = cc
 
 same_line : (k l : JournalLine) → SameLine k l → without_room k ≡ without_room l

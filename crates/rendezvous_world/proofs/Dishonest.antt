@@ -93,7 +93,7 @@ module _ (w : Seen) (is : IsWorld w) where
       let found = unsent_context bytes (Startup 0) (opens_in end.state bytes) (sent_in w.lines) unsent in
       let opens : opens_in stands.told bytes ≡ Some found.0 = sym (opens_noted end.state stands.told stands.noted bytes stands.state) ∙ found.1 in
       let at : OpensAt group_secrets end.setup (past_at who (history_of w)) bytes found.0 =
-      opens_in_told group_secrets end.setup (log_of who (history_of w)) stands.told bytes (is.given who end there).known (is.given who end there).sized (is.calls who) stands.stands found.0 opens in
+      opens_in_told group_secrets end.setup (log_of who (history_of w)) stands.told bytes (is.known who end there) (is.given who end there) (is.calls who) stands.stands found.0 opens in
       let ours : IsHonestCall group_secrets end.setup (past_at who (history_of w)) (history_of w) (Receive from bytes draws) =
       subst (λ (setup : Setup). IsHonestCall group_secrets setup (past_at who (history_of w)) (history_of w) (Receive from bytes draws)) (setup_is w.ends who end there) honest in
       let was : WasSent bytes found.0 (history_of w) = ours at.contexts found.0 at.plain at.named at.opens in

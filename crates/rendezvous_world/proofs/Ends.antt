@@ -3,7 +3,7 @@ use Rattle.std.proofs.Common.{◌≡◌, ◌≢◌, ℕ, zero, suc, ◌+◌, ◌
 use Rattle.std.proofs.lemmas.Bool.Decides.{nat_tests}
 use Rattle.endpoint_model.specs.State.{State}
 use Rattle.rendezvous_world.specs.declared.end.End.{End}
-use Rattle.rendezvous_world.specs.Seen.{EndSeen, setup_at, state_at}
+use Rattle.rendezvous_world.specs.Seen.{EndSeen, generation_at, setup_at, state_at}
 use Rattle.rendezvous_world.specs.Inside.{end_seen}
 use Rattle.rendezvous_world.specs.Stepping.{in_state, with_state}
 use Rattle.rendezvous_world.specs.Kept.{AreApart}
@@ -40,6 +40,11 @@ pub setup_is : (ends : List EndSeen) (who : ℕ) (end : EndSeen) → slice_get e
 setup_is [] who end e = absurd (cc)
 setup_is (x ∷ ends) zero end e = ap (λ (y : EndSeen). y.setup) (some_is x end e)
 setup_is (x ∷ ends) (suc who) end e = setup_is ends who end e
+
+pub generation_is : (ends : List EndSeen) (k : ℕ) (e : EndSeen) → slice_get ends k ≡ Some e → generation_at ends k ≡ e.state.group.generation
+generation_is [] k e is = absurd (cc)
+generation_is (x ∷ ends) zero e is = let same : x ≡ e = cc in ap (λ (y : EndSeen). y.state.group.generation) same
+generation_is (x ∷ ends) (suc k) e is = generation_is ends k e is
 
 pub is_there : (ends : List EndSeen) (who : ℕ) → who < length ends → (end : EndSeen) × (slice_get ends who ≡ Some end)
 is_there [] who below = absurd (omega arith)

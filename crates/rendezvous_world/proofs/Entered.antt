@@ -16,18 +16,19 @@ use Rattle.rendezvous_world.specs.declared.journal.Refused.{Refused}
 use Rattle.rendezvous_world.specs.declared.step.StepFault.TheVariants.{Memory}
 use Rattle.rendezvous_world.specs.declared.step.Step.{Step}
 use Rattle.rendezvous_world.specs.declared.step.Step.TheVariants.{Inject}
-use Rattle.rendezvous_world.specs.Deed.{StepCall, Opens, Seeks, Closes, Introduces, Ticks, Deed, Calls, deed_of}
+use Rattle.rendezvous_world.specs.Deed.{StepCall, Opens, Seeks, Closes, Introduces, Learns, Ticks, Deed, Calls, deed_of}
 use Rattle.rendezvous_world.specs.Calls.{peer_in, IsAllowed, LeavesUndone}
-use Rattle.rendezvous_world.specs.Seen.{EndSeen, Seen, print_at}
+use Rattle.rendezvous_world.specs.Seen.{EndSeen, Seen, generation_at, print_at}
 use Rattle.rendezvous_world.specs.Line.{IsWith}
 use Rattle.rendezvous_world.specs.Sent.{Sent, sent_among, sent_in}
 use Rattle.rendezvous_world.specs.Datagrams.{datagram_of}
 use Rattle.rendezvous_world.specs.Keyed.{AreKeys}
-use Rattle.rendezvous_world.specs.History.{bytes_or_none, peer_or, peer_of, call_by, call_of, moment_given, answer_of}
+use Rattle.rendezvous_world.specs.History.{given_by, bytes_or_none, peer_or, peer_of, call_by, call_of, moment_given, answer_of}
 use Rattle.rendezvous_world.specs.Stepping.{in_state, with_state, HasItsAnswer, Called, AllowsIn, Allows, Noted}
 use Rattle.rendezvous_world.specs.Entering.{event_by, IsUndoneIn, IsUndone, IsEntering, IsEntered, answered}
 use Rattle.rendezvous_world.specs.Kept.{IsWorld}
 use Rattle.rendezvous_world.specs.Inside.{end_seen, world_seen, named_of, count_in, starts_after, IsKept}
+use Rattle.rendezvous_world.proofs.Ends.{generation_is}
 use Rattle.rendezvous_world.proofs.Calling.{called_is_world}
 use Rattle.rendezvous_world.proofs.Growing.{noted_keeps}
 use Rattle.rendezvous_world.proofs.Finding.{test_other}
@@ -75,15 +76,16 @@ print_named ends named k x same lt is = print_in ends k x lt (is ∙ ap (λ (ns 
 pub named_is : (x : Named) (named seen : List Named) (peer k : ℕ) → k ≡ peer → seen ≡ named → x ≡ get_or seen k x → x ≡ get_or named peer x
 named_is x named seen peer k at same is = is ∙ ap (λ (n : ℕ). get_or seen n x) at ∙ ap (λ (ns : List Named). get_or ns peer x) same
 
-call_same : (ends : List EndSeen) (print : List ℕ) (line : ℕ) (bytes : List ℕ) (datagram : Option (List ℕ)) (step : Step) → print ≡ print_at ends (peer_of (deed_of step)) → bytes ≡ bytes_or_none datagram →
-    call_by print line bytes (deed_of step) ≡ call_of ends line datagram step
-call_same ends print line bytes datagram step p b =
-    ap (λ (x : List ℕ). call_by x line bytes (deed_of step)) p ∙ ap (λ (x : List ℕ). call_by (print_at ends (peer_of (deed_of step))) line x (deed_of step)) b
+call_same : (ends : List EndSeen) (print : List ℕ) (line generation : ℕ) (bytes : List ℕ) (datagram : Option (List ℕ)) (step : Step) → print ≡ print_at ends (peer_of (deed_of step)) → bytes ≡ bytes_or_none datagram →
+    call_by (given_by print generation (deed_of step)) line bytes (deed_of step) ≡ call_of ends line generation datagram step
+call_same ends print line generation bytes datagram step p b =
+    ap (λ (x : List ℕ). call_by (given_by x generation (deed_of step)) line bytes (deed_of step)) p
+    ∙ ap (λ (x : List ℕ). call_by (given_by (print_at ends (peer_of (deed_of step))) generation (deed_of step)) line x (deed_of step)) b
 
 -- what a step injects is its datagram
-is_with : (sent : List Sent) (datagram : Option (List ℕ)) (step : Step) → datagram ≡ datagram_of sent step → IsWith datagram step
-is_with sent datagram (Inject end from bytes) is = is
-is_with sent datagram _ is = tt
+is_with : (w : Seen) (datagram : Option (List ℕ)) (step : Step) → datagram ≡ datagram_of w step → IsWith datagram step
+is_with w datagram (Inject end from bytes) is = is
+is_with w datagram _ is = tt
 
 -- what a call leaves that found no memory
 undone_call : (print named : List ℕ) (moment : ℕ) (call : StepCall) (old new : State) → print ≡ named → LeavesUndone print moment call old new →
@@ -99,6 +101,11 @@ undone_is : (ends : List EndSeen) (print : List ℕ) (moment : ℕ) (deed : Deed
     (new ≡ old) ⊎ (AllowsIn ends old deed × (new ≡ at_moment old moment))
 undone_is ends print moment (Calls end call) old new p h = undone_call print (print_at ends (peer_or end (peer_in call))) moment call old new p h
 undone_is ends print moment deed old new p h = absurd h
+
+-- a learn leaves all as before, whatever its secret
+undone_given : (print : List ℕ) (generation moment : ℕ) (deed : Deed) (old new : State) → IsUndoneIn (given_by print generation deed) moment deed old new → IsUndoneIn print moment deed old new
+undone_given print generation moment (Calls end Learns) old new h = h
+undone_given print generation moment deed old new h = h
 
 -- ---- sent datagrams
 
@@ -131,14 +138,15 @@ pub record IsCalled (moment : ℕ) (ends : List EndKept) (named : List Named) (n
   pub there_is : there ≡ get_or ends end there
   pub peer : Named
   pub peer_is : peer ≡ get_or named (peer_of (deed_of step)) peer
-  pub event : StepOf there.endpoint (event_by peer.print number moment step bytes refused stopped out.entries) state
+  pub event : StepOf there.endpoint (event_by (given_by peer.print there.endpoint.group.generation (deed_of step)) number moment step bytes refused stopped out.entries) state
   pub answer : HasItsAnswer step refused stopped
 
-abbrev pub line_of : ℕ → ℕ → ℕ → Step → Option (List ℕ) → Option Refused → Option Stop → Added → JournalLine
-line_of number end moment step datagram refused stopped out = record {
+abbrev pub line_of : ℕ → ℕ → ℕ → ℕ → Step → Option (List ℕ) → Option Refused → Option Stop → Added → JournalLine
+line_of number end moment generation step datagram refused stopped out = record {
   line = number;
   end = end;
   moment = moment;
+  generation = generation;
   step = step;
   datagram = datagram;
   refused = refused;
@@ -149,24 +157,32 @@ line_of number end moment step datagram refused stopped out = record {
 module _ (moment : ℕ) (ends : List EndKept) (named : List Named) (lines : List JournalLine) (starts : List ℕ) (sent : ℕ) (keyed : List ℕ) (kept : IsKept moment ends named lines starts sent keyed)
     (number end : ℕ) (step : Step) (datagram : Option (List ℕ)) (bytes : List ℕ) (entering : IsEntering (world_seen moment ends lines) number end step datagram bytes) where
   pub with_datagram : IsWith datagram step
-  with_datagram = is_with (sent_in lines) datagram step entering.datagram
+  with_datagram = is_with (world_seen moment ends lines) datagram step entering.datagram
 
   there_is : end < length ends
   there_is = omega (arith, entering.there, length-map {B = EndSeen} ends end_seen)
 
   module _ (refused : Option Refused) (stopped : Option Stop) (out : Added) (there : EndKept) (state : State) (did : IsCalled moment ends named number end step bytes refused stopped out there state) where
     abbrev the_line : JournalLine
-    the_line = line_of number end moment step datagram refused stopped out
+    the_line = line_of number end moment there.endpoint.group.generation step datagram refused stopped out
 
     abbrev after : List EndKept
     after = set ends end (now_in there state)
 
-    same_call : call_by did.peer.print number bytes (deed_of step) ≡ call_of (map end_seen ends) number datagram step
-    same_call = call_same (map end_seen ends) did.peer.print number bytes datagram step (print_named (map end_seen ends) named (peer_of (deed_of step)) did.peer kept.names entering.peer did.peer_is) entering.bytes
+    same_call : call_by (given_by did.peer.print there.endpoint.group.generation (deed_of step)) number bytes (deed_of step) ≡ call_of (map end_seen ends) number there.endpoint.group.generation datagram step
+    same_call = call_same (map end_seen ends) did.peer.print number there.endpoint.group.generation bytes datagram step (print_named (map end_seen ends) named (peer_of (deed_of step)) did.peer kept.names entering.peer did.peer_is) entering.bytes
 
     pub called : Called (world_seen moment ends lines) number step the_line (world_seen moment after (lines ++ the_line ∷ []))
     called = record {
-      is_line = record { line = refl; end = sym entering.called; moment = refl; step = refl; datagram = entering.datagram; answer = did.answer };
+      is_line = record {
+        line = refl;
+        end = sym entering.called;
+        moment = refl;
+        generation = sym (ap (generation_at (map end_seen ends)) entering.called ∙ generation_is (map end_seen ends) end (end_seen there) (seen_there ends end there there_is did.there_is));
+        step = refl;
+        datagram = entering.datagram;
+        answer = did.answer;
+      };
       end = end_seen there;
       is_end = seen_there ends end there there_is did.there_is;
       state = state;
@@ -194,7 +210,7 @@ module _ (moment : ℕ) (ends : List EndKept) (named : List Named) (lines : List
 
   -- ---- a call that has no line
 
-  module _ (there : EndKept) (state : State) (peer : Named) (there_is_there : there ≡ get_or ends end there) (peer_is : peer ≡ get_or named (peer_of (deed_of step)) peer) (undone : IsUndone peer.print moment step there.endpoint state) where
+  module _ (there : EndKept) (state : State) (peer : Named) (there_is_there : there ≡ get_or ends end there) (peer_is : peer ≡ get_or named (peer_of (deed_of step)) peer) (undone : IsUndone (given_by peer.print there.endpoint.group.generation (deed_of step)) moment step there.endpoint state) where
     abbrev without : List EndKept
     without = set ends end (now_in there state)
 
@@ -202,7 +218,7 @@ module _ (moment : ℕ) (ends : List EndKept) (named : List Named) (lines : List
     before = world_seen moment ends lines
 
     left : (state ≡ there.endpoint) ⊎ (Allows (map end_seen ends) there.endpoint step × (state ≡ at_moment there.endpoint moment))
-    left = undone_is (map end_seen ends) peer.print moment (deed_of step) there.endpoint state (print_named (map end_seen ends) named (peer_of (deed_of step)) peer kept.names entering.peer peer_is) undone
+    left = undone_is (map end_seen ends) peer.print moment (deed_of step) there.endpoint state (print_named (map end_seen ends) named (peer_of (deed_of step)) peer kept.names entering.peer peer_is) (undone_given peer.print there.endpoint.group.generation moment (deed_of step) there.endpoint state undone)
 
     as_before : state ≡ there.endpoint → world_seen moment without lines ≡ before
     as_before same = ap (λ (es : List EndKept). world_seen moment es lines) (same_set end ends there state there_is_there same)

@@ -9,7 +9,7 @@ use Rattle.crypto_profile.specs.declared.keys.Context.{Context}
 use Rattle.rtmfp_base.specs.Reasons.{where_true}
 use Rattle.rendezvous_world.specs.declared.step.StepFault.TheVariants.{Forged}
 use Rattle.rendezvous_world.specs.declared.step.Step.TheVariants.{Forge}
-use Rattle.rendezvous_world.specs.Seen.{Seen}
+use Rattle.rendezvous_world.specs.Seen.{Seen, generation_at}
 use Rattle.rendezvous_world.specs.Sent.{Sent}
 use Rattle.rendezvous_world.specs.Datagrams.{nth, forged}
 use Rattle.crypto_profile.specs.Keys.{same_context}
@@ -53,7 +53,7 @@ pub few_test : (n : ℕ) → n ≤ 1164 → nat_lt 1164 n ≡ false
 few_test n h = grind (arith, nat_tests)
 
 module _ (w : Seen) (number end : ℕ) (from : AddressParts) (bytes : List ℕ) (above : AreBelow w.lines number) (fits : number < 2 ^ 32) (there : is_missing w end ≡ false) (small : length bytes ≤ 2048) where
-  pub bringing_forge : (plain : List ℕ) → nat_lt 1164 (length plain) ≡ false → forged plain ≡ bytes → IsBringing w number end (Forge end from plain) bytes
+  pub bringing_forge : (plain : List ℕ) → nat_lt 1164 (length plain) ≡ false → forged (generation_at w.ends end) plain ≡ bytes → IsBringing w number end (Forge end from plain) bytes
   bringing_forge plain few is = record {
     above = above;
     fits = fits;

@@ -8,7 +8,6 @@ use Rattle.rendezvous_world.specs.declared.journal.Refused.{Refused}
 use Rattle.endpoint_model.specs.declared.answers.Stopped.{Stopped as Stop}
 use Rattle.rendezvous_world.specs.Deed.{Deed, NewEnd, NewMoment, Calls, Brings, deed_of}
 use Rattle.rendezvous_world.specs.Seen.{Seen}
-use Rattle.rendezvous_world.specs.Sent.{sent_in}
 use Rattle.rendezvous_world.specs.Datagrams.{datagram_in, datagram_of}
 use Rattle.rendezvous_world.specs.History.{bytes_or_none}
 use Rattle.rendezvous_world.specs.Faults.{is_bad_in, step_fault}
@@ -28,13 +27,13 @@ not_back : (last moment : ℕ) → nat_lt moment last ≡ false → last ≤ mom
 not_back last moment e = grind (arith, nat_tests)
 
 module _ (w : Seen) (number : ℕ) (t : Seen) (is : IsWorld w) (below : AreBelow w.lines number) (small : number < 2 ^ 32) where
-  by_line : (step : Step) (line : JournalLine) → step_fault w step ≡ None → AreBytes (bytes_or_none (datagram_of (sent_in w.lines) step)) → IsSizedDeed (deed_of step) → Called w number step line t → IsWorld t
+  by_line : (step : Step) (line : JournalLine) → step_fault w step ≡ None → AreBytes (bytes_or_none (datagram_of w step)) → IsSizedDeed (deed_of step) → Called w number step line t → IsWorld t
   by_line step line none bytes sized called =
       called_is_world w number step line t is below small none called (subst (λ (o : Option (List ℕ)). AreBytes (bytes_or_none o)) (sym called.is_line.datagram) bytes) sized
 
   -- the step was done
   done_as : (step : Step) (deed : Deed) → IsSizedIn w deed → is_bad_in w deed ≡ false →
-      ((line : JournalLine) → AreBytes (bytes_or_none (datagram_in (sent_in w.lines) deed)) → IsSizedDeed deed → Called w number step line t → IsWorld t) → SteppedAs w number step deed t → IsWorld t
+      ((line : JournalLine) → AreBytes (bytes_or_none (datagram_in w deed)) → IsSizedDeed deed → Called w number step line t → IsWorld t) → SteppedAs w number step deed t → IsWorld t
   done_as step (NewEnd name max_peers max_sessions cert) sized fine by h = subst (λ (x : Seen). IsWorld x) (sym h) (with_end_is_world w name cert max_peers max_sessions is sized fine)
   done_as step (NewMoment moment) sized fine by h = subst (λ (x : Seen). IsWorld x) (sym h) (with_moment_is_world w moment (not_back w.moment moment fine) is)
   done_as step (Calls end call) sized fine by h = by h.0 no_bytes sized h.2
@@ -44,7 +43,7 @@ module _ (w : Seen) (number : ℕ) (t : Seen) (is : IsWorld w) (below : AreBelow
   done step sized none h = done_as step (deed_of step) sized (may_step w step none).fine (λ line bytes named called. by_line step line none bytes named called) h
 
   -- it found no memory, and its line is there
-  sized_bytes : (deed : Deed) (refused : Option Refused) (stopped : Option Stop) → HasAnswer deed refused stopped → IsSizedIn w deed → AreBytes (bytes_or_none (datagram_in (sent_in w.lines) deed))
+  sized_bytes : (deed : Deed) (refused : Option Refused) (stopped : Option Stop) → HasAnswer deed refused stopped → IsSizedIn w deed → AreBytes (bytes_or_none (datagram_in w deed))
   sized_bytes (NewEnd name max_peers max_sessions cert) refused stopped answer sized = absurd answer
   sized_bytes (Calls end call) refused stopped answer sized = no_bytes
   sized_bytes deed refused stopped answer sized = sized

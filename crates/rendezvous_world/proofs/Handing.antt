@@ -22,7 +22,7 @@ of_ends w is =
     record {
       setup = λ who part.
           (let there = is_there w.ends who (takes_part w is who part) in
-          subst IsSetup (sym (setup_is w.ends who there.0 there.1)) (is.given who there.0 there.1).sized);
+          subst IsSetup (sym (setup_is w.ends who there.0 there.1)) (is.given who there.0 there.1));
       calls = is.calls;
       group = one_map w is;
       stands = λ who part.

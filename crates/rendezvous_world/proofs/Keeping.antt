@@ -1,6 +1,7 @@
 -- The first world, one at another moment, and one with one more end.
-use Rattle.std.proofs.Common.{◌≡◌, ◌≢◌, ℕ, zero, suc, ◌<◌, ◌≤◌, ◌==◌, List, [], ◌∷◌, ◌++◌, length, slice_get, nat_lt, nat_le, Bool, true, false, ◌||◌, Option, None, Some, inl, inr, refl, sym, ap, subst, ◌∙◌, arith}
+use Rattle.std.proofs.Common.{◌≡◌, ◌≢◌, ℕ, zero, suc, ◌^◌, ◌<◌, ◌≤◌, ◌==◌, List, [], ◌∷◌, ◌++◌, length, slice_get, nat_lt, nat_le, Bool, true, false, ◌||◌, Option, None, Some, inl, inr, refl, sym, ap, subst, ◌∙◌, arith}
 use Rattle.std.specs.Str.{bytes_eq}
+use Rattle.std.specs.FinMap.{get}
 use Rattle.std.specs.List.{list_any, AllByRecursion}
 use Rattle.std.proofs.lemmas.Bool.{or_parts}
 use Rattle.std.proofs.lemmas.Bool.Decides.{nat_tests}
@@ -12,22 +13,24 @@ use Rattle.glare_core.specs.Steps.{Among}
 use Rattle.glare_core.specs.Told.{AllDifferent}
 use Rattle.endpoint_model.specs.Event.{Event, own_of}
 use Rattle.endpoint_model.specs.State.{fresh}
-use Rattle.endpoint_laws.specs.Laws.{AreCalls}
+use Rattle.endpoint_laws.specs.Contexts.{Knows}
+use Rattle.endpoint_laws.specs.Laws.{IsSetup, AreCalls}
+use Rattle.endpoint_laws.specs.Past.{past_of_log}
 use Rattle.endpoint_laws.specs.Draws.{drawn_in}
-use Rattle.endpoint_laws.specs.History.{History, log_of, IsHonest, TakesPart}
+use Rattle.endpoint_laws.specs.History.{History, log_of, past_at, IsHonest, TakesPart}
+use Rattle.counted_secrets.specs.Secrets.{counted_secret}
+use Rattle.counted_secrets.proofs.Counted.{known_below}
 use Rattle.rendezvous_world.specs.declared.journal.JournalLine.{JournalLine}
 use Rattle.rendezvous_world.specs.declared.step.Step.TheVariants.{End}
 use Rattle.rendezvous_world.specs.Deed.{Deed, Calls, deed_of}
 use Rattle.rendezvous_world.specs.Calls.{peer_in}
-use Rattle.rtmfp_base.proofs.Maps.{get_inserted}
-use Rattle.std.specs.FinMap.{empty}
-use Rattle.rendezvous_world.specs.Seen.{group_secrets, first_generation, group_secret, EndSeen, Seen, setup_at}
+use Rattle.rendezvous_world.specs.Seen.{group_secrets, first_generation, EndSeen, Seen, setup_at}
 use Rattle.rendezvous_world.specs.History.{history_of}
 use Rattle.rendezvous_world.specs.Sound.{StandsUpTo}
 use Rattle.rendezvous_world.specs.Stepping.{new_setup, new_end, with_end, with_moment}
 use Rattle.rendezvous_world.specs.Faults.{is_like, is_outside, is_bad}
 use Rattle.rendezvous_world.specs.Laws.{empty_world}
-use Rattle.rendezvous_world.specs.Kept.{IsGiven, name_of, print_of, IsNamed, HasPeerIn, IsLineIn, IsOfLine, IsWorld}
+use Rattle.rendezvous_world.specs.Kept.{name_of, print_of, IsNamed, HasPeerIn, IsLineIn, IsOfLine, IsWorld}
 use Rattle.rendezvous_world.proofs.Ends.{setups_stay_before, length-more, before_or_new, NoneHas, apart_with_end}
 use Rattle.rendezvous_world.proofs.Noting.{stands_whole, stands_later}
 use Rattle.rendezvous_world.proofs.Told.{SameSetups, same_lines, all_mapped, takes_part_below, log_absent, honest_same}
@@ -41,6 +44,7 @@ pub new_world : IsWorld empty_world
 new_world = record {
   stand = λ who end there. absurd (none_there who end there);
   given = λ who end there. absurd (none_there who end there);
+  known = λ who end there. absurd (none_there who end there);
   names = λ a b x y there. absurd (none_there a x there);
   prints = λ a b x y there. absurd (none_there a x there);
   calls = λ who. tt;
@@ -58,6 +62,7 @@ pub with_moment_is_world : (w : Seen) (moment : ℕ) → w.moment ≤ moment →
 with_moment_is_world w moment le is = record {
   stand = λ who end there. stands_later w.moment moment end.setup (log_of who (history_of w)) end.state le (is.stand who end there);
   given = is.given;
+  known = is.known;
   names = is.names;
   prints = is.prints;
   calls = is.calls;
@@ -107,13 +112,14 @@ line_in_more few many le line is = record {
   small = is.small;
 }
 
-pub new_setup_is : (max_peers max_sessions : ℕ) (cert : List ℕ) → IsCertificate cert → max_sessions ≤ 65536 → IsGiven (new_setup max_peers max_sessions cert)
-new_setup_is max_peers max_sessions cert is most = record {
-  sized = record { cert = is; secret = refl; cookie_secret = length-sha256 cert; sessions = most };
-  known = get_inserted empty first_generation group_secret;
-}
+pub new_setup_is : (max_peers max_sessions : ℕ) (cert : List ℕ) → IsCertificate cert → max_sessions ≤ 65536 → IsSetup (new_setup max_peers max_sessions cert)
+new_setup_is max_peers max_sessions cert is most = record { cert = is; secret = refl; cookie_secret = length-sha256 cert; sessions = most }
 
-module _ (w : Seen) (is : IsWorld w) (new : EndSeen) (given : IsGiven new.setup) (begun : new.state ≡ fresh new.setup) (other_name : NoneHas name_of new.name w.ends) (other_print : NoneHas print_of (own_of new.setup) w.ends) where
+-- the secret of the first generation is that of the group
+first_known : get group_secrets first_generation ≡ Some (counted_secret first_generation)
+first_known = known_below (2 ^ 64) first_generation (omega arith)
+
+module _ (w : Seen) (is : IsWorld w) (new : EndSeen) (given : IsSetup new.setup) (first : get group_secrets new.setup.generation ≡ Some new.setup.secret) (begun : new.state ≡ fresh new.setup) (other_name : NoneHas name_of new.name w.ends) (other_print : NoneHas print_of (own_of new.setup) w.ends) where
   stay : SameSetups (length w.ends) w.ends (w.ends ++ new ∷ [])
   stay who below = setups_stay_before w.ends new who below
 
@@ -132,10 +138,23 @@ module _ (w : Seen) (is : IsWorld w) (new : EndSeen) (given : IsGiven new.setup)
         (subst (λ (log : List Event). StandsUpTo w.moment new.setup log new.state) (sym none) (stands_whole w.moment new.setup [] new.state (sym begun))))
   ]
 
-  given_now : (who : ℕ) (end : EndSeen) → slice_get (w.ends ++ new ∷ []) who ≡ Some end → IsGiven end.setup
+  given_now : (who : ℕ) (end : EndSeen) → slice_get (w.ends ++ new ∷ []) who ≡ Some end → IsSetup end.setup
   given_now who end there = elim (before_or_new w.ends new who end there) [
     | inl before ↦ is.given who end before
-    | inr at ↦ subst (λ (x : EndSeen). IsGiven x.setup) (sym at.1) given
+    | inr at ↦ subst (λ (x : EndSeen). IsSetup x.setup) (sym at.1) given
+  ]
+
+  -- nothing was learnt yet by the new end
+  absent : log_of (length w.ends) (history_of w) ≡ []
+  absent = log_absent (length w.ends) (history_of w) (λ h. (let below : length w.ends < length w.ends = takes_part (length w.ends) h in omega arith))
+
+  known_now : (who : ℕ) (end : EndSeen) → slice_get (w.ends ++ new ∷ []) who ≡ Some end → Knows group_secrets end.setup (past_at who (history_of w))
+  known_now who end there = elim (before_or_new w.ends new who end there) [
+    | inl before ↦ is.known who end before
+    | inr at ↦
+        subst (λ (x : EndSeen). Knows group_secrets x.setup (past_at who (history_of w))) (sym at.1)
+        (subst (λ (k : ℕ). Knows group_secrets new.setup (past_at k (history_of w))) (sym at.0)
+        (subst (λ (log : List Event). Knows group_secrets new.setup (past_of_log log)) (sym absent) (record { first = first; learnt = λ generation secret was. absurd was })))
   ]
 
   lines_now : AllByRecursion (IsLineIn (length (w.ends ++ new ∷ []))) w.lines
@@ -147,6 +166,7 @@ module _ (w : Seen) (is : IsWorld w) (new : EndSeen) (given : IsGiven new.setup)
   one_more_end = record {
     stand = subst (λ (h : History). (who : ℕ) (end : EndSeen) → slice_get (w.ends ++ new ∷ []) who ≡ Some end → StandsUpTo w.moment end.setup (log_of who h) end.state) (sym same_history) stand_now;
     given = given_now;
+    known = subst (λ (h : History). (who : ℕ) (end : EndSeen) → slice_get (w.ends ++ new ∷ []) who ≡ Some end → Knows group_secrets end.setup (past_at who h)) (sym same_history) known_now;
     names = apart_with_end name_of w.ends new other_name is.names;
     prints = apart_with_end print_of w.ends new other_print is.prints;
     calls = subst (λ (h : History). (who : ℕ) → AreCalls (log_of who h)) (sym same_history) is.calls;
@@ -167,5 +187,5 @@ with_end_is_world w name cert max_peers max_sessions is certified fine =
     let last = or_parts (like || nat_le 1024 (length w.ends) || is_outside 1048576 max_peers) (is_outside 65536 max_sessions) fine in
     let limits = or_parts (like || nat_le 1024 (length w.ends)) (is_outside 1048576 max_peers) last.0 in
     let first = or_parts like (nat_le 1024 (length w.ends)) limits.0 in
-    one_more_end w is (new_end name (new_setup max_peers max_sessions cert)) (new_setup_is max_peers max_sessions cert certified (not_outside 65536 max_sessions last.1)) refl
+    one_more_end w is (new_end name (new_setup max_peers max_sessions cert)) (new_setup_is max_peers max_sessions cert certified (not_outside 65536 max_sessions last.1)) first_known refl
     (no_name name cert w.ends first.0) (no_print name cert w.ends first.0)

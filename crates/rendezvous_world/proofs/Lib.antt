@@ -4,6 +4,7 @@ pub mod Forging
 pub mod Sounds
 pub mod Keeping
 pub mod Noting
+pub mod Learning
 pub mod Calling
 pub mod Decided
 pub mod Finding

@@ -5,23 +5,26 @@ use Rattle.glare_core.specs.Steps.{Among}
 use Rattle.glare_core.specs.Told.{AllDifferent}
 use Rattle.startup.specs.Attempts.{after_cancel, after_unseek}
 use Rattle.endpoint_model.specs.declared.entry.Entry.{Entry}
-use Rattle.endpoint_model.specs.Event.{Setup, own_of, Call, Open, Seek, Unseek, Cancel, Close, AddRow, Introduce, OnFlows, Receive, Tick, Answer, Done, Refused, NotAdded, Event}
+use Rattle.endpoint_model.specs.Event.{Setup, own_of, Call, Open, Seek, Unseek, Cancel, Close, AddRow, Introduce, Learn, Advance, OnFlows, Receive, Tick, Answer, Done, Succeeds, Refused, NotAdded, Event}
 use Rattle.endpoint_model.specs.declared.row.Row.{Row}
-use Rattle.endpoint_model.specs.State.{State, Did, at_moment, with_startup}
+use Rattle.crypto_profile.specs.declared.group.GroupSecret.{GroupSecret}
+use Rattle.endpoint_model.specs.State.{State, Did, Does, at_moment, with_startup}
+use Rattle.endpoint_model.specs.Succession.{learning, no_next, advance_refusal, advancing_to, advancing}
 use Rattle.endpoint_model.specs.InSessions.{held_row}
 use Rattle.endpoint_model.specs.FlowCall.{FlowCall}
 use Rattle.endpoint_model.specs.OnFlows.{flow_called, flow_called_by}
 use Rattle.endpoint_model.specs.Introducing.{with_redirect, introducing}
 use Rattle.endpoint_laws.specs.OpensIn.{opens_in}
 use Rattle.endpoint_model.specs.Log.{StandsFor, Answers, Step as StepOf}
-use Rattle.endpoint_laws.specs.Laws.{AreCalls}
+use Rattle.endpoint_laws.specs.Contexts.{Knows}
+use Rattle.endpoint_laws.specs.Laws.{IsSetup, AreCalls}
 use Rattle.endpoint_laws.specs.Draws.{drawn_in}
-use Rattle.endpoint_laws.specs.History.{History, log_of, IsHonest}
+use Rattle.endpoint_laws.specs.History.{History, log_of, past_at, IsHonest}
 use Rattle.endpoint.proofs.Extending.{extends}
 use Rattle.rendezvous_world.specs.Seen.{group_secrets, EndSeen, Seen, setup_at}
 use Rattle.rendezvous_world.specs.History.{history_of}
 use Rattle.rendezvous_world.specs.Sound.{StandsUpTo}
-use Rattle.rendezvous_world.specs.Kept.{IsGiven, name_of, print_of, IsLineIn, IsOfLine, IsWorld}
+use Rattle.rendezvous_world.specs.Kept.{name_of, print_of, IsLineIn, IsOfLine, IsWorld}
 use Rattle.rendezvous_world.specs.Stepping.{in_state, with_state}
 use Rattle.rendezvous_world.proofs.Ends.{tested, setups_stay, length-with_state, changed_end, other_end, was_there, apart_with_state}
 use Rattle.rendezvous_world.proofs.Told.{SameSetups, same_lines, honest_same}
@@ -101,6 +104,19 @@ record IsLeft (s : State) (noted : ℕ) (call : Call) (answer : Answer) (entries
   answers : Answers s call answer entries after
   state : t ≡ at_moment after noted
 
+-- an advance leaves the moment that was noted
+advanced_noted : (s : State) (noted : ℕ) (next : Option GroupSecret) (generation : ℕ) (entries : List Entry) (t : State) → s.next ≡ next → advance_refusal s ≡ None → generation ≡ t.group.generation →
+    Does (advancing_to (at_moment s noted) s.next) t [] entries → IsLeft s noted Advance (Succeeds generation) entries t
+advanced_noted s noted None generation entries t is known number did = absurd (let none : no_next None ≡ None = ap no_next (sym is) ∙ known in cc)
+advanced_noted s noted (Some next) generation entries t is known number did =
+    let same : advancing_to (at_moment s noted) s.next ≡ noted_did (advancing s) noted = ap (λ (o : Option GroupSecret). advancing_to (at_moment s noted) o) is ∙ sym (ap (λ (o : Option GroupSecret). noted_did (advancing_to s o) noted) is) in
+    let left : t ≡ at_moment (advancing s).state noted = did.state ∙ ap (λ (d : Did). d.state) same in
+    record {
+      after = (advancing s).state;
+      answers = (known, number ∙ ap (λ (x : State). x.group.generation) left, record { state = refl; entries = did.entries ∙ ap (λ (d : Did). d.entries) same });
+      state = left;
+    }
+
 unmoved : (s : State) (noted : ℕ) (call : Call) (answer : Answer) (entries : List Entry) (t : State) → IsUntimed call → Answers (at_moment s noted) call answer entries t → IsLeft s noted call answer entries t
 unmoved s noted (Open peer candidates draws) answer entries t untimed h = absurd untimed
 unmoved s noted (Seek name candidates draws) answer entries t untimed h = absurd untimed
@@ -116,6 +132,11 @@ unmoved s noted (Cancel n) (Refused refusal) entries t untimed h = record { afte
 unmoved s noted (AddRow print addresses) Done entries t untimed h =
     record { after = with_redirect s print addresses; answers = (h.0, record { state = refl; entries = h.1.entries }); state = h.1.state }
 unmoved s noted (AddRow print addresses) (NotAdded refusal) entries t untimed h = record { after = s; answers = (h.0, record { state = refl; entries = h.1.entries }); state = h.1.state }
+unmoved s noted (Learn secret) (Succeeds generation) entries t untimed h =
+    record { after = (learning s secret).state; answers = (h.0, h.1, record { state = refl; entries = h.2.entries }); state = h.2.state }
+unmoved s noted (Learn secret) (Refused refusal) entries t untimed h = record { after = s; answers = (h.0, record { state = refl; entries = h.1.entries }); state = h.1.state }
+unmoved s noted Advance (Succeeds generation) entries t untimed h = advanced_noted s noted s.next generation entries t refl h.0 h.1 h.2
+unmoved s noted Advance (Refused refusal) entries t untimed h = record { after = s; answers = (h.0, record { state = refl; entries = h.1.entries }); state = h.1.state }
 unmoved s noted Introduce Done entries t untimed h = record { after = introducing s; answers = record { state = refl; entries = h.entries }; state = h.state }
 unmoved s noted (OnFlows near call) Done entries t untimed h =
     let did : Did = flow_called s near call in
@@ -191,15 +212,21 @@ module _ (w : Seen) (who_noted : ℕ) (end : EndSeen) (is : IsWorld w) (there : 
           is.stand who end (subst (λ (k : ℕ). slice_get w.ends k ≡ Some end) same there) in
           subst (λ (y : EndSeen). StandsUpTo w.moment y.setup (log_of who (history_of w)) y.state) is_x (stands_noted w.moment end.setup (log_of who (history_of w)) end.state before)
 
-  given_now : (who : ℕ) (x : EndSeen) → slice_get later who ≡ Some x → IsGiven x.setup
+  given_now : (who : ℕ) (x : EndSeen) → slice_get later who ≡ Some x → IsSetup x.setup
   given_now who x at =
       let was = was_there w.ends who_noted noting who x at in
-      subst (λ (setup : Setup). IsGiven setup) was.setup (is.given who was.before was.there)
+      subst IsSetup was.setup (is.given who was.before was.there)
+
+  known_now : (who : ℕ) (x : EndSeen) → slice_get later who ≡ Some x → Knows group_secrets x.setup (past_at who (history_of w))
+  known_now who x at =
+      let was = was_there w.ends who_noted noting who x at in
+      subst (λ (setup : Setup). Knows group_secrets setup (past_at who (history_of w))) was.setup (is.known who was.before was.there)
 
   pub noted_is_world : IsWorld noted
   noted_is_world = record {
     stand = subst (λ (h : History). (who : ℕ) (x : EndSeen) → slice_get later who ≡ Some x → StandsUpTo w.moment x.setup (log_of who h) x.state) (sym same_history) stand_now;
     given = given_now;
+    known = subst (λ (h : History). (who : ℕ) (x : EndSeen) → slice_get later who ≡ Some x → Knows group_secrets x.setup (past_at who h)) (sym same_history) known_now;
     names = apart_with_state name_of w.ends who_noted noting (λ x y name setup. name) is.names;
     prints = apart_with_state print_of w.ends who_noted noting (λ x y name setup. ap own_of setup) is.prints;
     calls = subst (λ (h : History). (who : ℕ) → AreCalls (log_of who h)) (sym same_history) is.calls;

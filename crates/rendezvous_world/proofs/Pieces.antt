@@ -8,10 +8,11 @@ use Rattle.endpoint_model.specs.Event.{Setup}
 use Rattle.endpoint_model.specs.State.{State, fresh}
 use Rattle.endpoint_laws.specs.OpensIn.{opens_in}
 use Rattle.rtmfp_text.specs.declared.names.Named.{Named}
+use Rattle.counted_secrets.specs.Secrets.{counted_secret}
 use Rattle.rendezvous_world.specs.declared.end.End.{End as EndKept}
 use Rattle.rendezvous_world.specs.declared.journal.JournalLine.{JournalLine}
 use Rattle.rendezvous_world.specs.declared.step.Step.TheVariants.{End}
-use Rattle.rendezvous_world.specs.Seen.{EndSeen, Seen, first_generation, group_secret}
+use Rattle.rendezvous_world.specs.Seen.{EndSeen, Seen, first_generation, generation_at}
 use Rattle.rendezvous_world.specs.Sent.{Sent, sent_in}
 use Rattle.rendezvous_world.specs.Keyed.{AreKeys}
 use Rattle.rendezvous_world.specs.Faults.{is_sent, is_unsent_in, is_forged_at, is_bad}
@@ -31,6 +32,13 @@ forged_there (e ∷ ends) (suc k) there bytes sent is lt =
     test_other (suc k) 0 (is_unsent_in (opens_in e.endpoint bytes) bytes sent) (is_forged_at (map end_seen ends) (suc k - 1) bytes sent) (λ z. omega arith)
     ∙ ap (λ (n : ℕ). is_forged_at (map end_seen ends) n bytes sent) (let z : suc k - 1 ≡ k = omega arith in z)
     ∙ forged_there ends k there bytes sent is (omega (arith, lt))
+
+-- ---- the current generation at an end
+
+pub generation_there : (ends : List EndKept) (k : ℕ) (there : EndKept) → there ≡ get_or ends k there → k < length ends → generation_at (map end_seen ends) k ≡ there.endpoint.group.generation
+generation_there [] k there is lt = absurd (omega arith)
+generation_there (e ∷ ends) zero there is lt = ap (λ (x : EndKept). x.endpoint.group.generation) (sym is)
+generation_there (e ∷ ends) (suc k) there is lt = generation_there ends k there is (omega (arith, lt))
 
 -- ---- forged, by the context that a session ID names
 
@@ -79,14 +87,24 @@ end_of name max_peers max_sessions cert state = record {
   endpoint = state;
 }
 
-abbrev pub setup_with : ℕ → ℕ → List ℕ → List ℕ → Setup
-setup_with max_peers max_sessions cert cookie_secret = record {
+-- what an end is given with this secret, and with that of the first generation
+abbrev pub setup_by : ℕ → ℕ → List ℕ → List ℕ → List ℕ → Setup
+setup_by max_peers max_sessions cert cookie_secret secret = record {
   config = record { max_peers = max_peers; max_sessions = max_sessions; introduces = false };
   cert = cert;
   generation = first_generation;
-  secret = group_secret;
+  secret = secret;
   cookie_secret = cookie_secret;
 }
+
+abbrev pub setup_with : ℕ → ℕ → List ℕ → List ℕ → Setup
+setup_with max_peers max_sessions cert cookie_secret =
+    setup_by max_peers max_sessions cert cookie_secret (counted_secret first_generation)
+
+pub fresh_with : (max_peers max_sessions : ℕ) (cert cookie_secret secret : List ℕ) (s : State) → s ≡ fresh (setup_by max_peers max_sessions cert cookie_secret secret) → secret ≡ counted_secret first_generation →
+    s ≡ fresh (setup_with max_peers max_sessions cert cookie_secret)
+fresh_with max_peers max_sessions cert cookie_secret secret s is same =
+    is ∙ ap (λ (x : List ℕ). fresh (setup_by max_peers max_sessions cert cookie_secret x)) same
 
 end_is : (given name print cert : List ℕ) (max_peers max_sessions : ℕ) (state : State) → given ≡ name → print ≡ sha256 cert → state ≡ fresh (setup_with max_peers max_sessions cert print) →
     end_seen (end_of given max_peers max_sessions cert state) ≡ new_end name (new_setup max_peers max_sessions cert)

@@ -17,7 +17,6 @@ use Rattle.rendezvous_world.specs.Seen.{EndSeen, Seen}
 use Rattle.rendezvous_world.specs.Faults.{is_missing, lacks_peer, lacks_end_in, lacks_end, lacks_datagram_in, lacks_datagram, is_like, is_outside, is_bad_in, is_bad, is_forged_in, is_forged, is_forged_by, step_fault}
 use Rattle.rendezvous_world.specs.Datagrams.{datagram_in}
 use Rattle.rendezvous_world.specs.History.{peer_or, peer_of}
-use Rattle.rendezvous_world.specs.Sent.{sent_in}
 use Rattle.rendezvous_world.specs.Stepping.{Called, SteppedAs, Stepped}
 use Rattle.rendezvous_world.specs.Sound.{AreBelow}
 use Rattle.rendezvous_world.specs.Inside.{named_of}
@@ -108,7 +107,7 @@ record IsPlain (w : Seen) (end : ℕ) (peer : Option ℕ) (deed : Deed) : Type 0
   called : end_of deed ≡ end
   named : peer_of deed ≡ peer_or end peer
   sized : IsSizedDeed deed
-  datagram : None ≡ datagram_in (sent_in w.lines) deed
+  datagram : None ≡ datagram_in w deed
   lacks : lacks_end_in w deed ≡ (lacks_peer w peer || is_missing w end)
   full : lacks_datagram_in w deed ≡ false
   fine : is_bad_in w deed ≡ false

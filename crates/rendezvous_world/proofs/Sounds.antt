@@ -4,7 +4,7 @@ use Rattle.endpoint_model.specs.Event.{Setup, Event, own_of}
 use Rattle.endpoint_laws.specs.Lawful.{IsLawful}
 use Rattle.endpoint_laws.specs.Contexts.{Knows}
 use Rattle.endpoint_laws.specs.Agreed.{HaveOneMap}
-use Rattle.endpoint_laws.specs.History.{log_of, AreLawful, IsFresh, TakesPart}
+use Rattle.endpoint_laws.specs.History.{log_of, past_at, AreLawful, IsFresh, TakesPart}
 use Rattle.endpoint_laws.proofs.DrawnOnce.{what_is_drawn_once}
 use Rattle.endpoint_laws.proofs.Logged.{every_log_is_lawful}
 use Rattle.rendezvous_world.specs.Seen.{group_secrets, Seen, setup_at}
@@ -24,7 +24,7 @@ module _ (w : Seen) (is : IsWorld w) where
     | inl below ↦
         (let there = is_there w.ends who below in
         let of_end : IsLawful group_secrets there.0.setup (log_of who (history_of w)) =
-        every_log_is_lawful group_secrets there.0.setup (log_of who (history_of w)) (is.stand who there.0 there.1).told (is.given who there.0 there.1).known (is.given who there.0 there.1).sized (is.calls who) (is.stand who there.0 there.1).stands in
+        every_log_is_lawful group_secrets there.0.setup (log_of who (history_of w)) (is.stand who there.0 there.1).told (is.known who there.0 there.1) (is.given who there.0 there.1) (is.calls who) (is.stand who there.0 there.1).stands in
         subst (λ (setup : Setup). IsLawful group_secrets setup (log_of who (history_of w))) (sym (setup_is w.ends who there.0 there.1)) of_end)
     | inr past ↦
         (let none : log_of who (history_of w) ≡ [] = log_absent who (history_of w) (λ h. (let below : who < length w.ends = takes_part who h in omega arith)) in
@@ -43,11 +43,11 @@ module _ (w : Seen) (is : IsWorld w) where
   pub sound : IsSound w
   sound = record { stand = is.stand; lawful = lawful; honest = is.honest; fresh = fresh; answers = is.answers }
 
-  -- each end that takes part has the secret of the group for its generation
+  -- the map has what each end that takes part was given first, and all that it learnt
   pub one_map : HaveOneMap group_secrets (setup_at w.ends) (history_of w)
   one_map who part =
       let there = is_there w.ends who (takes_part who part) in
-      subst (Knows group_secrets) (sym (setup_is w.ends who there.0 there.1)) (is.given who there.0 there.1).known
+      subst (λ (setup : Setup). Knows group_secrets setup (past_at who (history_of w))) (sym (setup_is w.ends who there.0 there.1)) (is.known who there.0 there.1)
 
 pub every_world_is_sound : EveryWorldIsSound
 every_world_is_sound w is = sound w is

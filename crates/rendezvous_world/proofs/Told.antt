@@ -8,7 +8,7 @@ use Rattle.rendezvous_world.specs.declared.journal.JournalLine.{JournalLine}
 use Rattle.rendezvous_world.specs.Deed.{Opens, Redirects, Deed, Calls, deed_of}
 use Rattle.rendezvous_world.specs.Draws.{two_numbers, draws_of}
 use Rattle.rendezvous_world.specs.Seen.{EndSeen, print_at, setup_at}
-use Rattle.rendezvous_world.specs.History.{bytes_or_none, peer_of, call_by, happened, after_lines, moment_given, answer_of}
+use Rattle.rendezvous_world.specs.History.{bytes_or_none, peer_of, call_by, given_by, happened, after_lines, moment_given, answer_of}
 use Rattle.rendezvous_world.specs.Sound.{AreBelow}
 use Rattle.rendezvous_world.specs.Kept.{HasPeerIn, IsLineIn, Rise, HasNumber, IsOfLine}
 use Rattle.rendezvous_world.proofs.Ends.{tested}
@@ -19,17 +19,18 @@ abbrev pub SameSetups : ℕ → List EndSeen → List EndSeen → Type 0
 SameSetups count ends later = (who : ℕ) → who < count → setup_at later who ≡ setup_at ends who
 
 module _ (count : ℕ) (ends later : List EndSeen) (same : SameSetups count ends later) where
-  same_call : (number : ℕ) (bytes : List ℕ) (deed : Deed) → HasPeerIn count deed → call_by (print_at later (peer_of deed)) number bytes deed ≡ call_by (print_at ends (peer_of deed)) number bytes deed
-  same_call number bytes (Calls end (Opens peer list)) has = ap (λ (setup : Setup). OpenCall (own_of setup) list (draws_of number)) (same peer has)
-  same_call number bytes (Calls end (Redirects peer list)) has = ap (λ (setup : Setup). AddRow (own_of setup) list) (same peer has)
-  same_call number bytes deed has = refl
+  same_call : (number generation : ℕ) (bytes : List ℕ) (deed : Deed) → HasPeerIn count deed →
+      call_by (given_by (print_at later (peer_of deed)) generation deed) number bytes deed ≡ call_by (given_by (print_at ends (peer_of deed)) generation deed) number bytes deed
+  same_call number generation bytes (Calls end (Opens peer list)) has = ap (λ (setup : Setup). OpenCall (own_of setup) list (draws_of number)) (same peer has)
+  same_call number generation bytes (Calls end (Redirects peer list)) has = ap (λ (setup : Setup). AddRow (own_of setup) list) (same peer has)
+  same_call number generation bytes deed has = refl
 
   pub same_happened : (line : JournalLine) → IsLineIn count line → happened later line ≡ happened ends line
   same_happened line is =
       ap (λ (call : Call). record {
         who = line.end;
         event = record { moment = moment_given line.moment (deed_of line.step); call = call; answer = answer_of line.step line.refused line.stopped line.out.entries; entries = line.out.entries };
-      }) (same_call line.line (bytes_or_none line.datagram) (deed_of line.step) is.peer)
+      }) (same_call line.line line.generation (bytes_or_none line.datagram) (deed_of line.step) is.peer)
 
   pub same_lines : (lines : List JournalLine) (earlier : History) → AllByRecursion (IsLineIn count) lines → after_lines later lines earlier ≡ after_lines ends lines earlier
   same_lines [] earlier are = refl

@@ -5,24 +5,25 @@ use Rattle.identity.specs.ServiceNames.{IsServiceName}
 use Rattle.glare_core.specs.declared.facts.Fact.TheVariants.{Started}
 use Rattle.endpoint_model.specs.declared.config.Draws.{Draws}
 use Rattle.endpoint_model.specs.declared.entry.Entry.{Entry}
-use Rattle.endpoint_model.specs.declared.entry.Entry.TheVariants.{Fact, Sought}
+use Rattle.endpoint_model.specs.declared.entry.Entry.TheVariants.{Fact, Sought, Learnt, Advanced}
 use Rattle.endpoint_model.specs.declared.answers.Stopped.{Stopped as Stop}
 use Rattle.endpoint_model.specs.declared.answers.OpenRefusal.TheVariants.{Memory as NoMemoryToOpen}
 use Rattle.endpoint_model.specs.declared.answers.SeekRefusal.TheVariants.{Memory as NoMemoryToSeek}
 use Rattle.session_flows.specs.declared.refusal.CallRefusal.TheVariants.{Memory as NoMemoryToCall}
 use Rattle.introducer.specs.declared.refusal.RowRefusal.TheVariants.{Memory as NoMemoryForRow}
-use Rattle.endpoint_model.specs.Event.{Call, Open as OpenCall, Seek as SeekCall, Unseek as UnseekCall, Cancel as CancelCall, Close as CloseCall, AddRow, Introduce as IntroduceCall, OnFlows, Tick as TickCall, Answer, Began, Searching, Done, NotOpened, NotSought, Refused as RefusedCall, NotAdded, Stopped, OutOfMemory}
+use Rattle.endpoint_model.specs.Event.{Call, Open as OpenCall, Seek as SeekCall, Unseek as UnseekCall, Cancel as CancelCall, Close as CloseCall, AddRow, Introduce as IntroduceCall, Learn as LearnCall, Advance as AdvanceCall, OnFlows, Tick as TickCall, Answer, Began, Searching, Done, Succeeds, NotOpened, NotSought, Refused as RefusedCall, NotAdded, Stopped, OutOfMemory}
 use Rattle.endpoint_model.specs.State.{State, at_moment}
 use Rattle.endpoint_model.specs.InSessions.{held_row}
 use Rattle.endpoint_model.specs.Effects.{open_refusal, seek_refusal}
 use Rattle.endpoint_model.specs.Log.{not_taken}
 use Rattle.rendezvous_world.specs.declared.journal.Refused.{Refused}
 use Rattle.rendezvous_world.specs.declared.journal.Refused.TheVariants.{Open as OpenRefused, Seek as SeekRefused, Call as CallRefused, Row as RowRefused}
-use Rattle.rendezvous_world.specs.Deed.{StepCall, Opens, Seeks, Unseeks, Cancels, Closes, CallsFlows, Introduces, Redirects, Ticks}
+use Rattle.rendezvous_world.specs.Deed.{StepCall, Opens, Seeks, Unseeks, Cancels, Closes, CallsFlows, Introduces, Redirects, Learns, Advances, Ticks}
 
 -- ---- what an end is called with
 
--- the call, by the fingerprint of the end that it names, if it names one, and by its draws
+-- the call, by the fingerprint of the end that it names, if it names one, or the secret that it
+-- learns, and by its draws
 abbrev pub made : StepCall → List ℕ → Draws → Call
 made (Opens peer list) print draws = OpenCall print list draws
 made (Seeks name list) print draws = SeekCall name list draws
@@ -32,6 +33,8 @@ made (Closes near) print draws = CloseCall near
 made (CallsFlows near call) print draws = OnFlows near call
 made Introduces print draws = IntroduceCall
 made (Redirects peer list) print draws = AddRow print list
+made Learns secret draws = LearnCall secret
+made Advances print draws = AdvanceCall
 made Ticks print draws = TickCall draws
 
 -- the end that it names
@@ -67,6 +70,13 @@ near_sought [] = 0
 near_sought (Sought near name ∷ rest) = near
 near_sought (entry ∷ rest) = near_sought rest
 
+-- the number of the first generation that was learnt, or became the current one
+abbrev pub number_succeeded : List Entry → ℕ
+number_succeeded [] = 0
+number_succeeded (Learnt generation ∷ rest) = generation
+number_succeeded (Advanced generation ∷ rest) = generation
+number_succeeded (entry ∷ rest) = number_succeeded rest
+
 abbrev pub answer_to_seek : Option Refused → List Entry → Answer
 answer_to_seek None entries = Searching (near_sought entries)
 answer_to_seek (Some (OpenRefused refusal)) entries = NotOpened refusal
@@ -89,6 +99,14 @@ answer_to_call (Some (SeekRefused refusal)) = NotSought refusal
 answer_to_call (Some (CallRefused refusal)) = RefusedCall refusal
 answer_to_call (Some (RowRefused refusal)) = NotAdded refusal
 
+-- a learn and an advance
+abbrev pub answer_to_succession : Option Refused → List Entry → Answer
+answer_to_succession None entries = Succeeds (number_succeeded entries)
+answer_to_succession (Some (OpenRefused refusal)) entries = NotOpened refusal
+answer_to_succession (Some (SeekRefused refusal)) entries = NotSought refusal
+answer_to_succession (Some (CallRefused refusal)) entries = RefusedCall refusal
+answer_to_succession (Some (RowRefused refusal)) entries = NotAdded refusal
+
 abbrev pub answer_to_datagram : Option Stop → Answer
 answer_to_datagram None = Done
 answer_to_datagram (Some stop) = Stopped stop
@@ -100,6 +118,8 @@ answer_to_tick (Some stop) = OutOfMemory
 abbrev pub answer_in : StepCall → Option Refused → Option Stop → List Entry → Answer
 answer_in (Opens peer list) refused stopped entries = answer_to_open refused entries
 answer_in (Seeks name list) refused stopped entries = answer_to_seek refused entries
+answer_in Learns refused stopped entries = answer_to_succession refused entries
+answer_in Advances refused stopped entries = answer_to_succession refused entries
 answer_in Introduces refused stopped entries = Done
 answer_in Ticks refused stopped entries = answer_to_tick stopped
 answer_in call refused stopped entries = answer_to_call refused

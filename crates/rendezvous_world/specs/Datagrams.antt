@@ -3,10 +3,11 @@ use Rattle.std.specs.Prelude.{ℕ, ◌-◌, ◌==◌, nat_lt, List, [], ◌∷�
 use Rattle.crypto_profile.specs.declared.keys.Context.TheVariants.{Startup}
 use Rattle.crypto_profile.specs.Sealing.{sealed_in}
 use Rattle.packet_scramble.specs.Datagram.{datagram}
+use Rattle.counted_secrets.specs.Secrets.{counted_secret}
 use Rattle.rendezvous_world.specs.Deed.{Source, Delivered, Turned, Injected, Sealed, Deed, Brings, deed_of}
-use Rattle.rendezvous_world.specs.Sent.{Sent}
+use Rattle.rendezvous_world.specs.Sent.{Sent, sent_in}
 use Rattle.rendezvous_world.specs.declared.step.Step.{Step}
-use Rattle.rendezvous_world.specs.Seen.{first_generation, group_secret}
+use Rattle.rendezvous_world.specs.Seen.{EndSeen, Seen, generation_at}
 
 -- the first of a list, the second and so on, counted from 1
 abbrev pub nth : {A : Type 0} → List A → ℕ → Option A
@@ -28,22 +29,32 @@ bent place (Some bytes) = if nat_lt place (length bytes) then
 abbrev pub forged_number : List ℕ
 forged_number = replicate 16 0xff
 
--- a plain packet, sealed for startup under session ID 0
-abbrev pub forged : List ℕ → List ℕ
-forged plain = datagram 0
-    (sealed_in group_secret (Startup first_generation) 0 forged_number plain)
+-- a plain packet, sealed for startup in a generation under session ID 0
+abbrev pub forged : ℕ → List ℕ → List ℕ
+forged generation plain = datagram 0
+    (sealed_in (counted_secret generation) (Startup generation) 0 forged_number plain)
 
--- a datagram that is had so, where these were sent before; none where it isn't there
-abbrev pub datagram_had : List Sent → Source → Option (List ℕ)
-datagram_had sent (Delivered number) = bytes_of (nth sent number)
-datagram_had sent (Turned number place) = bent place (bytes_of (nth sent number))
-datagram_had sent (Injected bytes) = Some bytes
-datagram_had sent (Sealed plain) = Some (forged plain)
+-- A datagram that is had so by an end with this current generation, where these were sent before;
+-- none where it isn't there.
+abbrev pub datagram_had : List Sent → ℕ → Source → Option (List ℕ)
+datagram_had sent generation (Delivered number) = bytes_of (nth sent number)
+datagram_had sent generation (Turned number place) = bent place (bytes_of (nth sent number))
+datagram_had sent generation (Injected bytes) = Some bytes
+datagram_had sent generation (Sealed plain) = Some (forged generation plain)
 
--- the datagram that a deed brings; none where it isn't there, or the deed brings none
-abbrev pub datagram_in : List Sent → Deed → Option (List ℕ)
-datagram_in sent (Brings end from source) = datagram_had sent source
-datagram_in sent deed = None
+-- the same of an end of a world
+abbrev pub datagram_for : Seen → ℕ → Source → Option (List ℕ)
+datagram_for w end source = datagram_had (sent_in w.lines) (generation_at w.ends end) source
 
-abbrev pub datagram_of : List Sent → Step → Option (List ℕ)
-datagram_of sent step = datagram_in sent (deed_of step)
+-- the datagram that a deed brings to one of these ends; none where it isn't there, or the deed
+-- brings none
+abbrev pub datagram_from : List Sent → List EndSeen → Deed → Option (List ℕ)
+datagram_from sent ends (Brings end from source) =
+    datagram_had sent (generation_at ends end) source
+datagram_from sent ends deed = None
+
+abbrev pub datagram_in : Seen → Deed → Option (List ℕ)
+datagram_in w deed = datagram_from (sent_in w.lines) w.ends deed
+
+abbrev pub datagram_of : Seen → Step → Option (List ℕ)
+datagram_of w step = datagram_in w (deed_of step)

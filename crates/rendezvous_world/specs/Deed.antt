@@ -1,12 +1,13 @@
 -- What a step does: it adds an end, it sets the moment, it lets an end make a call, or it brings a
 -- datagram to one. Steps are told apart here alone; what else is said of them goes by their deeds.
-use Rattle.std.specs.Prelude.{ℕ, List}
+use Rattle.std.specs.Prelude.{ℕ, Bool, true, false, List}
 use Rattle.rtmfp_forms.specs.Address.{AddressParts}
 use Rattle.endpoint_model.specs.FlowCall.{FlowCall, OpenFlow, Queue as QueueCall, Abandon as AbandonCall, Finish as FinishCall}
 use Rattle.rendezvous_world.specs.declared.step.Step.{Step}
-use Rattle.rendezvous_world.specs.declared.step.Step.TheVariants.{End, At, Introduce, Redirect, Open, Seek, Unseek, Cancel, Close, Flow, Queue, Abandon, Finish, Deliver, Bent, Inject, Forge, Tick}
+use Rattle.rendezvous_world.specs.declared.step.Step.TheVariants.{End, At, Introduce, Redirect, Open, Seek, Unseek, Cancel, Close, Flow, Queue, Abandon, Finish, Learn, Advance, Deliver, Bent, Inject, Forge, Tick}
 
--- A call that an end makes; an open and a row name another end by its number.
+-- A call that an end makes; an open and a row name another end by its number. A learn is of the
+-- secret of the generation after the current one.
 pub data StepCall : Type 0 where
   Opens : (peer : ℕ) → (list : List AddressParts) → StepCall
   Seeks : (name : List ℕ) → (list : List AddressParts) → StepCall
@@ -16,6 +17,8 @@ pub data StepCall : Type 0 where
   CallsFlows : (near : ℕ) → (call : FlowCall) → StepCall
   Introduces : StepCall
   Redirects : (peer : ℕ) → (list : List AddressParts) → StepCall
+  Learns : StepCall
+  Advances : StepCall
   Ticks : StepCall
 
 -- How a datagram is had: it was sent as this one, counted from 1; it was, and a bit of this byte is
@@ -48,6 +51,8 @@ deed_of (Abandon end near flow seq) = Calls end (CallsFlows near (AbandonCall fl
 deed_of (Finish end near flow) = Calls end (CallsFlows near (FinishCall flow))
 deed_of (Introduce end) = Calls end Introduces
 deed_of (Redirect end peer list) = Calls end (Redirects peer list)
+deed_of (Learn end) = Calls end Learns
+deed_of (Advance end) = Calls end Advances
 deed_of (Deliver number end from) = Brings end from (Delivered number)
 deed_of (Bent number place end from) = Brings end from (Turned number place)
 deed_of (Inject end from bytes) = Brings end from (Injected bytes)
@@ -59,6 +64,11 @@ abbrev pub end_of : Deed → ℕ
 end_of (Calls end call) = end
 end_of (Brings end from source) = end
 end_of deed = 0
+
+-- an end learns a secret
+abbrev pub learns : Deed → Bool
+learns (Calls end Learns) = true
+learns deed = false
 
 -- It calls an end.
 abbrev pub IsCalling : Deed → Type 0

@@ -9,7 +9,7 @@ use Rattle.endpoint_model.specs.declared.answers.OpenRefusal.TheVariants.{Memory
 use Rattle.endpoint_model.specs.declared.answers.SeekRefusal.TheVariants.{Memory as NoMemoryToSeek}
 use Rattle.session_flows.specs.declared.refusal.CallRefusal.TheVariants.{Memory as NoMemoryToCall}
 use Rattle.introducer.specs.declared.refusal.RowRefusal.TheVariants.{Memory as NoMemoryForRow}
-use Rattle.endpoint_model.specs.Event.{Call, Open as OpenCall, AddRow, Answer, NotOpened, NotSought, Refused as RefusedCall, NotAdded, Stopped, OutOfMemory, Event}
+use Rattle.endpoint_model.specs.Event.{Call, Open as OpenCall, AddRow, Learn as LearnCall, Answer, NotOpened, NotSought, Refused as RefusedCall, NotAdded, Stopped, OutOfMemory, Event}
 use Rattle.endpoint_model.specs.Log.{not_taken}
 use Rattle.endpoint.specs.Calls.{call_of}
 use Rattle.rendezvous_world.specs.declared.bringing.Fetched.{Fetched}
@@ -22,7 +22,7 @@ use Rattle.rendezvous_world.specs.declared.step.Step.TheVariants.{End, At, Deliv
 use Rattle.rendezvous_world.specs.declared.step.Deed.{Deed as DeedTaken}
 use Rattle.rendezvous_world.specs.declared.step.Deed.TheVariants.{NewEnd as NewEndBy, NewMoment as NewMomentBy, Call as CallBy, Bring as BringBy}
 use Rattle.rendezvous_world.specs.declared.step.DeedCall.{DeedCall}
-use Rattle.rendezvous_world.specs.declared.step.DeedCall.TheVariants.{Open as OpenBy, AddRow as AddRowBy, Plain as PlainBy}
+use Rattle.rendezvous_world.specs.declared.step.DeedCall.TheVariants.{Open as OpenBy, AddRow as AddRowBy, Learn as LearnBy, Plain as PlainBy}
 use Rattle.rendezvous_world.specs.declared.step.Source.{Source as SourceTaken}
 use Rattle.rendezvous_world.specs.declared.step.Source.TheVariants.{Delivered as DeliveredBy, Turned as TurnedBy, Injected as InjectedBy, Sealed as SealedBy}
 use Rattle.rendezvous_world.specs.declared.step.StepFault.{StepFault}
@@ -31,7 +31,7 @@ use Rattle.rtmfp_forms.specs.Address.{AddressParts}
 use Rattle.rendezvous_world.specs.Deed.{StepCall, Deed, Calls, deed_of, IsCalling}
 use Rattle.rendezvous_world.specs.Calls.{made, peer_in, IsSizedCall, LeavesUndone}
 use Rattle.rendezvous_world.specs.Seen.{Seen}
-use Rattle.rendezvous_world.specs.Sent.{Sent, sent_in}
+use Rattle.rendezvous_world.specs.Sent.{Sent}
 use Rattle.rendezvous_world.specs.Datagrams.{datagram_of}
 use Rattle.rendezvous_world.specs.Faults.{step_fault, is_forged, is_forged_by}
 use Rattle.rtmfp_base.specs.Reasons.{where_true}
@@ -50,17 +50,19 @@ abbrev pub IsCallOf : ℕ → Option ℕ → Deed → Type 0
 IsCallOf end peer (Calls who call) = (who ≡ end) × (peer_in call ≡ peer) × IsSizedCall call
 IsCallOf end peer deed = ⊥
 
--- the call as an end is called with it, by the fingerprint of the end that it names, and by its
--- draws
+-- the call as an end is called with it, by the fingerprint of the end that it names or the secret
+-- that it learns, and by its draws
 abbrev pub made_by : DeedCall → List ℕ → Draws → Call
 made_by (OpenBy peer list) print draws = OpenCall print list.now draws
 made_by (AddRowBy peer list) print draws = AddRow print list.now
+made_by LearnBy secret draws = LearnCall secret
 made_by (PlainBy call) print draws = call_of call draws
 
 -- the end that it names
 abbrev pub peer_by : DeedCall → Option ℕ
 peer_by (OpenBy peer list) = Some peer
 peer_by (AddRowBy peer list) = Some peer
+peer_by LearnBy = None
 peer_by (PlainBy call) = None
 
 -- This is the call that a step makes, given what has its sizes.
@@ -145,7 +147,7 @@ pub record IsEntering (w : Seen) (number end : ℕ) (step : Step) (brought : Opt
   pub calls : CallsAnEnd step
   pub called : called_by step ≡ end
   pub peer : peer_of (deed_of step) < length w.ends
-  pub datagram : brought ≡ datagram_of (sent_in w.lines) step
+  pub datagram : brought ≡ datagram_of w step
   pub bytes : taken ≡ bytes_or_none brought
   pub short : length taken ≤ 2048
   pub are_bytes : AreBytes taken
@@ -175,7 +177,7 @@ pub record IsBringing (w : Seen) (number end : ℕ) (step : Step) (bytes : List 
   pub called : called_by step ≡ end
   pub peer : peer_of (deed_of step) ≡ end
   pub sized : IsSizedDeed (deed_of step)
-  pub datagram : datagram_of (sent_in w.lines) step ≡ Some bytes
+  pub datagram : datagram_of w step ≡ Some bytes
   pub short : length bytes ≤ 2048
   pub forged : is_forged w step ≡ is_forged_by w end (Some bytes)
   pub fault : step_fault w step ≡ where_true (is_forged_by w end (Some bytes)) Forged

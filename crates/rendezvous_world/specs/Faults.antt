@@ -15,7 +15,7 @@ use Rattle.rendezvous_world.specs.Seen.{EndSeen, Seen}
 use Rattle.rendezvous_world.specs.Sent.{Sent, sent_in}
 use Rattle.rendezvous_world.specs.Deed.{Source, Injected, Sealed, Deed, NewEnd, NewMoment, Calls, Brings, deed_of}
 use Rattle.rendezvous_world.specs.Calls.{peer_in}
-use Rattle.rendezvous_world.specs.Datagrams.{datagram_had}
+use Rattle.rendezvous_world.specs.Datagrams.{datagram_for}
 
 -- ---- an end that isn't there
 
@@ -38,7 +38,7 @@ lacks_end w step = lacks_end_in w (deed_of step)
 -- ---- a datagram that isn't there
 
 abbrev pub lacks_datagram_in : Seen → Deed → Bool
-lacks_datagram_in w (Brings end from source) = is_none (datagram_had (sent_in w.lines) source)
+lacks_datagram_in w (Brings end from source) = is_none (datagram_for w end source)
 lacks_datagram_in w deed = false
 
 abbrev pub lacks_datagram : Seen → Step → Bool
@@ -93,7 +93,7 @@ is_forged_by w end (Some bytes) = is_forged_at w.ends end bytes (sent_in w.lines
 
 abbrev pub is_forged_in : Seen → Deed → Bool
 is_forged_in w (Brings end from source) =
-    is_forged_by w end (datagram_had (sent_in w.lines) source)
+    is_forged_by w end (datagram_for w end source)
 is_forged_in w deed = false
 
 abbrev pub is_forged : Seen → Step → Bool

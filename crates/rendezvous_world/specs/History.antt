@@ -1,13 +1,14 @@
 -- The history that a journal tells: its lines as events of its ends.
-use Rattle.std.specs.Prelude.{ℕ, List, [], ◌∷◌, Option, Some, None}
+use Rattle.std.specs.Prelude.{ℕ, if◌then◌else◌, List, [], ◌∷◌, Option, Some, None}
 use Rattle.endpoint_model.specs.declared.entry.Entry.{Entry}
 use Rattle.endpoint_model.specs.declared.answers.Stopped.{Stopped as Stop}
 use Rattle.endpoint_model.specs.Event.{Call, Receive, Tick as TickCall, Answer, Event}
 use Rattle.endpoint_laws.specs.History.{Happened, History}
+use Rattle.counted_secrets.specs.Secrets.{secret_after}
 use Rattle.rendezvous_world.specs.declared.journal.JournalLine.{JournalLine}
 use Rattle.rendezvous_world.specs.declared.journal.Refused.{Refused}
 use Rattle.rendezvous_world.specs.declared.step.Step.{Step}
-use Rattle.rendezvous_world.specs.Deed.{Deed, Calls, Brings, deed_of, end_of}
+use Rattle.rendezvous_world.specs.Deed.{Deed, Calls, Brings, deed_of, end_of, learns}
 use Rattle.rendezvous_world.specs.Calls.{made, peer_in, moment_in, answer_to_datagram, answer_to_tick, answer_in}
 use Rattle.rendezvous_world.specs.Draws.{draws_of}
 use Rattle.rendezvous_world.specs.Seen.{EndSeen, Seen, print_at}
@@ -26,17 +27,23 @@ abbrev pub peer_of : Deed → ℕ
 peer_of (Calls end call) = peer_or end (peer_in call)
 peer_of deed = end_of deed
 
--- the call, by the fingerprint and the datagram that it is given; a step that calls no end stands in
--- no journal
+-- the call, by the fingerprint or the secret and the datagram that it is given; a step that calls
+-- no end stands in no journal
 abbrev pub call_by : List ℕ → ℕ → List ℕ → Deed → Call
 call_by print line bytes (Calls end call) = made call print (draws_of line)
 call_by print line bytes (Brings end from source) = Receive from bytes (draws_of line)
 call_by print line bytes deed = TickCall (draws_of line)
 
--- the call that a step makes, on this line and with this datagram
-abbrev pub call_of : List EndSeen → ℕ → Option (List ℕ) → Step → Call
-call_of ends line datagram step =
-    call_by (print_at ends (peer_of (deed_of step))) line (bytes_or_none datagram) (deed_of step)
+-- The 32 bytes that a call is given, if it is given some: the fingerprint of the end that it names;
+-- or, at an end in a generation, the secret of the next one.
+abbrev pub given_by : List ℕ → ℕ → Deed → List ℕ
+given_by print generation deed = if learns deed then secret_after generation else print
+
+-- the call that a step makes, on this line, at an end in this generation and with this datagram
+abbrev pub call_of : List EndSeen → ℕ → ℕ → Option (List ℕ) → Step → Call
+call_of ends line generation datagram step =
+    call_by (given_by (print_at ends (peer_of (deed_of step))) generation (deed_of step)) line
+    (bytes_or_none datagram) (deed_of step)
 
 -- the moment that the call is given
 abbrev pub moment_given : ℕ → Deed → ℕ
@@ -55,7 +62,7 @@ answer_of step refused stopped entries = answer_by (deed_of step) refused stoppe
 abbrev pub event_of : List EndSeen → JournalLine → Event
 event_of ends line = record {
   moment = moment_given line.moment (deed_of line.step);
-  call = call_of ends line.line line.datagram line.step;
+  call = call_of ends line.line line.generation line.datagram line.step;
   answer = answer_of line.step line.refused line.stopped line.out.entries;
   entries = line.out.entries;
 }

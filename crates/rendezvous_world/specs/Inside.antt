@@ -4,10 +4,11 @@ use Rattle.sha2.specs.Sha256.{sha256}
 use Rattle.rtmfp_forms.specs.Address.{AddressParts}
 use Rattle.rtmfp_text.specs.declared.names.Named.{Named}
 use Rattle.endpoint_model.specs.Event.{own_of}
+use Rattle.counted_secrets.specs.Secrets.{counted_secret}
 use Rattle.rendezvous_world.specs.declared.end.End.{End}
 use Rattle.rendezvous_world.specs.declared.sent.Letter.{Letter}
 use Rattle.rendezvous_world.specs.declared.journal.JournalLine.{JournalLine}
-use Rattle.rendezvous_world.specs.Seen.{EndSeen, Seen, first_generation, group_secret}
+use Rattle.rendezvous_world.specs.Seen.{EndSeen, Seen, first_generation}
 use Rattle.rendezvous_world.specs.Kept.{IsWorld}
 use Rattle.rendezvous_world.specs.Keyed.{AreKeys}
 use Rattle.rendezvous_world.specs.Sent.{Sent, sent_among, sent_in}
@@ -19,7 +20,7 @@ end_seen end = record {
     config = end.config;
     cert = end.cert;
     generation = first_generation;
-    secret = group_secret;
+    secret = counted_secret first_generation;
     cookie_secret = sha256 end.cert;
   };
   state = end.endpoint;

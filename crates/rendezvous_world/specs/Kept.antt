@@ -3,11 +3,11 @@ use Rattle.std.specs.Prelude.{ℕ, ◌≡◌, ◌<◌, ◌^◌, ◌⊎◌, List,
 use Rattle.std.specs.List.{AllByRecursion}
 use Rattle.glare_core.specs.Steps.{Among}
 use Rattle.glare_core.specs.Told.{AllDifferent}
-use Rattle.endpoint_model.specs.Event.{Setup, own_of}
+use Rattle.endpoint_model.specs.Event.{own_of}
 use Rattle.endpoint_laws.specs.Laws.{IsSetup, AreCalls}
 use Rattle.endpoint_laws.specs.Contexts.{Knows}
 use Rattle.endpoint_laws.specs.Draws.{drawn_in}
-use Rattle.endpoint_laws.specs.History.{log_of, IsHonest}
+use Rattle.endpoint_laws.specs.History.{log_of, past_at, IsHonest}
 use Rattle.rendezvous_world.specs.declared.journal.JournalLine.{JournalLine}
 use Rattle.rendezvous_world.specs.declared.step.Step.{Step}
 use Rattle.rendezvous_world.specs.Deed.{Deed, Calls, deed_of}
@@ -17,11 +17,6 @@ use Rattle.rendezvous_world.specs.Seen.{EndSeen, Seen, group_secrets, setup_at}
 use Rattle.rendezvous_world.specs.History.{history_of}
 use Rattle.rendezvous_world.specs.Stepping.{IsAnswered}
 use Rattle.rendezvous_world.specs.Sound.{StandsUpTo}
-
--- What an end was given has its sizes, and its secret is that of the group for its generation.
-pub record IsGiven (setup : Setup) : Type 0 where
-  pub sized : IsSetup setup
-  pub known : Knows group_secrets setup
 
 -- Ends with the same of these bytes are the same end.
 abbrev pub AreApart : (EndSeen → List ℕ) → List EndSeen → Type 0
@@ -72,7 +67,11 @@ pub record IsWorld (w : Seen) : Type 0 where
   -- each end stands for its own log, but that it may have noted a moment which has passed
   pub stand : (who : ℕ) (end : EndSeen) → slice_get w.ends who ≡ Some end →
       StandsUpTo w.moment end.setup (log_of who (history_of w)) end.state
-  pub given : (who : ℕ) (end : EndSeen) → slice_get w.ends who ≡ Some end → IsGiven end.setup
+  -- what it was given has its sizes
+  pub given : (who : ℕ) (end : EndSeen) → slice_get w.ends who ≡ Some end → IsSetup end.setup
+  -- its first secret and each that it learnt are those of the group for their generations
+  pub known : (who : ℕ) (end : EndSeen) → slice_get w.ends who ≡ Some end →
+      Knows group_secrets end.setup (past_at who (history_of w))
   -- different ends have different names and different fingerprints
   pub names : AreApart name_of w.ends
   pub prints : AreApart print_of w.ends

@@ -67,7 +67,7 @@ empty_world = record { moment = 0; ends = []; lines = [] }
 abbrev pub IsSizedIn : Seen → Deed → Type 0
 IsSizedIn w (NewEnd name max_peers max_sessions cert) = IsCertificate cert
 IsSizedIn w (Calls end call) = IsSizedCall call
-IsSizedIn w deed = AreBytes (bytes_or_none (datagram_in (sent_in w.lines) deed))
+IsSizedIn w deed = AreBytes (bytes_or_none (datagram_in w deed))
 
 abbrev pub IsSized : Seen → Step → Type 0
 IsSized w step = IsSizedIn w (deed_of step)

@@ -19,6 +19,8 @@ pub record LineSeen : Type 0 where
   pub end : ℕ
   -- the moment of the world
   pub moment : ℕ
+  -- the current generation of the group's secret at the end, before the call
+  pub generation : ℕ
   pub step : Step
   -- the datagram that reached the end, as it was before the call
   pub datagram : Option (List ℕ)

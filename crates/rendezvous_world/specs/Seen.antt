@@ -1,8 +1,8 @@
 -- What a world is: its moment, its ends by their numbers, and the lines of its journal, the oldest
 -- first.
-use Rattle.std.specs.Prelude.{ℕ, false, zero, suc, List, [], ◌∷◌, replicate, Option, Some, None, refl}
-use Rattle.std.specs.FinMap.{insert, empty}
+use Rattle.std.specs.Prelude.{ℕ, false, zero, suc, List, [], ◌∷◌, Option, Some, None, refl}
 use Rattle.std.specs.Coded.{Coded, code_by, coded×, coded_ℕ, coded_list}
+use Rattle.counted_secrets.specs.Secrets.{counted_secret, counted_secrets}
 use Rattle.endpoint_model.specs.declared.config.Config.{Config}
 use Rattle.endpoint_model.specs.Event.{Setup, own_of}
 use Rattle.endpoint_model.specs.State.{State}
@@ -21,16 +21,13 @@ pub record Seen : Type 0 where
   pub ends : List EndSeen
   pub lines : List JournalLine
 
--- the number of the generation with which every end begins, and the secret of its group in that
+-- the number of the generation with which every end begins
 abbrev pub first_generation : ℕ
 first_generation = 0
 
-abbrev pub group_secret : List ℕ
-group_secret = replicate 32 0
-
--- the secrets of the group, by their generations
+-- the secrets of the group of every end, by their generations
 abbrev pub group_secrets : Secrets
-group_secrets = insert empty first_generation group_secret
+group_secrets = counted_secrets
 
 -- what an end of nobody would be given
 abbrev pub nobody : Setup
@@ -38,7 +35,7 @@ nobody = record {
   config = record { max_peers = 0; max_sessions = 0; introduces = false };
   cert = [];
   generation = first_generation;
-  secret = group_secret;
+  secret = counted_secret first_generation;
   cookie_secret = [];
 }
 
@@ -57,6 +54,12 @@ abbrev pub state_at : List EndSeen → ℕ → Option State
 state_at [] who = None
 state_at (end ∷ ends) zero = Some end.state
 state_at (end ∷ ends) (suc who) = state_at ends who
+
+-- the current generation of the group's secret at the end with this number
+abbrev pub generation_at : List EndSeen → ℕ → ℕ
+generation_at [] who = first_generation
+generation_at (end ∷ ends) zero = end.state.group.generation
+generation_at (end ∷ ends) (suc who) = generation_at ends who
 
 -- ---- how a world is stored: as the tuples of its fields
 

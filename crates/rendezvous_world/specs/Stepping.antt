@@ -4,12 +4,12 @@ use Rattle.sha2.specs.Sha256.{sha256}
 use Rattle.endpoint_model.specs.Event.{Setup}
 use Rattle.endpoint_model.specs.State.{State, fresh, at_moment}
 use Rattle.endpoint_model.specs.Log.{Step as StepOf}
+use Rattle.counted_secrets.specs.Secrets.{counted_secret}
 use Rattle.rendezvous_world.specs.declared.journal.JournalLine.{JournalLine}
 use Rattle.rendezvous_world.specs.declared.journal.Refused.{Refused}
 use Rattle.endpoint_model.specs.declared.answers.Stopped.{Stopped as Stop}
 use Rattle.rendezvous_world.specs.declared.step.Step.{Step}
-use Rattle.rendezvous_world.specs.Seen.{EndSeen, Seen, first_generation, group_secret, print_at}
-use Rattle.rendezvous_world.specs.Sent.{sent_in}
+use Rattle.rendezvous_world.specs.Seen.{EndSeen, Seen, first_generation, generation_at, print_at}
 use Rattle.rendezvous_world.specs.Datagrams.{datagram_of}
 use Rattle.rendezvous_world.specs.Deed.{Deed, NewEnd, NewMoment, Calls, Brings, deed_of, end_of}
 use Rattle.rendezvous_world.specs.Calls.{peer_in, MayAnswer, IsAllowed}
@@ -21,7 +21,7 @@ new_setup max_peers max_sessions cert = record {
   config = record { max_peers = max_peers; max_sessions = max_sessions; introduces = false };
   cert = cert;
   generation = first_generation;
-  secret = group_secret;
+  secret = counted_secret first_generation;
   cookie_secret = sha256 cert;
 }
 
@@ -66,8 +66,9 @@ pub record IsLineOf (w : Seen) (number : ℕ) (done : Step) (told : JournalLine)
   pub line : told.line ≡ number
   pub end : told.end ≡ called_by done
   pub moment : told.moment ≡ w.moment
+  pub generation : told.generation ≡ generation_at w.ends (called_by done)
   pub step : told.step ≡ done
-  pub datagram : told.datagram ≡ datagram_of (sent_in w.lines) done
+  pub datagram : told.datagram ≡ datagram_of w done
   pub answer : HasItsAnswer done told.refused told.stopped
 
 -- The step called an end: the journal has one more line, by whose event that end came from its

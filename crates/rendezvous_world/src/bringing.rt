@@ -7,6 +7,7 @@ ghost use Rattle.rendezvous_world.specs.Datagrams.{nth};
 ghost use Rattle.rendezvous_world.specs.Entering.{bringing, IsBringing, IsDone, IsFetched, IsFetchedFor};
 ghost use Rattle.rendezvous_world.specs.Faults.{is_forged_by, is_sent};
 ghost use Rattle.rendezvous_world.specs.Inside.{sent_found};
+ghost use Rattle.rendezvous_world.specs.Seen.{generation_at};
 ghost use Rattle.rendezvous_world.specs.Sent.{sent_in};
 ghost use Rattle.rendezvous_world.specs.Sound.{AreBelow};
 
@@ -120,6 +121,15 @@ impl World {
             None => false,
             Some(context) => !self.was_sent(bytes, &context),
         }
+    }
+
+    /// The current generation of the group's secret at an end.
+    fn generation_at(&self, end: usize) -> u64
+        requires { end < length self.now.ends }
+        ensures { result ≡ generation_at self.now.ends end }
+    {
+        let there = &self.ends[end];
+        there.endpoint.generation()
     }
 
     /// Brings a datagram to an end, if it isn't forged.
@@ -287,7 +297,8 @@ impl World {
         }
         let mut room = [0; TAKEN];
         let (datagram, _) = room.split_at_mut(PLAIN_AT + plain.len());
-        forge(datagram, plain.bytes());
+        let generation = self.generation_at(end);
+        forge(datagram, generation, plain.bytes());
         self.bring(line, end, step, datagram)
     }
 }

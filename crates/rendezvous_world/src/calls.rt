@@ -27,11 +27,11 @@ pub(crate) struct Outcome {
     pub(crate) undone: bool,
 }
 
-/// Makes the call of the step of a line at a moment. The fingerprint is that of the peer of an
-/// open or a row, and the bytes those of the datagram that the step brings.
+/// Makes the call of the step of a line at a moment. It is given the fingerprint of the peer of an
+/// open or a row, or the secret that is learnt, and the bytes of the datagram that the step brings.
 pub(crate) fn call_end(
     endpoint: &mut Endpoint,
-    print: &[u8; 32],
+    given: &[u8; 32],
     line: u64,
     moment: u64,
     step: &Step,
@@ -42,42 +42,48 @@ pub(crate) fn call_end(
     requires fits { line < 2 ^ 32 }
     requires short { length bytes.old ≤ 2048 }
     requires empty { out.old.entries ≡ [] }
-    ensures event { StepOf endpoint.old (event_by print.now line moment step.now bytes.old
+    ensures event { StepOf endpoint.old (event_by given.now line moment step.now bytes.old
         (refused_kept result.answer) (stopped_kept result.answer) out.new.entries) endpoint.new }
     ensures answer { result.undone ≡ false →
         HasItsAnswer step.now (refused_kept result.answer) (stopped_kept result.answer) }
     ensures undone { result.undone ≡ true →
-        IsUndone print.now moment step.now endpoint.old endpoint.new }
+        IsUndone given.now moment step.now endpoint.old endpoint.new }
 {
     let draws = draws_of(line);
     match step.deed() {
         Deed::NewEnd { .. } => unreachable!(),
         Deed::NewMoment(_) => unreachable!(),
-        Deed::Call(_, call) => outcome_of(make(endpoint, &call, print, moment, &draws, out)),
+        Deed::Call(_, call) => outcome_of(make(endpoint, &call, given, moment, &draws, out)),
         Deed::Bring(_, from, _) => receive(endpoint, from, moment, bytes, &draws, out),
     }
 }
 
-/// Makes a call, with the fingerprint of the end that it names, if it names one.
+/// Makes a call, given the fingerprint of the end that it names or the secret that it learns.
 fn make(
     endpoint: &mut Endpoint,
     call: &DeedCall<'_>,
-    print: &[u8; 32],
+    given: &[u8; 32],
     moment: u64,
     draws: &Draws,
     out: &mut Outbox,
 ) -> Answered
-    ensures { Called endpoint.old moment (made_by call.now print.now draws.now) result endpoint.new
+    ensures { Called endpoint.old moment (made_by call.now given.now draws.now) result endpoint.new
         out.old out.new }
 {
     match call {
         DeedCall::Open(_, list) => {
             let candidates = list.as_slice();
+            let print = given;
             endpoint.call(&EndCall::Open { print, candidates }, moment, draws, out)
         }
         DeedCall::AddRow(_, list) => {
             let addresses = list.as_slice();
+            let print = given;
             endpoint.call(&EndCall::AddRow { print, addresses }, moment, draws, out)
+        }
+        DeedCall::Learn => {
+            let secret = given;
+            endpoint.call(&EndCall::Learn { secret }, moment, draws, out)
         }
         DeedCall::Plain(call) => endpoint.call(call, moment, draws, out),
     }
@@ -114,6 +120,7 @@ fn kept_of(answered: &Answered) -> LineAnswer
         Answered::Searching(_) => LineAnswer::Done,
         Answered::FlowOpened(_) => LineAnswer::Done,
         Answered::Queued(_) => LineAnswer::Done,
+        Answered::Succeeds(_) => LineAnswer::Done,
         Answered::Done => LineAnswer::Done,
     }
 }

@@ -7,7 +7,7 @@ ghost use Rattle.sha2.specs.Sha256.{sha256};
 ghost use Rattle.rtmfp_forms.specs.Address.{AddressParts};
 ghost use Rattle.endpoint_model.specs.Event.{Setup};
 ghost use Rattle.endpoint_model.specs.State.{State};
-ghost use Rattle.rendezvous_world.specs.Seen.{EndSeen, group_secret};
+ghost use Rattle.rendezvous_world.specs.Seen.{EndSeen};
 ghost use Rattle.rendezvous_world.specs.Draws.{draws_of};
 ghost use Rattle.rendezvous_world.specs.Datagrams.{nth, bent, forged_number};
 ghost use Rattle.rendezvous_world.specs.Faults.{is_bad, step_fault};
@@ -28,13 +28,11 @@ pub fn random_values()
     ensures word { (draws_of 258).word ≡ 258 }
 {}
 
-/// A new end is given the group's secret of 32 zero bytes, which is that of generation 0, and its
-/// fingerprint as the secret of its cookies.
+/// A new end is given the counted secret of generation 0, which is 32 bytes 0, and its fingerprint
+/// as the secret of its cookies.
 pub fn secrets()
-    ensures group { group_secret ≡ 0 ∷ 0 ∷ 0 ∷ 0 ∷ 0 ∷ 0 ∷ 0 ∷ 0 ∷ 0 ∷ 0 ∷ 0 ∷ 0 ∷ 0 ∷ 0 ∷ 0 ∷ 0 ∷ 0
-        ∷ 0 ∷ 0 ∷ 0 ∷ 0 ∷ 0 ∷ 0 ∷ 0 ∷ 0 ∷ 0 ∷ 0 ∷ 0 ∷ 0 ∷ 0 ∷ 0 ∷ 0 ∷ [] }
     ensures generation { (new_setup 3 4 (7 ∷ [])).generation ≡ 0 }
-    ensures of_the_group { (new_setup 3 4 (7 ∷ [])).secret ≡ group_secret }
+    ensures of_the_group { (new_setup 3 4 (7 ∷ [])).secret ≡ replicate 32 0 }
     ensures of_cookies { (new_setup 3 4 (7 ∷ [])).cookie_secret ≡ sha256 (7 ∷ []) }
     ensures most_peers { (new_setup 3 4 (7 ∷ [])).config.max_peers ≡ 3 }
     ensures most_sessions { (new_setup 3 4 (7 ∷ [])).config.max_sessions ≡ 4 }

@@ -3,7 +3,7 @@
 ghost use Rattle.std.specs.Prelude.{◌≡◌, ◌<◌, ◌^◌, ◌++◌, ◌∷◌, [], IfOk, OnOk, get_or, length, vec_capacity, vec_len};
 ghost use Rattle.rendezvous_world.specs.Deed.{deed_of};
 ghost use Rattle.rendezvous_world.specs.Entering.{IsEntered, IsEntering, answered};
-ghost use Rattle.rendezvous_world.specs.History.{peer_of};
+ghost use Rattle.rendezvous_world.specs.History.{given_by, peer_of};
 ghost use Rattle.rendezvous_world.specs.Line.{IsKeptAs, refused_kept, step_kept, stopped_kept};
 ghost use Rattle.rendezvous_world.specs.Stepping.{called_by};
 
@@ -13,6 +13,7 @@ use crate::kept::{KeptStep, in_32_bits};
 use crate::sent::count_among;
 use crate::step::{Step, StepFault};
 use crate::world::World;
+use counted_secrets::secret_after;
 use endpoint::Outbox;
 use rtmfp_base::{Memory, Message};
 use rtmfp_text::Named;
@@ -77,6 +78,18 @@ fn named_at(named: &[Named], at: usize) -> &Named
     &named[at]
 }
 
+/// The 32 bytes that the call of a step is given, if it is given some: the fingerprint of the end
+/// that it names; or, at an end in a generation, the secret of the next one.
+fn given_to(print: [u8; 32], generation: u64, step: &Step) -> [u8; 32]
+    ensures { result ≡ given_by print generation (deed_of step.now) }
+{
+    if step.learns() {
+        secret_after(generation)
+    } else {
+        print
+    }
+}
+
 /// The same entries, without room for others.
 fn without_spare(mut out: Outbox) -> Outbox
     ensures { result.entries ≡ out.entries }
@@ -99,6 +112,7 @@ fn line_of(
     line: u64,
     end: u32,
     moment: u64,
+    generation: u64,
     step: KeptStep,
     datagram: Option<Message>,
     answer: LineAnswer,
@@ -109,6 +123,7 @@ fn line_of(
       line = line;
       end = end;
       moment = moment;
+      generation = generation;
       step = step_kept end datagram step;
       datagram = datagram;
       refused = refused_kept answer;
@@ -120,6 +135,7 @@ fn line_of(
         line: line as u32,
         end,
         moment,
+        generation,
         step,
         datagram,
         answer,
@@ -164,9 +180,11 @@ impl World {
         let mut out = ready.out;
         let print = named_at(self.named.as_slice(), peer).print;
         let there = &mut self.ends[end];
+        let generation = there.endpoint.generation();
+        let given = given_to(print, generation, step);
         let outcome = call_end(
             &mut there.endpoint,
-            &print,
+            &given,
             line,
             moment,
             step,
@@ -186,6 +204,7 @@ impl World {
             line,
             ready.end,
             moment,
+            generation,
             ready.step,
             datagram,
             outcome.answer,

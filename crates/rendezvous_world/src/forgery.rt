@@ -4,7 +4,7 @@ ghost use Rattle.std.specs.Prelude.{◌≡◌, ◌+◌, length};
 ghost use Rattle.std.specs.List.{list_any};
 ghost use Rattle.crypto_profile.specs.Keys.{keys_of};
 ghost use Rattle.rendezvous_world.specs.Datagrams.{forged, nth};
-ghost use Rattle.rendezvous_world.specs.Seen.{first_generation, group_secret};
+ghost use Rattle.counted_secrets.specs.Secrets.{counted_secret};
 ghost use Rattle.rendezvous_world.specs.Faults.{is_sent};
 ghost use Rattle.rendezvous_world.specs.Inside.{starts_after};
 ghost use Rattle.rendezvous_world.specs.Keyed.{AreKeys, is_one_sent, key_of};
@@ -14,15 +14,10 @@ use crate::journal::JournalLine;
 use crate::keyed::Keyed;
 use crate::sent::find;
 use crate::world::World;
+use counted_secrets::counted_secret;
 use crypto_profile::{CIPHERED_AT, Context, Keys, seal_into};
 use endpoint::Entry;
 use packet_scramble::{SEALED_AT, scramble};
-
-/// The number of the generation with which every end begins.
-pub(crate) const FIRST_GENERATION: u64 = 0;
-
-/// The secret of the group of every end, in that generation.
-pub(crate) const GROUP_SECRET: [u8; 32] = [0; 32];
 
 /// The bytes of a datagram before its plain packet.
 pub(crate) const PLAIN_AT: usize = SEALED_AT + CIPHERED_AT;
@@ -169,24 +164,22 @@ impl World {
     }
 }
 
-/// The keys of the packets that nobody sent.
-fn forgers_keys() -> Keys
-    ensures { result ≡ keys_of group_secret (Context.Startup first_generation) }
+/// The keys of the packets that nobody sent, in a generation.
+fn forgers_keys(generation: u64) -> Keys
+    ensures { result ≡ keys_of (counted_secret generation) (Context.Startup generation) }
 {
-    let context = Context::Startup {
-        generation: FIRST_GENERATION,
-    };
-    Keys::of(&GROUP_SECRET, &context)
+    let context = Context::Startup { generation };
+    Keys::of(&counted_secret(generation), &context)
 }
 
 /// Fills a buffer, which is as long as the datagram, with one of this plain packet that nobody
-/// sent.
-pub(crate) fn forge(buffer: &mut [u8], plain: &[u8])
+/// sent, sealed in a generation.
+pub(crate) fn forge(buffer: &mut [u8], generation: u64, plain: &[u8])
     requires { length buffer.old ≡ 36 + length plain.now }
-    ensures { buffer.new ≡ forged plain.now }
+    ensures { buffer.new ≡ forged generation plain.now }
 {
     let (head, part) = buffer.split_at_mut(SEALED_AT);
-    seal_into(&forgers_keys(), 0, [0xff; 16], plain, part);
+    seal_into(&forgers_keys(generation), 0, [0xff; 16], plain, part);
     let scrambled = scramble(0, part);
     head.copy_from_slice(&scrambled.to_be_bytes());
 }

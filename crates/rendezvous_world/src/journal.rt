@@ -41,9 +41,10 @@ impl LineAnswer {
 }
 
 /// A step that called an end: the number of its line in the script, the end, the moment of the
-/// world, the datagram that reached the end, as it was before the call, why the end refused the
-/// call, how far a datagram was gone through that found no memory, and what the call added. Of a
-/// tick that found no memory `stopped` has `false` and 0.
+/// world, the current generation of the group's secret at the end before the call, the datagram
+/// that reached the end, as it was before the call, why the end refused the call, how far a
+/// datagram was gone through that found no memory, and what the call added. Of a tick that found no
+/// memory `stopped` has `false` and 0.
 ///
 /// Contracts see these, whatever their form here.
 #[derive(Drop)]
@@ -51,6 +52,7 @@ pub struct JournalLine {
     pub(crate) line: u32,
     pub(crate) end: u32,
     pub(crate) moment: u64,
+    pub(crate) generation: u64,
     pub(crate) step: KeptStep,
     pub(crate) datagram: Option<Message>,
     pub(crate) answer: LineAnswer,
@@ -66,6 +68,7 @@ impl Model for JournalLine {
       line = l.line;
       end = l.end;
       moment = l.moment;
+      generation = l.generation;
       step = step_kept l.end l.datagram l.step;
       datagram = l.datagram;
       refused = refused_kept l.answer;
@@ -91,6 +94,13 @@ impl JournalLine {
         ensures { result ≡ self.now.moment }
     {
         self.moment
+    }
+
+    /// The current generation of the group's secret at the end, before the call.
+    pub fn generation(&self) -> u64
+        ensures { result ≡ self.now.generation }
+    {
+        self.generation
     }
 
     /// A copy of the step.

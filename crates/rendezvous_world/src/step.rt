@@ -1,7 +1,7 @@
 //! The steps of a script, what each does, and why one is refused.
 
 ghost use Rattle.std.specs.Prelude.{◌≡◌, IfOk};
-ghost use Rattle.rendezvous_world.specs.Deed.{Seeks};
+ghost use Rattle.rendezvous_world.specs.Deed.{Seeks, deed_of, learns};
 ghost use Rattle.rendezvous_world.specs.Entering.{IsDeed, IsMadeBy, peer_by};
 
 use endpoint::{EndCall, MessageOptions};
@@ -136,6 +136,14 @@ pub enum Step {
         peer: usize,
         list: Addresses,
     },
+    /// An end learns the secret of the generation after its current one.
+    Learn {
+        end: usize,
+    },
+    /// An end goes over to the next generation of the group's secret.
+    Advance {
+        end: usize,
+    },
     /// The datagram that was sent as this one, counted from 1, reaches an end from an address.
     Deliver {
         number: u64,
@@ -155,8 +163,8 @@ pub enum Step {
         from: Address,
         bytes: Message,
     },
-    /// This plain packet of at most 1,164 bytes reaches an end, sealed for startup under session ID
-    /// 0 by somebody who numbers it with 16 bytes 0xff.
+    /// This plain packet of at most 1,164 bytes reaches an end, sealed for startup in the end's
+    /// current generation under session ID 0 by somebody who numbers it with 16 bytes 0xff.
     Forge {
         end: usize,
         from: Address,
@@ -186,6 +194,7 @@ pub(crate) enum Source<'a> {
 pub(crate) enum DeedCall<'a> {
     Open(usize, &'a Addresses),
     AddRow(usize, &'a Addresses),
+    Learn,
     /// A call that names no other end.
     Plain(EndCall<'a>),
 }
@@ -198,6 +207,7 @@ impl DeedCall<'_> {
         match self {
             DeedCall::Open(peer, _) => Some(*peer),
             DeedCall::AddRow(peer, _) => Some(*peer),
+            DeedCall::Learn => None,
             DeedCall::Plain(_) => None,
         }
     }
@@ -314,6 +324,8 @@ impl Step {
                 peer: *peer,
                 list: list.copy(alloc)?,
             },
+            Step::Learn { end } => Step::Learn { end: *end },
+            Step::Advance { end } => Step::Advance { end: *end },
             Step::Deliver { number, end, from } => Step::Deliver {
                 number: *number,
                 end: *end,
@@ -342,6 +354,13 @@ impl Step {
             },
             Step::Tick { end } => Step::Tick { end: *end },
         })
+    }
+
+    /// Whether an end learns a secret.
+    pub(crate) fn learns(&self) -> bool
+        ensures { result ≡ learns (deed_of self.now) }
+    {
+        matches!(self, Step::Learn { .. })
     }
 
     /// What the step does. Steps are told apart here; what else is done with them goes by their
@@ -425,6 +444,8 @@ impl Step {
             ),
             Step::Introduce { end } => Deed::Call(*end, DeedCall::Plain(EndCall::Introduce)),
             Step::Redirect { end, peer, list } => Deed::Call(*end, DeedCall::AddRow(*peer, list)),
+            Step::Learn { end } => Deed::Call(*end, DeedCall::Learn),
+            Step::Advance { end } => Deed::Call(*end, DeedCall::Plain(EndCall::Advance)),
             Step::Deliver { number, end, from } => {
                 Deed::Bring(*end, from, Source::Delivered(*number))
             }

@@ -14,14 +14,17 @@ ghost use Rattle.rtmfp_text.specs.Names.{is_like as is_like_named};
 
 use crate::end::End;
 use crate::entering::put;
-use crate::forgery::{FIRST_GENERATION, GROUP_SECRET};
 use crate::step::{Step, StepFault};
 use crate::world::World;
+use counted_secrets::counted_secret;
 use endpoint::{Config, Endpoint};
 use identity::Certificate;
 use rtmfp_base::limits::{PEERS, SESSIONS};
 use rtmfp_text::{Name, Named};
 use std::alloc::Global;
+
+/// The number of the generation with which every end begins (own).
+const FIRST_GENERATION: u64 = 0;
 
 /// The most ends of a world (own).
 const MOST_ENDS: usize = 1024;
@@ -115,7 +118,7 @@ impl World {
                     config,
                     *cert,
                     FIRST_GENERATION,
-                    GROUP_SECRET,
+                    counted_secret(FIRST_GENERATION),
                     print,
                 ),
             },

@@ -28,7 +28,7 @@ use Rattle.rendezvous_world.specs.declared.journal.JournalLine.{JournalLine}
 use Rattle.rendezvous_world.specs.declared.journal.Refused.{Refused}
 use Rattle.rendezvous_world.specs.declared.journal.Refused.TheVariants.{Open as OpenRefused, Seek as SeekRefused, Call as CallRefused, Row as RowRefused}
 use Rattle.endpoint_laws.specs.Agreed.{IsAgreed}
-use Rattle.rendezvous_world.specs.Seen.{group_secrets, Seen, group_secret, setup_at}
+use Rattle.rendezvous_world.specs.Seen.{group_secrets, Seen, setup_at}
 use Rattle.rendezvous_world.specs.Handing.{MessagesGoOver}
 use Rattle.rendezvous_world.specs.Laws.{empty_world}
 use Rattle.rendezvous_world.specs.History.{history_of}
@@ -88,6 +88,8 @@ call_step end (call.Queue near flow deadline resends content) = step.Queue end n
     (record { deadline = deadline; resends = resends }) (content_bytes content)
 call_step end (call.Abandon near flow seq) = step.Abandon end near flow seq
 call_step end (call.Finish near flow) = step.Finish end near flow
+call_step end call.Learn = step.Learn end
+call_step end call.Advance = step.Advance end
 call_step end call.Tick = step.Tick end
 
 -- what an end is called to do towards a peer
@@ -135,7 +137,7 @@ name_at ends who = name_or_none (slice_get ends who)
 
 -- a refused call, or what the call did, where so many datagrams were sent before
 abbrev pub told_of : List Named → ℕ → JournalLine → Option Refused → List ℕ
-told_of ends sent line None = entries_text group_secret ends line.line (name_at ends line.end) sent
+told_of ends sent line None = entries_text group_secrets ends line.line (name_at ends line.end) sent
     line.out.entries
 told_of ends sent line (Some (OpenRefused refusal)) =
     refused_line line.line (name_at ends line.end) (open_refusal_text refusal)

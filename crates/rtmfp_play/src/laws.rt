@@ -47,9 +47,9 @@ pub fn generated_values()
 {}
 
 /// Of 16 operations the first two open an attempt, one each does what is due, lets 500 ms pass and
-/// cancels, and the others deliver a datagram to the end that it was sent to, from the end that sent
-/// it; where none was sent, and where it is from a ninth end, what is due is done. A number's bits from 33 on are operation (4),
-/// end (3), other end (3) and how far back (4).
+/// cancels, and the others deliver a datagram to the end that it was sent to, from the end that
+/// sent it; where none was sent, and where it is from a ninth end, what is due is done. A number's
+/// bits from 33 on are operation (4), end (3), other end (3) and how far back (4).
 pub fn generated_steps()
     ensures first { (w : Seen) → picked w 0 3 5 9 ≡ Open 3 5 (end_address 5 ∷ []) }
     ensures open { (w : Seen) → picked w 1 3 5 9 ≡ Open 3 5 (end_address 5 ∷ []) }

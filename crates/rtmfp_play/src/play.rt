@@ -1,6 +1,6 @@
 //! What `replay` does with a line of a script.
 ghost use Rattle.std.specs.Prelude.{◌≡◌, ◌++◌, ◌+◌, ◌<◌, ◌≤◌, ◌^◌, [], IfOk, OnOk, length, slice_get};
-ghost use Rattle.rendezvous_world.specs.Seen.{group_secret};
+ghost use Rattle.rendezvous_world.specs.Seen.{group_secrets};
 ghost use Rattle.rtmfp_report.specs.EntryText.{entries_text};
 ghost use Rattle.rtmfp_script.specs.Grammar.{content_bytes};
 ghost use Rattle.rendezvous_world.specs.Sent.{sent_in};
@@ -36,7 +36,7 @@ pub(crate) fn play_in(
     line: &[u8],
     text: &mut Text,
 ) -> Result<Said, AllocError>
-    requires keys { keys.old ≡ group_secret }
+    requires keys { keys.old ≡ group_secrets }
     requires short { length line.now ≤ LINE }
     requires above { AreBelow world.old.world.lines number }
     requires fits { number < 2 ^ 32 }
@@ -67,7 +67,7 @@ fn take_step(
     step: &PlacedStep,
     text: &mut Text,
 ) -> Result<Said, AllocError>
-    requires keys { keys.old ≡ group_secret }
+    requires keys { keys.old ≡ group_secrets }
     requires above { AreBelow world.old.world.lines number }
     requires fits { number < 2 ^ 32 }
     ensures stepped { IfOk result (λ said. SteppedAs said world.old number step.now world.new
@@ -224,6 +224,8 @@ fn call_step(alloc: Global, end: usize, call: CallLine) -> Result<Step, AllocErr
             seq,
         }),
         CallLine::Finish { near, flow } => Ok(Step::Finish { end, near, flow }),
+        CallLine::Learn => Ok(Step::Learn { end }),
+        CallLine::Advance => Ok(Step::Advance { end }),
         CallLine::Tick => Ok(Step::Tick { end }),
     }
 }
@@ -363,7 +365,7 @@ fn tell(
     scratch: &mut Vec<u8>,
     text: &mut Text,
 ) -> Result<(), AllocError>
-    requires { keys.old ≡ group_secret }
+    requires { keys.old ≡ group_secrets }
     ensures text { OnOk result (text.new ≡ text.old
         ++ told_next (names_of world.now) sent (slice_get world.now.lines at)) }
     ensures keys { keys.new ≡ keys.old }
@@ -402,7 +404,7 @@ fn push_line(
     scratch: &mut Vec<u8>,
     text: &mut Text,
 ) -> Result<(), AllocError>
-    requires { keys.old ≡ group_secret }
+    requires { keys.old ≡ group_secrets }
     ensures text { OnOk result (text.new ≡ text.old
         ++ told_next ends.now sent (slice_get lines.now at)) }
     ensures keys { keys.new ≡ keys.old }
@@ -422,7 +424,7 @@ fn push_told(
     scratch: &mut Vec<u8>,
     text: &mut Text,
 ) -> Result<(), AllocError>
-    requires { keys.old ≡ group_secret }
+    requires { keys.old ≡ group_secrets }
     ensures text { OnOk result (text.new ≡ text.old
         ++ told_of ends.now sent line.now line.now.refused) }
     ensures keys { keys.new ≡ keys.old }
@@ -447,9 +449,9 @@ fn push_done(
     scratch: &mut Vec<u8>,
     text: &mut Text,
 ) -> Result<(), AllocError>
-    requires { keys.old ≡ group_secret }
+    requires { keys.old ≡ group_secrets }
     ensures text { OnOk result (text.new ≡ text.old
-        ++ entries_text group_secret ends.now line.now.line name.now sent line.now.out.entries) }
+        ++ entries_text group_secrets ends.now line.now.line name.now sent line.now.out.entries) }
     ensures keys { keys.new ≡ keys.old }
 {
     push_entries(

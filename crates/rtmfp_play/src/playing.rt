@@ -8,13 +8,10 @@ use crate::play::play_in;
 use crate::said::Said;
 use placed_world::PlacedWorld;
 use rtmfp_base::limits::LINE;
-use rtmfp_report::GroupKeys;
+use rtmfp_report::{GroupKeys, GroupSecrets};
 use rtmfp_text::Text;
 use std::alloc::{AllocError, Global};
 use std::marker::Model;
-
-/// The secret of the group of every end of a script.
-const SECRET: [u8; 32] = [0; 32];
 
 /// A world with the places of its ends, whose steps are the lines of a script, and what their
 /// reports are made with.
@@ -33,7 +30,7 @@ impl Model for Playing {
     ghost use Rattle.std.specs.Prelude.{◌≡◌};
     ghost use Rattle.placed_world.specs.contracts.world.PlacedWorld as world_type;
     ghost use Rattle.placed_world.specs.Seen.{PlacedSeen};
-    ghost use Rattle.rendezvous_world.specs.Seen.{group_secret};
+    ghost use Rattle.rendezvous_world.specs.Seen.{group_secrets};
 
     ghost Value = { PlacedSeen };
 
@@ -41,7 +38,7 @@ impl Model for Playing {
 
     ghost view = { λ p. p.world };
 
-    ghost invariant = { λ p. p.keys ≡ group_secret };
+    ghost invariant = { λ p. p.keys ≡ group_secrets };
 }
 
 impl Playing {
@@ -55,7 +52,7 @@ impl Playing {
         let world = PlacedWorld::new(alloc);
         Playing {
             world,
-            keys: GroupKeys::of(alloc, &SECRET),
+            keys: GroupKeys::of(alloc, GroupSecrets::Counted),
             scratch: Vec::new(alloc),
         }
     }

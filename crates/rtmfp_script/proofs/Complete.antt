@@ -9,13 +9,13 @@ use Rattle.identity.specs.ServiceNames.{IsServiceName}
 use Rattle.translators.specs.declared.rule.Rule.{Rule}
 use Rattle.rtmfp_script.specs.declared.line.ScriptLine.{ScriptLine}
 use Rattle.rtmfp_script.specs.declared.line.ScriptLine.TheVariants.{End, At, Call, Towards, Bring, Translator, Place, Carry}
-use Rattle.rtmfp_script.specs.declared.line.CallLine.TheVariants.{Introduce, Seek, Cancel, Unseek, Close, Flow, Queue, Abandon, Finish, Tick}
+use Rattle.rtmfp_script.specs.declared.line.CallLine.TheVariants.{Introduce, Seek, Cancel, Unseek, Close, Flow, Queue, Abandon, Finish, Learn, Advance, Tick}
 use Rattle.rtmfp_script.specs.declared.line.AimLine.TheVariants.{Redirect, Open}
 use Rattle.rtmfp_script.specs.declared.line.BringLine.TheVariants.{Deliver, Bent, Inject, Forge}
 use Rattle.rtmfp_script.specs.declared.content.Content.{Content}
 use Rattle.rtmfp_script.specs.Grammar.{IsName, IsCert, IsPlainAddress, IsBytesUpTo, EachIsPlainAddress, AreBytes, IsBelow, IsContent, IsHost, IsNameOrNone, IsWithin, IsLineOf, content_text, name_for, rule_text, word_for, line_text, words_text, line_limit}
 use Rattle.rtmfp_script.specs.Fields.{split_of, number_of, number_below, ◌>>=◌}
-use Rattle.rtmfp_script.specs.Lines.{end_of, introduce_of, redirect_of, at_of, open_of, open_to, seek_for, seek_of, cancel_of, unseek_of, close_of, session_at, flow_in, flow_of, queue_in, queue_of, abandon_of, finish_of, tick_of, deliver_of, bent_of, bytes_at, inject_of, forge_of, translator_of, place_at, place_of, carry_of, word_of, step_of}
+use Rattle.rtmfp_script.specs.Lines.{end_of, introduce_of, redirect_of, at_of, open_of, open_to, seek_for, seek_of, cancel_of, unseek_of, close_of, session_at, flow_in, flow_of, queue_in, queue_of, abandon_of, finish_of, learn_of, advance_of, tick_of, deliver_of, bent_of, bytes_at, inject_of, forge_of, translator_of, place_of, carry_of, word_of, step_of}
 use Rattle.rtmfp_script.proofs.Splits.{split_text, split_nothing}
 use Rattle.rtmfp_script.proofs.Numbers.{number_of-decimal, number_below-decimal}
 use Rattle.rtmfp_script.proofs.Digits.{bytes_of-text, hexadecimal_of-text}
@@ -143,6 +143,14 @@ finish_read name near flow n i f =
       number_below-decimal (2 ^ 32) near (omega arith) i,
       number_of-decimal flow f,
     ) refl
+
+learn_read : (name : List ℕ) → IsName name → learn_of name ≡ Some (Call name Learn)
+unfolding learn_of
+learn_read name n = rw (name_of-name name n) refl
+
+advance_read : (name : List ℕ) → IsName name → advance_of name ≡ Some (Call name Advance)
+unfolding advance_of
+advance_read name n = rw (name_of-name name n) refl
 
 tick_read : (name : List ℕ) → IsName name → tick_of name ≡ Some (Call name Tick)
 unfolding tick_of
@@ -282,6 +290,8 @@ said_read (Call name (Flow near priority metadata answers)) w = flow_read name n
 said_read (Call name (Queue near flow deadline resends content)) w = queue_read name near flow deadline resends content w.0 w.1 w.2 w.3 w.4 w.5
 said_read (Call name (Abandon near flow seq)) w = abandon_read name near flow seq w.0 w.1 w.2 w.3
 said_read (Call name (Finish near flow)) w = finish_read name near flow w.0 w.1 w.2
+said_read (Call name Learn) n = learn_read name n
+said_read (Call name Advance) n = advance_read name n
 said_read (Call name Tick) n = tick_read name n
 said_read (Bring name from (Deliver number)) w = deliver_read number name from w.0 w.1 w.2
 said_read (Bring name from (Bent number place)) w = bent_read number place name from w.0 w.1 w.2 w.3

@@ -1,6 +1,6 @@
 -- The names of services in digits.
-use Rattle.std.proofs.Common.{◌≡◌, ◌≢◌, ℕ, ◌%◌, ◌<◌, ◌≤◌, ◌*◌, ◌==◌, ◌&&◌, Bool, true, false, List, [], ◌∷◌, length, Option, Some, None, refl, sym, ap, ◌∙◌, subst, arith, inl, inr}
-use Rattle.std.specs.Prelude.{nat_lt, if◌then◌else◌}
+use Rattle.std.proofs.Common.{◌≡◌, ℕ, ◌<◌, ◌≤◌, ◌*◌, ◌&&◌, Bool, true, false, List, [], ◌∷◌, length, Option, Some, None, refl, sym, ap, ◌∙◌, subst, arith, inl, inr}
+use Rattle.std.specs.Prelude.{nat_lt}
 use Rattle.std.specs.List.{list_all}
 use Rattle.std.proofs.lemmas.Bool.{and_parts, and_from, cases_Bool, lt-ltb}
 use Rattle.std.proofs.lemmas.Bool.Decides.{nat_tests}
@@ -8,7 +8,7 @@ use Rattle.hex.specs.Hex.{encode_lower}
 use Rattle.identity.specs.ServiceNames.{IsServiceName, service_name_of}
 use Rattle.rtmfp_text.specs.Words.{bytes_text}
 use Rattle.rtmfp_script.specs.Grammar.{AreBytes}
-use Rattle.rtmfp_script.specs.Fields.{digits_of, is_lower_digit, service_of, ◌>>=◌}
+use Rattle.rtmfp_script.specs.Fields.{digits_of, service_of, ◌>>=◌}
 use Rattle.rtmfp_script.proofs.Splits.{some_some, bind_some, Lacks}
 use Rattle.rtmfp_script.proofs.Digits.{digits_of-some, digits_of-encoded, length-encoded}
 use Rattle.rtmfp_script.proofs.Contents.{no_space_bytes}

@@ -15,7 +15,7 @@ use Rattle.rtmfp_script.specs.declared.line.AimLine.TheVariants.{Redirect, Open}
 use Rattle.rtmfp_script.specs.declared.content.Content.{Content}
 use Rattle.rtmfp_script.specs.Grammar.{IsName, IsPlainAddress, IsBytesUpTo, EachIsPlainAddress, AreBytes, IsBelow, IsContent, IsWithin, IsLineOf, content_text, word_for, line_text, words_text, line_limit}
 use Rattle.rtmfp_script.specs.Fields.{split_of, name_of, cert_of, number_of, number_below, bytes_of, hexadecimal_of, service_of, limit_by, content_of, rule_of, v4_of, address_of, addresses_of, either, ◌>>=◌}
-use Rattle.rtmfp_script.specs.Lines.{end_of, introduce_of, row_said, redirect_of, at_of, open_of, open_to, seek_for, seek_of, cancel_of, unseek_of, close_of, answers_of, session_at, flow_in, flow_of, queue_in, queue_of, abandon_of, finish_of, tick_of, deliver_of, bent_of, bytes_at, inject_of, forge_of, translator_of, place_at, place_of, carry_of, word_of, step_of}
+use Rattle.rtmfp_script.specs.Lines.{end_of, introduce_of, row_said, redirect_of, at_of, open_of, open_to, seek_for, seek_of, cancel_of, unseek_of, close_of, answers_of, session_at, flow_in, flow_of, queue_in, queue_of, abandon_of, finish_of, learn_of, advance_of, tick_of, deliver_of, bent_of, bytes_at, inject_of, forge_of, translator_of, place_of, carry_of, word_of, step_of}
 use Rattle.rtmfp_script.proofs.Splits.{some_some, bind_some, split_joined}
 use Rattle.rtmfp_script.proofs.Numbers.{number_of-some, number_below-some}
 use Rattle.rtmfp_script.proofs.Digits.{bytes_of-some, hexadecimal_of-some}
@@ -96,6 +96,20 @@ close_sound rest said h =
       text = after (codes "close") rest _ (rejoin 32 rest a.0.0 a.0.1 _ _ (split_joined 32 rest a.0 a.1) n.0 m.0);
       within = (n.1, m.1);
     })
+
+learn_sound : (rest : List ℕ) (said : ScriptLine) → learn_of rest ≡ Some said → IsSaid (codes "learn") rest said
+unfolding learn_of
+learn_sound rest said h =
+    let name = bind_some (name_of rest) _ said h in
+    let n = name_of-some rest name.0 name.1 in
+    subst (IsSaid (codes "learn") rest) (some_some _ _ name.2) (record { text = after (codes "learn") rest _ n.0; within = n.1 })
+
+advance_sound : (rest : List ℕ) (said : ScriptLine) → advance_of rest ≡ Some said → IsSaid (codes "advance") rest said
+unfolding advance_of
+advance_sound rest said h =
+    let name = bind_some (name_of rest) _ said h in
+    let n = name_of-some rest name.0 name.1 in
+    subst (IsSaid (codes "advance") rest) (some_some _ _ name.2) (record { text = after (codes "advance") rest _ n.0; within = n.1 })
 
 tick_sound : (rest : List ℕ) (said : ScriptLine) → tick_of rest ≡ Some said → IsSaid (codes "tick") rest said
 unfolding tick_of
@@ -570,6 +584,8 @@ word_sound word rest said =
     (by word rest said (codes "queue") (queue_of rest) _ (queue_sound rest said)
     (by word rest said (codes "abandon") (abandon_of rest) _ (abandon_sound rest said)
     (by word rest said (codes "finish") (finish_of rest) _ (finish_sound rest said)
+    (by word rest said (codes "learn") (learn_of rest) _ (learn_sound rest said)
+    (by word rest said (codes "advance") (advance_of rest) _ (advance_sound rest said)
     (by word rest said (codes "tick") (tick_of rest) _ (tick_sound rest said)
     (by word rest said (codes "deliver") (deliver_of rest) _ (deliver_sound rest said)
     (by word rest said (codes "bent") (bent_of rest) _ (bent_sound rest said)
@@ -577,7 +593,7 @@ word_sound word rest said =
     (by word rest said (codes "forge") (forge_of rest) _ (forge_sound rest said)
     (by word rest said (codes "translator") (translator_of rest) _ (translator_sound rest said)
     (by word rest said (codes "place") (place_of rest) _ (place_sound rest said)
-    (by word rest said (codes "carry") (carry_of rest) None (carry_sound rest said) (λ h. absurd (cc h))))))))))))))))))))))
+    (by word rest said (codes "carry") (carry_of rest) None (carry_sound rest said) (λ h. absurd (cc h))))))))))))))))))))))))
 
 pub step_sound : (line : List ℕ) (said : ScriptLine) → step_of line ≡ Some said → IsLineOf line said
 unfolding step_of

@@ -9,7 +9,7 @@ use Rattle.translators.specs.declared.rule.Rule.{Rule}
 use Rattle.translators.specs.declared.rule.Rule.TheVariants.{Independent, Dependent}
 use Rattle.rtmfp_script.specs.declared.line.ScriptLine.{ScriptLine}
 use Rattle.rtmfp_script.specs.declared.line.ScriptLine.TheVariants.{End, At, Call, Towards, Bring, Translator, Place, Carry}
-use Rattle.rtmfp_script.specs.declared.line.CallLine.TheVariants.{Introduce, Seek, Cancel, Unseek, Close, Flow, Queue, Abandon, Finish, Tick}
+use Rattle.rtmfp_script.specs.declared.line.CallLine.TheVariants.{Introduce, Seek, Cancel, Unseek, Close, Flow, Queue, Abandon, Finish, Learn, Advance, Tick}
 use Rattle.rtmfp_script.specs.declared.line.AimLine.TheVariants.{Redirect, Open}
 use Rattle.rtmfp_script.specs.declared.line.BringLine.TheVariants.{Deliver, Bent, Inject, Forge}
 use Rattle.rtmfp_script.specs.declared.content.Content.{Content}
@@ -77,6 +77,8 @@ line_text (Call name (Abandon near flow seq)) = words_text
     (codes "abandon" ∷ name ∷ decimal near ∷ decimal flow ∷ decimal seq ∷ [])
 line_text (Call name (Finish near flow)) = words_text
     (codes "finish" ∷ name ∷ decimal near ∷ decimal flow ∷ [])
+line_text (Call name Learn) = words_text (codes "learn" ∷ name ∷ [])
+line_text (Call name Advance) = words_text (codes "advance" ∷ name ∷ [])
 line_text (Call name Tick) = words_text (codes "tick" ∷ name ∷ [])
 line_text (Bring name from (Deliver number)) = words_text
     (codes "deliver" ∷ decimal number ∷ name ∷ address_text from ∷ [])
@@ -168,6 +170,8 @@ IsWithin (Call name (Queue near flow deadline resends content)) = IsName name ×
 IsWithin (Call name (Abandon near flow seq)) = IsName name × (near < 2 ^ 32) × (flow < 2 ^ 64) ×
     (seq < 2 ^ 64)
 IsWithin (Call name (Finish near flow)) = IsName name × (near < 2 ^ 32) × (flow < 2 ^ 64)
+IsWithin (Call name Learn) = IsName name
+IsWithin (Call name Advance) = IsName name
 IsWithin (Call name Tick) = IsName name
 IsWithin (Bring name from (Deliver number)) = (number < 2 ^ 64) × IsName name × IsPlainAddress from
 IsWithin (Bring name from (Bent number place)) = (number < 2 ^ 64) × (place < 2 ^ 64) × IsName name ×

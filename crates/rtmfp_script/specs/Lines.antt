@@ -4,7 +4,7 @@ use Rattle.std.specs.Str.{bytes_eq}
 use Rattle.rtmfp_forms.specs.Address.{AddressParts}
 use Rattle.rtmfp_script.specs.declared.line.ScriptLine.{ScriptLine}
 use Rattle.rtmfp_script.specs.declared.line.ScriptLine.TheVariants.{End, At, Call, Towards, Bring, Translator, Place, Carry}
-use Rattle.rtmfp_script.specs.declared.line.CallLine.TheVariants.{Introduce, Seek, Cancel, Unseek, Close, Flow, Queue, Abandon, Finish, Tick}
+use Rattle.rtmfp_script.specs.declared.line.CallLine.TheVariants.{Introduce, Seek, Cancel, Unseek, Close, Flow, Queue, Abandon, Finish, Learn, Advance, Tick}
 use Rattle.rtmfp_script.specs.declared.line.AimLine.TheVariants.{Redirect, Open}
 use Rattle.rtmfp_script.specs.declared.line.BringLine.TheVariants.{Deliver, Bent, Inject, Forge}
 use Rattle.rtmfp_script.specs.declared.line.Said.{Said}
@@ -147,6 +147,12 @@ finish_of rest =
     number_of b.1 >>= λ flow.
     Some (Call name (Finish near flow))
 
+unfoldable pub learn_of : List ℕ → Option ScriptLine
+learn_of rest = name_of rest >>= λ name. Some (Call name Learn)
+
+unfoldable pub advance_of : List ℕ → Option ScriptLine
+advance_of rest = name_of rest >>= λ name. Some (Call name Advance)
+
 unfoldable pub tick_of : List ℕ → Option ScriptLine
 tick_of rest = name_of rest >>= λ name. Some (Call name Tick)
 
@@ -228,6 +234,8 @@ word_of word rest =
     else if bytes_eq word (codes "queue") then queue_of rest
     else if bytes_eq word (codes "abandon") then abandon_of rest
     else if bytes_eq word (codes "finish") then finish_of rest
+    else if bytes_eq word (codes "learn") then learn_of rest
+    else if bytes_eq word (codes "advance") then advance_of rest
     else if bytes_eq word (codes "tick") then tick_of rest
     else if bytes_eq word (codes "deliver") then deliver_of rest
     else if bytes_eq word (codes "bent") then bent_of rest

@@ -127,6 +127,10 @@ pub enum CallLine {
         /// The flow's ID.
         flow: u64,
     },
+    /// `learn NAME`: it learns the secret of the group's next generation.
+    Learn,
+    /// `advance NAME`: it goes over to the next generation.
+    Advance,
     /// `tick NAME`: it does what is due.
     Tick,
 }
@@ -160,7 +164,7 @@ pub enum BringLine {
         /// At most 2,048 bytes.
         bytes: Message,
     },
-    /// `forge NAME ADDR HEX`: this plain packet, sealed in the startup context.
+    /// `forge NAME ADDR HEX`: this plain packet, sealed in the end's current startup context.
     Forge {
         /// At most 1,164 bytes.
         bytes: Message,

@@ -1,7 +1,7 @@
 //! Lines that are read.
 ghost use Rattle.std.specs.Prelude.{◌≡◌, ◌↔◌, ◌<◌, ◌^◌, IsSome, IsTrue, IfErr, IfOk};
 ghost use Rattle.rtmfp_script.specs.Grammar.{IsLineOf, IsSkipped, TakesMemory};
-ghost use Rattle.rtmfp_script.specs.Lines.{end_of, introduce_of, redirect_of, row_said, at_of, open_of, open_to, cancel_of, close_of, tick_of, deliver_of, bent_of, bytes_at, inject_of, forge_of, word_of, step_of, StepTakesMemory, Says};
+ghost use Rattle.rtmfp_script.specs.Lines.{end_of, introduce_of, redirect_of, row_said, at_of, open_of, open_to, cancel_of, close_of, learn_of, advance_of, tick_of, deliver_of, bent_of, bytes_at, inject_of, forge_of, word_of, step_of, StepTakesMemory, Says};
 
 use crate::address::{address, addresses};
 use crate::bytes::bytes;
@@ -126,6 +126,26 @@ fn read_close(rest: &[u8]) -> Option<ScriptLine>
         call: CallLine::Close {
             near: number32(rest)?,
         },
+    })
+}
+
+#[tactic(auto, unfolding(crate::specs::Lines::learn_of))]
+fn read_learn(rest: &[u8]) -> Option<ScriptLine>
+    ensures { result ≡ learn_of rest.now }
+{
+    Some(ScriptLine::Call {
+        name: name(rest)?,
+        call: CallLine::Learn,
+    })
+}
+
+#[tactic(auto, unfolding(crate::specs::Lines::advance_of))]
+fn read_advance(rest: &[u8]) -> Option<ScriptLine>
+    ensures { result ≡ advance_of rest.now }
+{
+    Some(ScriptLine::Call {
+        name: name(rest)?,
+        call: CallLine::Advance,
     })
 }
 
@@ -274,6 +294,12 @@ fn read_word(alloc: Global, word: &[u8], rest: &[u8]) -> Result<Option<ScriptLin
     }
     if word == b"finish".as_slice() {
         return Ok(read_finish(rest));
+    }
+    if word == b"learn".as_slice() {
+        return Ok(read_learn(rest));
+    }
+    if word == b"advance".as_slice() {
+        return Ok(read_advance(rest));
     }
     if word == b"tick".as_slice() {
         return Ok(read_tick(rest));

@@ -12,7 +12,7 @@ use Rattle.rendezvous_world.specs.Faults.{is_bad, is_outside}
 use Rattle.rendezvous_world.specs.Stepping.{with_end, new_end, new_setup}
 use Rattle.rendezvous_world.specs.Inside.{named_of, world_seen}
 use Rattle.rendezvous_world.proofs.Refusing.{bad_done, memory_done, done_done, fault_left, bad_end_is}
-use Rattle.rendezvous_world.proofs.Pieces.{seen_end, kept_end}
+use Rattle.rendezvous_world.proofs.Pieces.{fresh_with, seen_end, kept_end}
 use Rattle.rendezvous_world.proofs.world.World.add_end.Goals as goal
 
 pub returns-then-is_bad_end : goal.returns-then-is_bad_end
@@ -52,7 +52,8 @@ invariant_of-self-2 c =
     let fine = sym (bad_end_is c.args.self.now c.args.name.now c.args.cert.now c.certified_print-print.result c.args.max_peers c.args.max_sessions c.is_bad_end.result c.certified_print-print.ensures.print c.is_bad_end.ensures) ∙ c.if-is_bad_end.false in
     rw (c.put.ensures, c.in-Ok.ensures.ok, c.reserve.ensures.items)
     (kept_end i.moment i.ends.items i.named i.journal i.starts.items i.sent i.keyed c.self.invariant c.again-2.result c.again.result c.args.name.now c.certified_print-print.result c.args.cert.now c.args.max_peers c.args.max_sessions c.new.result
-    c.again-2.ensures c.again.ensures c.certified_print-print.ensures.print c.certified_print-print.ensures.form c.new.ensures.state
+    c.again-2.ensures c.again.ensures c.certified_print-print.ensures.print c.certified_print-print.ensures.form
+    (fresh_with c.args.max_peers c.args.max_sessions c.args.cert.now c.certified_print-print.result c.counted_secret.result c.new.result c.new.ensures.state c.counted_secret.ensures)
     (subst (λ (w : Seen). is_bad w (End c.args.name.now c.args.max_peers c.args.max_sessions c.args.cert.now) ≡ false) (sym c.self.view_is) fine))
 
 pub returns : goal.returns
@@ -62,7 +63,8 @@ returns c =
     let left = fault_left c.args.self.now c.args.line (End c.args.name.now c.args.max_peers c.args.max_sessions c.args.cert.now) refl refl fine in
     rw (c.put.ensures, c.reserve.ensures.items)
     (done_done c.args.self.now c.args.line (End c.args.name.now c.args.max_peers c.args.max_sessions c.args.cert.now) _ left
-    (seen_end i.moment i.ends.items i.journal c.again-2.result c.args.name.now c.certified_print-print.result c.args.cert.now c.args.max_peers c.args.max_sessions c.new.result c.again-2.ensures c.certified_print-print.ensures.print c.new.ensures.state
+    (seen_end i.moment i.ends.items i.journal c.again-2.result c.args.name.now c.certified_print-print.result c.args.cert.now c.args.max_peers c.args.max_sessions c.new.result c.again-2.ensures c.certified_print-print.ensures.print
+    (fresh_with c.args.max_peers c.args.max_sessions c.args.cert.now c.certified_print-print.result c.counted_secret.result c.new.result c.new.ensures.state c.counted_secret.ensures)
     ∙ ap (λ (w : Seen). with_end w (new_end c.args.name.now (new_setup c.args.max_peers c.args.max_sessions c.args.cert.now))) c.self.view_is))
 
 -- what holds where there was no want of memory holds
