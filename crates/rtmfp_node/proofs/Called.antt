@@ -1,8 +1,9 @@
 -- The calls of a turn, in their order; and how a run ends at its start.
-use Rattle.std.proofs.Common.{◌≡◌, ℕ, ◌+◌, ◌<◌, List, [], ◌∷◌, ◌++◌, inl, inr, drop, length, refl, sym, ap, ◌∙◌, subst, Some, None, arith}
+use Rattle.std.proofs.Common.{◌≡◌, ℕ, ◌+◌, ◌<◌, List, [], ◌∷◌, ◌++◌, inl, inr, drop, length, refl, sym, ap, ◌∙◌, subst, Option, Some, None, arith}
 use Rattle.std.proofs.lemmas.List.{length-append, length-drop}
 use Rattle.rtmfp_forms.specs.Address.{AddressParts}
 use Rattle.rtmfp_host.specs.Drawing.{next_block}
+use Rattle.rtmfp_host.specs.declared.link.Given.{Given}
 use Rattle.rtmfp_host.specs.declared.link.Given.TheVariants.{Datagram, Quiet}
 use Rattle.endpoint_model.specs.declared.config.Draws.{Draws}
 use Rattle.endpoint_model.specs.Event.{Call, OnFlows, Receive, Tick, Event}
@@ -14,8 +15,8 @@ use Rattle.rtmfp_words.specs.declared.opening_words.OpeningWords.{OpeningWords}
 use Rattle.rtmfp_node.specs.declared.served.Served.TheVariants.{EntropyFault}
 use Rattle.rtmfp_node.specs.Outside.{Told}
 use Rattle.rtmfp_node.specs.Whole.{CutAtStart}
-use Rattle.rtmfp_node.specs.Events.{AreMessages, AreOpened, AreTurnEvents, IsFlowCall, draws_of, opened_in, opening_call, opens_flow, queues}
-use Rattle.rtmfp_node.specs.Calls.{calls_in, first_added, message_calls, opening_calls}
+use Rattle.rtmfp_node.specs.Events.{AreMessages, AreOpened, AreSuccessions, AreTurnEvents, AreWholeEvents, AreZeroEvents, IsFlowCall, advance_call, draws_of, learn_call, opened_in, opening_call, opens_flow, queues}
+use Rattle.rtmfp_node.specs.Calls.{asked, calls_in, first_added, message_calls, opening_calls}
 
 calls_more : (es fs : List Event) → calls_in (es ++ fs) ≡ calls_in es ++ calls_in fs
 calls_more [] fs = refl
@@ -52,6 +53,23 @@ openings_called (o ∷ os) moment blocks log h =
     ap calls_in h.2
     ∙ ap (λ (c : Call). c ∷ calls_in h.1) (ap (λ (k : Event). k.call) h.3.3)
     ∙ ap (λ (xs : List Call). opening_call o.whom o.at (draws_of (next_block blocks)) ∷ xs) (openings_called os moment (drop 1 blocks) h.1 h.4)
+
+-- ---- calls on the group's secrets
+
+succession_called : (o : Option Call) (log : List Event) → AreSuccessions o log → calls_in log ≡ asked o
+succession_called None log h = ap calls_in h
+succession_called (Some call) log h = ap calls_in h.2 ∙ ap (λ (k : Event). k.call ∷ []) h.1.3
+
+pub zero_called : (next : Option (List ℕ)) (openings : List OpeningWords) (moment : ℕ) (blocks : List (List ℕ)) (log : List Event) → AreZeroEvents next openings moment blocks log →
+    calls_in log ≡ asked (learn_call next) ++ opening_calls openings blocks
+zero_called next openings moment blocks log h =
+    ap calls_in h.4 ∙ calls_more h.0 h.1
+    ∙ (λ i. succession_called (learn_call next) h.0 h.2 i ++ openings_called openings moment blocks h.1 h.3 i)
+
+pub whole_called : (advance : Option ℕ) (turn : ℕ) (message : Option (List ℕ)) (given : Given) (moment : ℕ) (draws : Draws) (log : List Event) → AreWholeEvents advance turn message given moment draws log →
+    (others : List Event) × AreTurnEvents message given moment draws others × (calls_in log ≡ asked (advance_call advance turn) ++ calls_in others)
+whole_called advance turn message given moment draws log h =
+    (h.1, h.3, ap calls_in h.4 ∙ calls_more h.0 h.1 ∙ ap (λ (xs : List Call). xs ++ calls_in h.1) (succession_called (advance_call advance turn) h.0 h.2))
 
 -- ---- a fault of the random source at the start
 

@@ -9,3 +9,4 @@ pub mod Turning
 pub mod Running
 pub mod Taken
 pub mod Certified
+pub mod Succeeding

@@ -10,37 +10,47 @@ use Rattle.rtmfp_host.specs.declared.link.LinkCall.TheVariants.{Receive}
 use Rattle.endpoint_model.specs.declared.entry.Entry.{Entry}
 use Rattle.endpoint_model.specs.Event.{Event}
 use Rattle.endpoint_model.specs.State.{State}
+use Rattle.endpoint_model.specs.Views.{Sending, out_in}
+use Rattle.endpoint_laws.specs.Contexts.{Secrets}
 use Rattle.rtmfp_report.specs.EntryText.{sent_after}
 use Rattle.rtmfp_words.specs.Node.{Serving}
 use Rattle.rtmfp_words.specs.declared.opening_words.OpeningWords.{OpeningWords}
 use Rattle.rtmfp_node.specs.declared.served.Served.{Served}
 use Rattle.rtmfp_node.specs.declared.served.Served.TheVariants.{Done, Memory, LinkFault, SinkFault, EntropyFault}
-use Rattle.rtmfp_node.specs.Outside.{outside, Told, Leaves}
+use Rattle.rtmfp_node.specs.Outside.{Outside, outside, Told, Leaves}
 use Rattle.rtmfp_node.specs.Report.{events_text, unsent_text}
-use Rattle.rtmfp_node.specs.Events.{AreOpened, AreTurnEvents, draws_of, entries_of}
-use Rattle.rtmfp_node.specs.Turn.{AreSends, after_draws, after_wait, outs_in, until_of}
-use Rattle.rtmfp_node.specs.Cut.{AreFirstSends, Broken, BrokenAtZero, IsPart, after_fault}
-use Rattle.rtmfp_node.specs.Acting.{Acted, ActedOn, Acts, Drew, DrewSome, EmitEnds, EmittedAll, EmittedSome, Noted, OpensAll, OpensEnd, TurnDone, TurnEnds, ZeroDone, ZeroEnds}
+use Rattle.rtmfp_node.specs.Events.{AreOpened, AreTurnEvents, AreWholeEvents, AreZeroEvents, advance_call, draws_of, entries_of, learn_call}
+use Rattle.rtmfp_node.specs.Turn.{AreSends, after_draws, after_wait, outs_by, outs_in, secrets_of, until_of}
+use Rattle.rtmfp_node.specs.Cut.{Advances, AreFirstSends, Broken, BrokenAtZero, CutAtZero, CutBy, IsPart, after_fault}
+use Rattle.rtmfp_node.specs.Acting.{Acted, ActedOn, Acts, Drew, DrewSome, EmitEnds, EmittedAll, EmittedSome, Noted, OpensAll, OpensEnd, Succeeded, TurnDone, TurnEnds, ZeroDone, ZeroEnds}
+use Rattle.rtmfp_node.proofs.Acts.{acts_then, entries_of_more, in_then}
 use Rattle.rtmfp_node.proofs.Openings.{by_opens}
 use Rattle.rtmfp_node.proofs.Sends.{appends_as}
-use Rattle.rtmfp_node.proofs.Told.{Emitted, by_after, by_draw, by_drew, by_emit, by_heard, by_leaves, by_moment, by_receive, by_then, leaves_map}
+use Rattle.rtmfp_node.proofs.Told.{Emitted, by_after, by_draw, by_drew, by_emit, by_heard, by_leaves, by_moment, by_none, by_receive, by_then, drew_none, leaves_map}
 
 -- ---- what was noted
 
 -- The text of a turn is that of its events, and the count is that after them.
-text_is : (secret : List ℕ) (turn count : ℕ) (s t : State) (m n : Noted) (log : List Event) → m ≡ record { secret = secret; count = count; text = [] } → Acts turn s t m n log →
-    n.text ≡ events_text secret turn count log
-text_is secret turn count s t m n log is acts =
-    ap (λ (k : Noted). k.text) acts.noted ∙ ap (λ (k : Noted). k.text ++ events_text k.secret turn k.count log) is
+text_is : (secrets : Secrets) (turn count : ℕ) (s t : State) (m n : Noted) (log : List Event) → m ≡ record { secrets = secrets; count = count; text = [] } → Acts turn s t m n log →
+    n.text ≡ events_text secrets turn count log
+text_is secrets turn count s t m n log is acts =
+    ap (λ (k : Noted). k.text) acts.noted ∙ ap (λ (k : Noted). k.text ++ events_text k.secrets turn k.count log) is
 
-count_is : (secret : List ℕ) (turn count : ℕ) (s t : State) (m n : Noted) (log : List Event) → m ≡ record { secret = secret; count = count; text = [] } → Acts turn s t m n log →
+count_is : (secrets : Secrets) (turn count : ℕ) (s t : State) (m n : Noted) (log : List Event) → m ≡ record { secrets = secrets; count = count; text = [] } → Acts turn s t m n log →
     n.count ≡ sent_after count (entries_of log)
-count_is secret turn count s t m n log is acts =
+count_is secrets turn count s t m n log is acts =
     ap (λ (k : Noted). k.count) acts.noted ∙ ap (λ (k : Noted). sent_after k.count (entries_of log)) is
 
-pub secret_is : (secret : List ℕ) (turn count : ℕ) (s t : State) (m n : Noted) (log : List Event) → m ≡ record { secret = secret; count = count; text = [] } → Acts turn s t m n log →
-    n.secret ≡ secret
-secret_is secret turn count s t m n log is acts = ap (λ (k : Noted). k.secret) acts.noted ∙ ap (λ (k : Noted). k.secret) is
+-- ---- what goes out
+
+outs_more : (es fs : List Entry) → outs_in (es ++ fs) ≡ outs_in es ++ outs_in fs
+outs_more [] fs = refl
+outs_more (e ∷ es) fs = ap (λ (xs : List Sending). outs_by (out_in e) ++ xs) (outs_more es fs) ∙ sym (append_assoc (outs_by (out_in e)) (outs_in es) (outs_in fs))
+
+-- Of events the first of which send nothing, the others' datagrams go out.
+outs_later : (first others : List Event) → outs_in (entries_of first) ≡ [] → outs_in (entries_of others) ≡ outs_in (entries_of (first ++ others))
+outs_later first others silent =
+    sym (ap outs_in (entries_of_more first others) ∙ outs_more (entries_of first) (entries_of others) ∙ ap (λ (xs : List Sending). xs ++ outs_in (entries_of others)) silent)
 
 -- ---- the calls of the outside in a turn
 
@@ -65,10 +75,23 @@ waited_from first x = record {
   text = x.text;
 }
 
-module _ (v : Serving) (turn count : ℕ) (block : List ℕ) (first moment : ℕ) (given : Given) (s t : State) (entries : List Entry) (m n : Noted)
-    (l l1 l2 : LinkSeen) (c c1 c2 : Option Clock) (b b1 : EntropySeen) (k k1 : SinkSeen)
+module _ (v : Serving) (turn count : ℕ) (block : List ℕ) (first moment : ℕ) (given : Given) (s u t : State) (now entries : List Entry) (m o n : Noted)
+    (l l1 l2 : LinkSeen) (c c1 c2 : Option Clock) (b b1 : EntropySeen) (k k1 : SinkSeen) (early : Succeeded (advance_call v.advance turn) turn s u [] now m o)
     (drew : Drew b.blocks b1.blocks block) (ticks : Ticks c c1 first) (receives : Receives l.line l1.line (until_of first) (Some given)) (again : Ticks c1 c2 moment)
-    (acted : Acted v.send given moment (draws_of block) turn s t entries m n) (is : m ≡ record { secret = v.group; count = count; text = [] }) where
+    (acted : Acted v.send given moment (draws_of block) turn u t entries o n) (is : m ≡ record { secrets = secrets_of v; count = count; text = [] }) where
+  abbrev log_of : List Event
+  log_of = early.log ++ acted.log
+
+  acts_of : Acts turn s t m n log_of
+  acts_of = acts_then early.acts.acts acted.acts
+
+  outs_of : outs_in entries ≡ outs_in (entries_of log_of)
+  outs_of = ap outs_in acted.whole ∙ outs_later early.log acted.log early.silent
+
+  events_of : (x : Told) → Asked block first given moment x →
+      AreWholeEvents v.advance turn v.send (next_given x.line.left) (next_moment (after_moment x.clock)) (draws_of (next_block x.blocks)) log_of
+  events_of x asked = (early.log, acted.log, early.calls, events_as v.send block first moment given x acted.log asked acted.events, refl)
+
   chain : (sends : List LinkCall) (text : List ℕ) → Leaves (Emitted sends text) (outside l1 c2 b1 k) (outside l2 c2 b1 k1) →
       Leaves (λ x y. Asked block first given moment x × Emitted sends text (waited_from first x) y) (outside l c b k) (outside l2 c2 b1 k1)
   chain sends text last =
@@ -88,23 +111,23 @@ module _ (v : Serving) (turn count : ℕ) (block : List ℕ) (first moment : ℕ
 
   pub turned : EmittedAll turn count n.text entries l1.line l2.line k.written k1.written → TurnDone v turn count s t n.count (outside l c b k) (outside l2 c2 b1 k1)
   turned all = record {
-    log = acted.log;
-    stands = acted.acts.stands;
-    sized = acted.acts.sized;
-    counted = count_is v.group turn count s t m n acted.log is acted.acts;
+    log = log_of;
+    stands = acts_of.stands;
+    sized = acts_of.sized;
+    counted = count_is (secrets_of v) turn count s t m n log_of is acts_of;
     leaves =
         leaves_map (chain all.sends (n.text ++ unsent_text turn count all.sends) (by_emit all.sends (n.text ++ unsent_text turn count all.sends) l1 l2 c2 b1 k k1 all.calls all.text))
         (λ x y f. record {
-          events = events_as v.send block first moment given x acted.log f.0 acted.events;
+          events = events_of x f.0;
           sends = all.sends;
-          sent = subst (λ es. AreSends (outs_in es) all.sends) acted.whole all.sent;
+          sent = subst (λ (outs : List Sending). AreSends outs all.sends) outs_of all.sent;
           left = f.1.left;
           calls = f.1.calls ∙ calls_are all.sends x f.0;
           clock = f.1.clock;
           blocks = f.1.blocks;
           text =
-              appends_as x.text y.text (n.text ++ unsent_text turn count all.sends) (events_text v.group turn count acted.log ++ unsent_text turn count all.sends)
-              (ap (λ xs. xs ++ unsent_text turn count all.sends) (text_is v.group turn count s t m n acted.log is acted.acts)) f.1.text;
+              appends_as x.text y.text (n.text ++ unsent_text turn count all.sends) (events_text (secrets_of v) turn count log_of ++ unsent_text turn count all.sends)
+              (ap (λ xs. xs ++ unsent_text turn count all.sends) (text_is (secrets_of v) turn count s t m n log_of is acts_of)) f.1.text;
         });
   }
 
@@ -112,39 +135,39 @@ module _ (v : Serving) (turn count : ℕ) (block : List ℕ) (first moment : ℕ
   broken some =
       leaves_map (chain some.sends some.part (by_emit some.sends some.part l1 l2 c2 b1 k k1 some.calls some.text))
       (λ x y f. record {
-        log = acted.log;
+        log = log_of;
         left = t;
-        events = events_as v.send block first moment given x acted.log f.0 acted.events;
-        stands = acted.acts.stands;
+        events = events_of x f.0;
+        stands = acts_of.stands;
         breaks = record {
           sends = some.sends;
-          sent = subst (λ es. AreFirstSends (outs_in es) some.sends) acted.whole some.sent;
+          sent = subst (λ (outs : List Sending). AreFirstSends outs some.sends) outs_of some.sent;
           left = f.1.left;
           calls = f.1.calls ∙ ap (λ j. (x.line.calls ++ Receive (until_of j) ∷ []) ++ some.sends) f.0.first_is;
           clock = f.1.clock;
           blocks = f.1.blocks;
           part = some.part;
           text = f.1.text;
-          is_part = subst (λ xs. IsPart turn count xs some.sends some.part) (text_is v.group turn count s t m n acted.log is acted.acts) some.is_part;
+          is_part = subst (λ xs. IsPart turn count xs some.sends some.part) (text_is (secrets_of v) turn count s t m n log_of is acts_of) some.is_part;
         };
       })
 
   pub turn_ends : (result : Served) → EmitEnds result turn count n.text entries l1.line l2.line k.written k1.written → TurnEnds result v turn count s t n.count (outside l c b k) (outside l2 c2 b1 k1)
   turn_ends Done all = turned all
-  turn_ends Memory some = leaves_map (broken some) (λ x y h. inr h)
+  turn_ends Memory some = leaves_map (broken some) (λ x y h. inr (inr h))
   turn_ends SinkFault some = broken some
   turn_ends LinkFault none = absurd none
   turn_ends EntropyFault none = absurd none
 
 -- the same, whether or not the link gave something
-pub turn_ends_on : (result : Served) (v : Serving) (turn count : ℕ) (block : List ℕ) (first moment : ℕ) (given : Option Given) (s t : State) (entries : List Entry) (m n : Noted)
-    (l l1 l2 : LinkSeen) (c c1 c2 : Option Clock) (b b1 : EntropySeen) (k k1 : SinkSeen) →
+pub turn_ends_on : (result : Served) (v : Serving) (turn count : ℕ) (block : List ℕ) (first moment : ℕ) (given : Option Given) (s u t : State) (now entries : List Entry) (m o n : Noted)
+    (l l1 l2 : LinkSeen) (c c1 c2 : Option Clock) (b b1 : EntropySeen) (k k1 : SinkSeen) → Succeeded (advance_call v.advance turn) turn s u [] now m o →
     Drew b.blocks b1.blocks block → Ticks c c1 first → Receives l.line l1.line (until_of first) given → Ticks c1 c2 moment →
-    ActedOn v.send given moment (draws_of block) turn s t entries m n → m ≡ record { secret = v.group; count = count; text = [] } →
+    ActedOn v.send given moment (draws_of block) turn u t entries o n → m ≡ record { secrets = secrets_of v; count = count; text = [] } →
     EmitEnds result turn count n.text entries l1.line l2.line k.written k1.written → TurnEnds result v turn count s t n.count (outside l c b k) (outside l2 c2 b1 k1)
-turn_ends_on result v turn count block first moment None s t entries m n l l1 l2 c c1 c2 b b1 k k1 drew ticks receives again acted is ends = absurd acted
-turn_ends_on result v turn count block first moment (Some given) s t entries m n l l1 l2 c c1 c2 b b1 k k1 drew ticks receives again acted is ends =
-    turn_ends v turn count block first moment given s t entries m n l l1 l2 c c1 c2 b b1 k k1 drew ticks receives again acted is result ends
+turn_ends_on result v turn count block first moment None s u t now entries m o n l l1 l2 c c1 c2 b b1 k k1 early drew ticks receives again acted is ends = absurd acted
+turn_ends_on result v turn count block first moment (Some given) s u t now entries m o n l l1 l2 c c1 c2 b b1 k k1 early drew ticks receives again acted is ends =
+    turn_ends v turn count block first moment given s u t now entries m o n l l1 l2 c c1 c2 b b1 k k1 early drew ticks receives again acted is result ends
 
 abbrev failed_from : ℕ → Told → Told
 failed_from first x = record {
@@ -173,16 +196,29 @@ waited block first moment (Some given) l l1 c c1 c2 b b1 k some drew ticks recei
     (by_moment moment l1 c1 c2 b1 k again))
     (λ x f. ap (λ j. waited_from j x) f.0.0.1)
 
+-- a turn that found no memory for its advance
+pub unbegun : (v : Serving) (turn count : ℕ) (s : State) (o : Outside) → Advances v turn → Leaves (CutBy Memory v turn count s) o o
+unbegun v turn count s o advances = by_leaves (CutBy Memory v turn count s) by_none (λ x h. inl (advances, refl))
+
 -- a draw that failed
 pub undrawn : (l : LinkSeen) (c : Option Clock) (b a : EntropySeen) (t : SinkSeen) → DrewSome 0 b.blocks a.blocks → Leaves (λ x y. y ≡ x) (outside l c b t) (outside l c a t)
 undrawn l c b a t none = by_leaves (λ x y. y ≡ x) (by_drew 0 l c b a t none) (λ x f. refl)
 
 -- ---- turn 0
 
-module _ (v : Serving) (moment : ℕ) (s t : State) (heard out before : List Entry) (m n : Noted)
+module _ (v : Serving) (moment : ℕ) (s u t : State) (heard out before learnt : List Entry) (m o n : Noted)
     (l l2 : LinkSeen) (c c1 : Option Clock) (b b1 : EntropySeen) (k k1 : SinkSeen)
-    (ticks : Ticks c c1 moment) (opens : OpensAll v.openings moment b.blocks b1.blocks s t before out m n)
-    (empty : before ≡ []) (unheard : heard ≡ []) (is : m ≡ record { secret = v.group; count = 0; text = [] }) where
+    (ticks : Ticks c c1 moment) (early : Succeeded (learn_call v.next) 0 s u before learnt m o) (opens : OpensAll v.openings moment b.blocks b1.blocks u t learnt out o n)
+    (empty : before ≡ []) (unheard : heard ≡ []) (is : m ≡ record { secrets = secrets_of v; count = 0; text = [] }) where
+  abbrev zero_log : List Event
+  zero_log = early.log ++ opens.log
+
+  zero_acts : Acts 0 s t m n zero_log
+  zero_acts = acts_then early.acts.acts opens.acts.acts
+
+  zero_events : (x : Told) → moment ≡ next_moment x.clock → AreOpened v.openings moment x.blocks opens.log → AreZeroEvents v.next v.openings (next_moment x.clock) x.blocks zero_log
+  zero_events x at opened = (early.log, opens.log, early.calls, subst (λ j. AreOpened v.openings j x.blocks opens.log) at opened, refl)
+
   zero_chain : (sends : List LinkCall) (text : List ℕ) → Leaves (Emitted sends text) (outside l c1 b1 k) (outside l2 c1 b1 k1) →
       Leaves (λ x y. (moment ≡ next_moment x.clock) × AreOpened v.openings moment x.blocks opens.log × Emitted sends text (after_draws (length v.openings) x) y) (outside l c b k) (outside l2 c1 b1 k1)
   zero_chain sends text last =
@@ -190,19 +226,19 @@ module _ (v : Serving) (moment : ℕ) (s t : State) (heard out before : List Ent
       (by_after (by_then (by_moment moment l c c1 b k ticks) (by_opens v.openings moment opens.log l c1 b b1 k opens.opened)) last)
       (λ x y f. (f.0.0, f.0.1, f.1))
 
-  zero_whole : heard ++ out ≡ entries_of opens.log
-  zero_whole = ap (λ xs. xs ++ out) unheard ∙ opens.acts.entries ∙ ap (λ xs. xs ++ entries_of opens.log) empty
+  zero_whole : heard ++ out ≡ entries_of zero_log
+  zero_whole = ap (λ xs. xs ++ out) unheard ∙ (in_then early.acts opens.acts).entries ∙ ap (λ xs. xs ++ entries_of zero_log) empty
 
   zero_done : EmittedAll 0 0 n.text (heard ++ out) l.line l2.line k.written k1.written → ZeroDone v s t n.count (outside l c b k) (outside l2 c1 b1 k1)
   zero_done all = record {
-    log = opens.log;
-    stands = opens.acts.acts.stands;
-    sized = opens.acts.acts.sized;
-    counted = count_is v.group 0 0 s t m n opens.log is opens.acts.acts;
+    log = zero_log;
+    stands = zero_acts.stands;
+    sized = zero_acts.sized;
+    counted = count_is (secrets_of v) 0 0 s t m n zero_log is zero_acts;
     leaves =
         leaves_map (zero_chain all.sends (n.text ++ unsent_text 0 0 all.sends) (by_emit all.sends (n.text ++ unsent_text 0 0 all.sends) l l2 c1 b1 k k1 all.calls all.text))
         (λ x y f. record {
-          events = subst (λ j. AreOpened v.openings j x.blocks opens.log) f.0 f.1;
+          events = zero_events x f.0 f.1;
           sends = all.sends;
           sent = subst (λ es. AreSends (outs_in es) all.sends) zero_whole all.sent;
           left = f.2.left;
@@ -210,8 +246,8 @@ module _ (v : Serving) (moment : ℕ) (s t : State) (heard out before : List Ent
           clock = f.2.clock;
           blocks = f.2.blocks;
           text =
-              appends_as x.text y.text (n.text ++ unsent_text 0 0 all.sends) (events_text v.group 0 0 opens.log ++ unsent_text 0 0 all.sends)
-              (ap (λ xs. xs ++ unsent_text 0 0 all.sends) (text_is v.group 0 0 s t m n opens.log is opens.acts.acts)) f.2.text;
+              appends_as x.text y.text (n.text ++ unsent_text 0 0 all.sends) (events_text (secrets_of v) 0 0 zero_log ++ unsent_text 0 0 all.sends)
+              (ap (λ xs. xs ++ unsent_text 0 0 all.sends) (text_is (secrets_of v) 0 0 s t m n zero_log is zero_acts)) f.2.text;
         });
   }
 
@@ -219,10 +255,10 @@ module _ (v : Serving) (moment : ℕ) (s t : State) (heard out before : List Ent
   zero_broken some =
       leaves_map (zero_chain some.sends some.part (by_emit some.sends some.part l l2 c1 b1 k k1 some.calls some.text))
       (λ x y f. record {
-        log = opens.log;
+        log = zero_log;
         left = t;
-        events = subst (λ j. AreOpened v.openings j x.blocks opens.log) f.0 f.1;
-        stands = opens.acts.acts.stands;
+        events = zero_events x f.0 f.1;
+        stands = zero_acts.stands;
         breaks = record {
           sends = some.sends;
           sent = subst (λ es. AreFirstSends (outs_in es) some.sends) zero_whole some.sent;
@@ -232,13 +268,13 @@ module _ (v : Serving) (moment : ℕ) (s t : State) (heard out before : List Ent
           blocks = f.2.blocks;
           part = some.part;
           text = f.2.text;
-          is_part = subst (λ xs. IsPart 0 0 xs some.sends some.part) (text_is v.group 0 0 s t m n opens.log is opens.acts.acts) some.is_part;
+          is_part = subst (λ xs. IsPart 0 0 xs some.sends some.part) (text_is (secrets_of v) 0 0 s t m n zero_log is zero_acts) some.is_part;
         };
       })
 
   pub zero_ends : (result : Served) → EmitEnds result 0 0 n.text (heard ++ out) l.line l2.line k.written k1.written → ZeroEnds result v s t n.count (outside l c b k) (outside l2 c1 b1 k1)
   zero_ends Done all = zero_done all
-  zero_ends Memory some = leaves_map (zero_broken some) (λ x y h. inr h)
+  zero_ends Memory some = leaves_map (zero_broken some) (λ x y h. inr (inr h))
   zero_ends SinkFault some = zero_broken some
   zero_ends LinkFault none = absurd none
   zero_ends EntropyFault none = absurd none
@@ -249,15 +285,20 @@ zero_drawn : (moment drawn : ℕ) (l : LinkSeen) (c c1 : Option Clock) (b b1 : E
 zero_drawn moment drawn l c c1 b b1 k ticks drew =
     by_leaves (λ x y. y ≡ after_draws drawn x) (by_then (by_moment moment l c c1 b k ticks) (by_drew drawn l c1 b b1 k drew)) (λ x f. refl)
 
-pub zero_cut : (result : Served) (v : Serving) (moment later : ℕ) (s t u : State) (before out : List Entry) (m n : Noted) (l : LinkSeen) (c c1 : Option Clock) (b b1 : EntropySeen) (k : SinkSeen) → result ≢ Done →
-    Ticks c c1 moment → OpensEnd result v.openings moment b.blocks b1.blocks s t before out m n → ZeroEnds result v s u later (outside l c b k) (outside l c1 b1 k)
-zero_cut Done v moment later s t u before out m n l c c1 b b1 k other ticks opens = absurd (other refl)
-zero_cut Memory v moment later s t u before out m n l c c1 b b1 k other ticks opens =
-    leaves_map (zero_drawn moment (opens.0 + 1) l c c1 b b1 k ticks opens.2) (λ x y h. inl (opens.0, opens.1, h))
-zero_cut EntropyFault v moment later s t u before out m n l c c1 b b1 k other ticks opens =
+-- turn 0 found no memory for its learn
+pub unlearnt : (v : Serving) (moment : ℕ) (s : State) (l : LinkSeen) (c c1 : Option Clock) (b : EntropySeen) (k : SinkSeen) → IsSome v.next → Ticks c c1 moment →
+    Leaves (CutAtZero Memory v s) (outside l c b k) (outside l c1 b k)
+unlearnt v moment s l c c1 b k some ticks = leaves_map (zero_drawn moment 0 l c c1 b b k ticks (drew_none b.blocks)) (λ x y h. inl (some, h))
+
+pub zero_cut : (result : Served) (v : Serving) (moment later : ℕ) (w s t u : State) (before out : List Entry) (m n : Noted) (l : LinkSeen) (c c1 : Option Clock) (b b1 : EntropySeen) (k : SinkSeen) → result ≢ Done →
+    Ticks c c1 moment → OpensEnd result v.openings moment b.blocks b1.blocks s t before out m n → ZeroEnds result v w u later (outside l c b k) (outside l c1 b1 k)
+zero_cut Done v moment later w s t u before out m n l c c1 b b1 k other ticks opens = absurd (other refl)
+zero_cut Memory v moment later w s t u before out m n l c c1 b b1 k other ticks opens =
+    leaves_map (zero_drawn moment (opens.0 + 1) l c c1 b b1 k ticks opens.2) (λ x y h. inr (inl (opens.0, opens.1, h)))
+zero_cut EntropyFault v moment later w s t u before out m n l c c1 b b1 k other ticks opens =
     leaves_map (zero_drawn moment opens.0 l c c1 b b1 k ticks opens.2) (λ x y h. (opens.0, opens.1, h))
-zero_cut LinkFault v moment later s t u before out m n l c c1 b b1 k other ticks opens = absurd opens
-zero_cut SinkFault v moment later s t u before out m n l c c1 b b1 k other ticks opens = absurd opens
+zero_cut LinkFault v moment later w s t u before out m n l c c1 b b1 k other ticks opens = absurd opens
+zero_cut SinkFault v moment later w s t u before out m n l c c1 b b1 k other ticks opens = absurd opens
 
 pub all_opened : (result : Served) (openings os : List OpeningWords) (moment : ℕ) (b a : Option (List (List ℕ))) (s t : State) (x y : List Entry) (m n : Noted) → result ≡ Done → openings ≡ os →
     OpensEnd result openings moment b a s t x y m n → OpensAll os moment b a s t x y m n

@@ -1,5 +1,7 @@
 -- What the parts of a turn do.
-use Rattle.std.specs.Prelude.{◌≡◌, ◌⊎◌, ℕ, ◌+◌, ◌<◌, List, [], ◌∷◌, ◌++◌, drop, length, take, Option, Some, None}
+use Rattle.std.specs.Prelude.{◌≡◌, ◌⊎◌, refl, ℕ, ◌+◌, ◌<◌, List, [], ◌∷◌, ◌++◌, drop, length, take, Option, Some, None}
+use Rattle.std.specs.Coded.{Coded, code_by, coded×, coded_list, coded_ℕ}
+use Rattle.std.specs.FinMap.{code}
 use Rattle.rtmfp_forms.specs.Address.{AddressParts}
 use Rattle.rtmfp_host.specs.Faults.{Rose}
 use Rattle.rtmfp_host.specs.Linking.{Line}
@@ -10,10 +12,11 @@ use Rattle.rtmfp_host.specs.declared.link.Given.{Given}
 use Rattle.rtmfp_host.specs.declared.link.LinkCall.{LinkCall}
 use Rattle.endpoint_model.specs.declared.config.Draws.{Draws}
 use Rattle.endpoint_model.specs.declared.entry.Entry.{Entry}
-use Rattle.endpoint_model.specs.Event.{Event}
+use Rattle.endpoint_model.specs.Event.{Call, Event}
 use Rattle.endpoint_model.specs.FlowCall.{FlowCall}
 use Rattle.endpoint_model.specs.State.{State}
 use Rattle.endpoint_laws.specs.Laws.{AreCalls}
+use Rattle.endpoint_laws.specs.Contexts.{Secrets}
 use Rattle.rtmfp_report.specs.EntryText.{entries_text, sent_after}
 use Rattle.rtmfp_words.specs.Node.{Serving}
 use Rattle.rtmfp_words.specs.declared.opening_words.OpeningWords.{OpeningWords}
@@ -22,7 +25,7 @@ use Rattle.rtmfp_node.specs.declared.served.Served.{Served}
 use Rattle.rtmfp_node.specs.declared.served.Served.TheVariants.{Done, Memory, LinkFault, SinkFault, EntropyFault}
 use Rattle.rtmfp_node.specs.Outside.{Outside, Told, Leaves, Stays}
 use Rattle.rtmfp_node.specs.Report.{events_text, self_name, unsent_text}
-use Rattle.rtmfp_node.specs.Events.{AreMessages, AreSendCalls, AreTurnEvents, ExtendsBy, IsCalled, IsFlowCall, IsOpened, draws_of, entries_of}
+use Rattle.rtmfp_node.specs.Events.{AreMessages, AreSendCalls, AreSuccessions, AreTurnEvents, ExtendsBy, IsCalled, IsFlowCall, IsOpened, draws_of, entries_of}
 use Rattle.rtmfp_node.specs.Turn.{AreSends, Turn, TurnZero, Turns, outs_in}
 use Rattle.rtmfp_node.specs.Cut.{AreFirstSends, CutAtZero, CutBy, IsPart, LinesSoFar}
 
@@ -32,22 +35,31 @@ added before after = drop (length before) after
 
 -- ---- what is written of a turn
 
--- the group's secret, how many datagrams went out, and the text that is made
+-- the group's secrets, how many datagrams went out, and the text that is made
 pub record Noted : Type 0 where
-  pub secret : List ℕ
+  pub secrets : Secrets
   pub count : ℕ
   pub text : List ℕ
 
+-- it is stored as the tuple of its fields
+abbrev pub noted_code : Coded Noted
+noted_code =
+    code_by (Secrets × (ℕ × List ℕ))
+    (coded× (code coded_ℕ (coded_list coded_ℕ)) (coded× coded_ℕ (coded_list coded_ℕ)))
+    (λ n. (n.secrets, (n.count, n.text)))
+    (λ p. record { secrets = p.0; count = p.1.0; text = p.1.1 })
+    (λ _. refl)
+
 -- a text is begun
 abbrev pub begun : Noted → Noted
-begun m = record { secret = m.secret; count = m.count; text = [] }
+begun m = record { secrets = m.secrets; count = m.count; text = [] }
 
 -- with the lines of these entries, and then more
 abbrev pub noted_more : ℕ → Noted → List Entry → List ℕ → Noted
 noted_more turn m entries more = record {
-  secret = m.secret;
+  secrets = m.secrets;
   count = sent_after m.count entries;
-  text = m.text ++ (entries_text m.secret [] turn self_name m.count entries ++ more);
+  text = m.text ++ (entries_text m.secrets [] turn self_name m.count entries ++ more);
 }
 
 -- ---- the calls of the end
@@ -57,9 +69,9 @@ pub record Acts (turn : ℕ) (s t : State) (m n : Noted) (log : List Event) : Ty
   pub stands : ExtendsBy s t log
   pub sized : AreCalls log
   pub noted : n ≡ record {
-    secret = m.secret;
+    secrets = m.secrets;
     count = sent_after m.count (entries_of log);
-    text = m.text ++ events_text m.secret turn m.count log;
+    text = m.text ++ events_text m.secrets turn m.count log;
   }
 
 -- and their entries were added to these
@@ -82,6 +94,15 @@ abbrev pub ActedOn : Option (List ℕ) → Option Given → ℕ → Draws → �
 ActedOn message None moment draws turn s t entries m n = ⊥
 ActedOn message (Some given) moment draws turn s t entries m n =
     Acted message given moment draws turn s t entries m n
+
+-- a call on the group's secrets that was done or refused, where there was one to make
+pub record Succeeded (call : Option Call) (turn : ℕ) (s t : State) (before after : List Entry)
+    (m n : Noted) : Type 0 where
+  pub log : List Event
+  pub calls : AreSuccessions call log
+  pub acts : ActsIn turn s t before after m n log
+  -- none of its entries is a datagram
+  pub silent : outs_in (entries_of log) ≡ []
 
 -- ---- draws
 

@@ -1,5 +1,5 @@
 -- The calls of a turn, in their order.
-use Rattle.std.specs.Prelude.{ℕ, List, [], ◌∷◌, ◌++◌, drop}
+use Rattle.std.specs.Prelude.{ℕ, List, [], ◌∷◌, ◌++◌, drop, Option, None, Some}
 use Rattle.rtmfp_host.specs.Drawing.{next_block}
 use Rattle.endpoint_model.specs.declared.entry.Entry.{Entry}
 use Rattle.endpoint_model.specs.Event.{Call, OnFlows, Event}
@@ -28,3 +28,8 @@ opening_calls [] blocks = []
 opening_calls (opening ∷ openings) blocks =
     opening_call opening.whom opening.at (draws_of (next_block blocks))
     ∷ opening_calls openings (drop 1 blocks)
+
+-- a call on the group's secrets, where there is one to make
+abbrev pub asked : Option Call → List Call
+asked None = []
+asked (Some call) = call ∷ []

@@ -1,5 +1,5 @@
 -- What a turn leaves that isn't taken whole.
-use Rattle.std.specs.Prelude.{◌≡◌, ◌⊎◌, ℕ, ◌+◌, ◌<◌, ◌≤◌, List, [], ◌∷◌, ◌++◌, drop, length, take}
+use Rattle.std.specs.Prelude.{◌≡◌, ◌⊎◌, ℕ, ◌+◌, ◌<◌, ◌≤◌, List, [], ◌∷◌, ◌++◌, drop, length, take, IsSome}
 use Rattle.rtmfp_host.specs.Linking.{next_given}
 use Rattle.rtmfp_host.specs.Ticking.{next_moment, after_moment}
 use Rattle.rtmfp_host.specs.Drawing.{next_block}
@@ -13,9 +13,9 @@ use Rattle.rtmfp_words.specs.Node.{Serving}
 use Rattle.rtmfp_node.specs.declared.served.Served.{Served}
 use Rattle.rtmfp_node.specs.declared.served.Served.TheVariants.{Done, Memory, LinkFault, SinkFault, EntropyFault}
 use Rattle.rtmfp_node.specs.Outside.{Told}
-use Rattle.rtmfp_node.specs.Events.{AreOpened, AreTurnEvents, ExtendsBy, draws_of, entries_of}
+use Rattle.rtmfp_node.specs.Events.{AreWholeEvents, AreZeroEvents, ExtendsBy, advance_call, draws_of, entries_of}
 use Rattle.rtmfp_node.specs.Report.{events_text, unsent_text}
-use Rattle.rtmfp_node.specs.Turn.{AreSends, after_draws, after_wait, outs_in, until_of}
+use Rattle.rtmfp_node.specs.Turn.{AreSends, after_draws, after_wait, outs_in, secrets_of, until_of}
 
 -- A draw and a moment were had, and the receive failed: it took no place. Nothing was written.
 abbrev pub after_fault : Told → Told
@@ -63,13 +63,13 @@ pub record Breaks (v : Serving) (turn count : ℕ) (before after : Told) (log : 
   pub blocks : after.blocks ≡ before.blocks
   pub part : List ℕ
   pub text : Appends before.text after.text part
-  pub is_part : IsPart turn count (events_text v.group turn count log) sends part
+  pub is_part : IsPart turn count (events_text (secrets_of v) turn count log) sends part
 
 -- A turn that an end began in s made all its calls, and was broken off then.
 pub record Broken (v : Serving) (turn count : ℕ) (s : State) (before after : Told) : Type 0 where
   pub log : List Event
   pub left : State
-  pub events : AreTurnEvents v.send (next_given before.line.left)
+  pub events : AreWholeEvents v.advance turn v.send (next_given before.line.left)
       (next_moment (after_moment before.clock)) (draws_of (next_block before.blocks)) log
   pub stands : ExtendsBy s left log
   pub breaks : Breaks v turn count (after_wait before) after log
@@ -78,16 +78,22 @@ pub record Broken (v : Serving) (turn count : ℕ) (s : State) (before after : T
 pub record BrokenAtZero (v : Serving) (s : State) (before after : Told) : Type 0 where
   pub log : List Event
   pub left : State
-  pub events : AreOpened v.openings (next_moment before.clock) before.blocks log
+  pub events : AreZeroEvents v.next v.openings (next_moment before.clock) before.blocks log
   pub stands : ExtendsBy s left log
   pub breaks : Breaks v 0 0 (after_draws (length v.openings) before) after log
 
--- How a turn, which an end began in s, ends with each fault, and for want of memory. A draw that
--- fails is the first thing of a turn, so all is as it was then.
+-- The turn is that of the advance.
+abbrev pub Advances : Serving → ℕ → Type 0
+Advances v turn = IsSome (advance_call v.advance turn)
+
+-- How a turn, which an end began in s, ends with each fault, and for want of memory. Before the draw
+-- nothing is had from outside, so all there is as it was where the draw fails, or where the advance
+-- found no memory.
 abbrev pub CutBy : Served → Serving → ℕ → ℕ → State → Told → Told → Type 0
 CutBy Done v turn count s before after = ⊥
 CutBy Memory v turn count s before after =
-    (after ≡ after_wait before) ⊎ Broken v turn count s before after
+    (Advances v turn × (after ≡ before)) ⊎
+    ((after ≡ after_wait before) ⊎ Broken v turn count s before after)
 CutBy LinkFault v turn count s before after = after ≡ after_fault before
 CutBy EntropyFault v turn count s before after = after ≡ before
 CutBy SinkFault v turn count s before after = Broken v turn count s before after
@@ -102,10 +108,15 @@ abbrev pub OpenFails : Serving → Told → Told → Type 0
 OpenFails v before after =
     (made : ℕ) × (made < length v.openings) × (after ≡ after_draws (made + 1) before)
 
+-- Turn 0 looked at the clock, and found no memory for the learn.
+abbrev pub LearnFails : Serving → Told → Told → Type 0
+LearnFails v before after = IsSome v.next × (after ≡ after_draws 0 before)
+
 -- how turn 0 ends; it waits for nothing
 abbrev pub CutAtZero : Served → Serving → State → Told → Told → Type 0
 CutAtZero Done v s before after = ⊥
-CutAtZero Memory v s before after = OpenFails v before after ⊎ BrokenAtZero v s before after
+CutAtZero Memory v s before after =
+    LearnFails v before after ⊎ (OpenFails v before after ⊎ BrokenAtZero v s before after)
 CutAtZero LinkFault v s before after = ⊥
 CutAtZero EntropyFault v s before after = DrawFails v before after
 CutAtZero SinkFault v s before after = BrokenAtZero v s before after

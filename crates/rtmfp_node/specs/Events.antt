@@ -1,5 +1,6 @@
 -- The calls of an end in a turn of its node, and what they add.
-use Rattle.std.specs.Prelude.{◌≡◌, ℕ, List, [], ◌∷◌, ◌++◌, drop, take, Option, Some, None}
+use Rattle.std.specs.Prelude.{◌≡◌, ◌==◌, ℕ, if◌then◌else◌, List, [], ◌∷◌, ◌++◌, drop, take, Option, Some, None}
+use Rattle.std.specs.Option.{option_map}
 use Rattle.std.specs.Int.{w32, from_be_bytes}
 use Rattle.glare_core.specs.declared.facts.Fact.{Fact}
 use Rattle.glare_core.specs.declared.facts.Fact.TheVariants.{Started, Born, Opened, Confirmed, Ended}
@@ -11,8 +12,8 @@ use Rattle.endpoint_model.specs.declared.config.Draws.{Draws}
 use Rattle.endpoint_model.specs.declared.entry.Entry.{Entry}
 use Rattle.endpoint_model.specs.declared.answers.OpenRefusal.TheVariants.{Candidates, Start, SessionsFull, Memory as NoMemoryToOpen}
 use Rattle.endpoint_model.specs.declared.answers.SeekRefusal.TheVariants.{Candidates as WrongCount, SessionsFull as NoRoom, Memory as NoMemoryToSeek}
-use Rattle.session_flows.specs.declared.refusal.CallRefusal.TheVariants.{NoAttempt, NoSession, NoFlow, FlowsFull, WideMetadata, Queue as NoPlace, NotQueued, Finished, Memory as NoMemory}
-use Rattle.endpoint_model.specs.Event.{Setup, Call, Open, Seek, Receive, Tick, OnFlows, Answer, Began, Searching, Done, NotOpened, NotSought, Refused, NotAdded, Stopped, OutOfMemory, Event}
+use Rattle.session_flows.specs.declared.refusal.CallRefusal.TheVariants.{NoAttempt, NoSession, NoFlow, FlowsFull, WideMetadata, Queue as NoPlace, NotQueued, Finished, NextKnown, GenerationsSpent, SameSecret, NoNext, Memory as NoMemory}
+use Rattle.endpoint_model.specs.Event.{Setup, Call, Open, Seek, Learn, Advance, Receive, Tick, OnFlows, Answer, Began, Searching, Done, Succeeds, NotOpened, NotSought, Refused, NotAdded, Stopped, OutOfMemory, Event}
 use Rattle.endpoint_model.specs.FlowCall.{FlowCall, OpenFlow, Queue}
 use Rattle.endpoint_model.specs.State.{State}
 use Rattle.endpoint_model.specs.Log.{StandsFor}
@@ -65,12 +66,37 @@ IsSettled (Refused (WideMetadata size)) = Unit {0}
 IsSettled (Refused (NoPlace refusal)) = Unit {0}
 IsSettled (Refused NotQueued) = Unit {0}
 IsSettled (Refused Finished) = Unit {0}
+IsSettled (Refused (NextKnown generation)) = Unit {0}
+IsSettled (Refused GenerationsSpent) = Unit {0}
+IsSettled (Refused SameSecret) = Unit {0}
+IsSettled (Refused NoNext) = Unit {0}
 IsSettled (Began n) = Unit {0}
 IsSettled (Searching near) = Unit {0}
 IsSettled Done = Unit {0}
+IsSettled (Succeeds generation) = Unit {0}
 IsSettled (NotAdded refusal) = ⊥
 IsSettled (Stopped stop) = ⊥
 IsSettled OutOfMemory = ⊥
+
+-- ---- a call on the group's secrets, done or refused
+
+abbrev pub IsSuccession : Call → Event → Type 0
+IsSuccession call e = (answer : Answer) × (added : List Entry) × IsSettled answer ×
+    (e ≡ event_of 0 call answer added)
+
+-- the call, where there is one to make
+abbrev pub AreSuccessions : Option Call → List Event → Type 0
+AreSuccessions None log = log ≡ []
+AreSuccessions (Some call) log = (e : Event) × IsSuccession call e × (log ≡ e ∷ [])
+
+-- the next secret is learnt, where the words have one
+abbrev pub learn_call : Option (List ℕ) → Option Call
+learn_call next = option_map Learn next
+
+-- the end goes over to it, where this is the turn of the words
+abbrev pub advance_call : Option ℕ → ℕ → Option Call
+advance_call None turn = None
+advance_call (Some at) turn = if at == turn then Some Advance else None
 
 -- ---- turn 0
 
@@ -95,6 +121,13 @@ AreOpened (opening ∷ openings) moment blocks log =
     (e : Event) × (later : List Event) × (log ≡ e ∷ later) ×
     IsOpened opening moment (draws_of (next_block blocks)) e ×
     AreOpened openings moment (drop 1 blocks) later
+
+-- a learn, where there is a next secret, and then the openings
+abbrev pub AreZeroEvents : Option (List ℕ) → List OpeningWords → ℕ → List (List ℕ) → List Event →
+    Type 0
+AreZeroEvents next openings moment blocks log = (first others : List Event) ×
+    AreSuccessions (learn_call next) first × AreOpened openings moment blocks others ×
+    (log ≡ first ++ others)
 
 -- ---- a turn
 
@@ -146,3 +179,9 @@ AreTurnEvents message (Datagram from datagram) moment draws log =
     ∷ (calls ++ event_of moment (Tick draws) Done due ∷ []))
 AreTurnEvents message Quiet moment draws log =
     (due : List Entry) × (log ≡ event_of moment (Tick draws) Done due ∷ [])
+
+-- An advance, where this is its turn, before the draw; and then what the turn brings.
+abbrev pub AreWholeEvents : Option ℕ → ℕ → Option (List ℕ) → Given → ℕ → Draws → List Event → Type 0
+AreWholeEvents advance turn message given moment draws log = (first others : List Event) ×
+    AreSuccessions (advance_call advance turn) first ×
+    AreTurnEvents message given moment draws others × (log ≡ first ++ others)

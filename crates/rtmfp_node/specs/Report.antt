@@ -3,7 +3,8 @@
 use Rattle.std.specs.Prelude.{ℕ, ◌+◌, true, false, List, [], ◌∷◌, ◌++◌, codes}
 use Rattle.rtmfp_host.specs.declared.link.LinkCall.{LinkCall}
 use Rattle.rtmfp_host.specs.declared.link.LinkCall.TheVariants.{Bind, Receive, Send}
-use Rattle.endpoint_model.specs.Event.{Answer, Began, Searching, Done, NotOpened, NotSought, Refused, NotAdded, Stopped, OutOfMemory, Event}
+use Rattle.endpoint_model.specs.Event.{Answer, Began, Searching, Done, Succeeds, NotOpened, NotSought, Refused, NotAdded, Stopped, OutOfMemory, Event}
+use Rattle.endpoint_laws.specs.Contexts.{Secrets}
 use Rattle.rtmfp_text.specs.Words.{number_field_text}
 use Rattle.rtmfp_report.specs.EntryText.{entries_text, sent_after}
 use Rattle.rtmfp_report.specs.LineText.{line_text}
@@ -20,21 +21,22 @@ refused_text turn (Refused refusal) = refused_line turn self_name (call_refusal_
 refused_text turn (Began n) = []
 refused_text turn (Searching near) = []
 refused_text turn Done = []
+refused_text turn (Succeeds generation) = []
 refused_text turn (NotAdded refusal) = []
 refused_text turn (Stopped stop) = []
 refused_text turn OutOfMemory = []
 
 -- The lines of an event, where so many datagrams went out before: one for each entry, and one where
 -- the call was refused.
-abbrev pub event_text : List ℕ → ℕ → ℕ → Event → List ℕ
-event_text secret turn count e =
-    entries_text secret [] turn self_name count e.entries ++ refused_text turn e.answer
+abbrev pub event_text : Secrets → ℕ → ℕ → Event → List ℕ
+event_text secrets turn count e =
+    entries_text secrets [] turn self_name count e.entries ++ refused_text turn e.answer
 
 -- the lines of events, one after another
-abbrev pub events_text : List ℕ → ℕ → ℕ → List Event → List ℕ
-events_text secret turn count [] = []
-events_text secret turn count (e ∷ log) =
-    event_text secret turn count e ++ events_text secret turn (sent_after count e.entries) log
+abbrev pub events_text : Secrets → ℕ → ℕ → List Event → List ℕ
+events_text secrets turn count [] = []
+events_text secrets turn count (e ∷ log) =
+    event_text secrets turn count e ++ events_text secrets turn (sent_after count e.entries) log
 
 -- the line of a datagram that was lost, by its number
 unfoldable pub unsent_line : ℕ → ℕ → List ℕ

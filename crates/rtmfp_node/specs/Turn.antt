@@ -9,10 +9,12 @@ use Rattle.rtmfp_host.specs.declared.link.LinkCall.TheVariants.{Bind, Receive, S
 use Rattle.endpoint_model.specs.declared.entry.Entry.{Entry}
 use Rattle.endpoint_model.specs.Event.{Event}
 use Rattle.endpoint_model.specs.Views.{Sending, out_in}
+use Rattle.endpoint_laws.specs.Contexts.{Secrets}
 use Rattle.rtmfp_report.specs.EntryText.{sent_after}
+use Rattle.rtmfp_report.specs.KeptKeys.{given_secrets}
 use Rattle.rtmfp_words.specs.Node.{Serving}
 use Rattle.rtmfp_node.specs.Outside.{Told}
-use Rattle.rtmfp_node.specs.Events.{AreOpened, AreTurnEvents, draws_of, entries_of}
+use Rattle.rtmfp_node.specs.Events.{AreWholeEvents, AreZeroEvents, draws_of, entries_of}
 use Rattle.rtmfp_node.specs.Report.{events_text, unsent_text}
 
 -- ---- sends
@@ -34,10 +36,14 @@ AreSends (out ∷ outs) sends = (done : Bool) × (later : List LinkCall) ×
 
 -- ---- turn 0 and the others
 
--- Turn 0, with its events: a moment; a draw and an open for each opening; their report; a send for
--- each datagram.
+-- the group's secrets that the words have: that of generation 0, and that of generation 1
+abbrev pub secrets_of : Serving → Secrets
+secrets_of v = given_secrets v.group v.next
+
+-- Turn 0, with its events: a moment; a learn, where there is a next secret; a draw and an open for
+-- each opening; their report; a send for each datagram.
 pub record TurnZero (v : Serving) (before after : Told) (log : List Event) : Type 0 where
-  pub events : AreOpened v.openings (next_moment before.clock) before.blocks log
+  pub events : AreZeroEvents v.next v.openings (next_moment before.clock) before.blocks log
   pub sends : List LinkCall
   pub sent : AreSends (outs_in (entries_of log)) sends
   pub left : after.line.left ≡ before.line.left
@@ -45,7 +51,7 @@ pub record TurnZero (v : Serving) (before after : Told) (log : List Event) : Typ
   pub clock : after.clock ≡ after_moment before.clock
   pub blocks : after.blocks ≡ drop (length v.openings) before.blocks
   pub text : Appends before.text after.text
-      (events_text v.group 0 0 log ++ unsent_text 0 0 sends)
+      (events_text (secrets_of v) 0 0 log ++ unsent_text 0 0 sends)
 
 -- a receive waits 50 ms at most
 abbrev pub until_of : ℕ → ℕ
@@ -72,12 +78,12 @@ after_draws drawn before = record {
   text = before.text;
 }
 
--- A turn with this number, before which so many datagrams went out, with its events: a draw, a
--- moment, a receive, a second moment; the calls of the end at that; their report; a send for each
--- datagram.
+-- A turn with this number, before which so many datagrams went out, with its events: an advance,
+-- where this is its turn; a draw, a moment, a receive, a second moment; the calls of the end at
+-- that; their report; a send for each datagram.
 pub record Turn (v : Serving) (turn count : ℕ) (before after : Told) (log : List Event)
     : Type 0 where
-  pub events : AreTurnEvents v.send (next_given before.line.left)
+  pub events : AreWholeEvents v.advance turn v.send (next_given before.line.left)
       (next_moment (after_moment before.clock)) (draws_of (next_block before.blocks)) log
   pub sends : List LinkCall
   pub sent : AreSends (outs_in (entries_of log)) sends
@@ -87,7 +93,7 @@ pub record Turn (v : Serving) (turn count : ℕ) (before after : Told) (log : Li
   pub clock : after.clock ≡ after_moment (after_moment before.clock)
   pub blocks : after.blocks ≡ drop 1 before.blocks
   pub text : Appends before.text after.text
-      (events_text v.group turn count log ++ unsent_text turn count sends)
+      (events_text (secrets_of v) turn count log ++ unsent_text turn count sends)
 
 -- so many turns from turn 1 on, one after another, with their events
 abbrev pub Turns : Serving → ℕ → ℕ → Told → Told → List Event → Type 0

@@ -6,6 +6,7 @@ use Rattle.endpoint_model.specs.Event.{Setup, Event}
 use Rattle.endpoint_model.specs.State.{State, fresh}
 use Rattle.endpoint_model.specs.Log.{StandsFor}
 use Rattle.endpoint_laws.specs.Contexts.{Secrets, Knows}
+use Rattle.endpoint_laws.specs.Past.{past_of_log}
 use Rattle.endpoint_laws.specs.Lawful.{IsLawful}
 use Rattle.rtmfp_report.specs.EntryText.{sent_after}
 use Rattle.rtmfp_words.specs.Node.{Serving}
@@ -27,7 +28,7 @@ abbrev pub config_of : Serving → Config
 config_of v = record { max_peers = 65536; max_sessions = 4096; introduces = v.introduce }
 
 -- The certificate and the cookie secret come of the first block. The words have the group's secret,
--- which is that of its first generation.
+-- which is that of its first generation; the next one is learnt in turn 0.
 abbrev pub setup_of : Serving → List ℕ → Setup
 setup_of v block = record {
   config = config_of v;
@@ -40,14 +41,14 @@ setup_of v block = record {
 -- ---- runs
 
 -- A run of so many turns, with a log that the end stands for in the end, and that is lawful for
--- whatever secrets of a group among which the end's is.
+-- whatever secrets of a group among which those are that the end was given and learnt.
 pub record Ran (v : Serving) (turns : ℕ) (before after : Told) : Type 0 where
   pub log : List Event
   pub state : State
   pub run : Run v turns before after log
   pub stands : StandsFor (setup_of v (next_block before.blocks)) log state
-  pub lawful : (secrets : Secrets) → Knows secrets (setup_of v (next_block before.blocks)) →
-      IsLawful secrets (setup_of v (next_block before.blocks)) log
+  pub lawful : (secrets : Secrets) → Knows secrets (setup_of v (next_block before.blocks))
+      (past_of_log log) → IsLawful secrets (setup_of v (next_block before.blocks)) log
 
 -- How a run ends before turn 0 is done. A random source that fails has failed at the first draw, and
 -- then all is as it was, or at that of an opening, after the bind. A bind that fails comes after the

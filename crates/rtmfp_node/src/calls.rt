@@ -1,8 +1,8 @@
 //! The calls of the end, each with its report.
-ghost use Rattle.std.specs.Prelude.{◌≡◌, ◌≤◌, ◌∷◌, [], OnOk, drop, length};
+ghost use Rattle.std.specs.Prelude.{◌≡◌, ◌≤◌, ◌∷◌, [], IsSome, OnErr, OnOk, drop, length};
 ghost use Rattle.endpoint_model.specs.Event.{Done, Receive, Tick};
-ghost use Rattle.rtmfp_node.specs.Acting.{ActsIn, DidCall, DidOpen, added, noted_more};
-ghost use Rattle.rtmfp_node.specs.Events.{event_of, opens_flow, queues};
+ghost use Rattle.rtmfp_node.specs.Acting.{ActsIn, DidCall, DidOpen, Succeeded, added, noted_more};
+ghost use Rattle.rtmfp_node.specs.Events.{advance_call, event_of, learn_call, opens_flow, queues};
 
 use crate::notes::Notes;
 use endpoint::sizes::{are_bytes, are_sized, are_thirty_two};
@@ -138,6 +138,53 @@ fn seek_name(
     let answer = end.seek(name, &candidates, moment, draws, out);
     note(0, before, out, notes)?;
     notes.settle_seek(0, answer)?;
+    Ok(())
+}
+
+/// Learns the secret of the next generation in turn 0, where there is one.
+pub(crate) fn learn(
+    end: &mut Endpoint,
+    next: &Option<[u8; 32]>,
+    out: &mut Outbox,
+    notes: &mut Notes,
+) -> Result<(), AllocError>
+    ensures done { OnOk result (Succeeded (learn_call next.now) 0 end.old end.new out.old.entries
+        out.new.entries notes.old notes.new) }
+    ensures asked { OnErr result (IsSome next.now) }
+{
+    let Some(secret) = next else {
+        return Ok(());
+    };
+    are_thirty_two(secret);
+    let before = out.entries().len();
+    let answer = end.learn(*secret, out);
+    note(0, before, out, notes)?;
+    notes.settle_succession(0, answer)?;
+    Ok(())
+}
+
+/// Goes over to the next generation, where this is the turn for it.
+pub(crate) fn advance(
+    end: &mut Endpoint,
+    at: Option<u64>,
+    turn: u64,
+    out: &mut Outbox,
+    notes: &mut Notes,
+) -> Result<(), AllocError>
+    ensures done { OnOk result (Succeeded (advance_call at turn) turn end.old end.new
+        out.old.entries out.new.entries notes.old notes.new) }
+    ensures asked { OnErr result (IsSome (advance_call at turn)) }
+{
+    let Some(at) = at else {
+        return Ok(());
+    };
+    if at != turn {
+        return Ok(());
+    }
+    let before = out.entries().len();
+    let answer = end.advance(out);
+    note(turn, before, out, notes)?;
+    notes.settle_succession(turn, answer)?;
     Ok(())
 }
 

@@ -6,6 +6,7 @@ ghost use Rattle.std.specs.Prelude.{◌≡◌, ◌∷◌, ◌++◌, ◌+◌, ◌
 ghost use Rattle.glare_core.specs.declared.facts.Joined.{Joined};
 ghost use Rattle.glare_core.specs.declared.facts.Fact.TheVariants.{Born, Opened};
 ghost use Rattle.rtmfp_forms.specs.Address.{AddressParts};
+ghost use Rattle.rtmfp_host.specs.declared.link.Given.{Given};
 ghost use Rattle.rtmfp_host.specs.declared.link.Given.TheVariants.{Datagram, Quiet};
 ghost use Rattle.rtmfp_host.specs.declared.link.LinkCall.{LinkCall};
 ghost use Rattle.rtmfp_host.specs.declared.link.LinkCall.TheVariants.{Bind, Send};
@@ -13,15 +14,15 @@ ghost use Rattle.endpoint_model.specs.declared.answers.OpenRefusal.TheVariants.{
 ghost use Rattle.glare_core.specs.declared.answers.StartRefusal.TheVariants.{AttemptsSpent};
 ghost use Rattle.endpoint_model.specs.declared.entry.Entry.TheVariants.{Closed, Fact as FactEntry};
 ghost use Rattle.endpoint_model.specs.declared.config.Draws.{Draws};
-ghost use Rattle.endpoint_model.specs.Event.{Event, NotOpened, Open, Receive, Seek, Tick};
+ghost use Rattle.endpoint_model.specs.Event.{Advance, Event, Learn, NotOpened, Open, Receive, Seek, Tick};
 ghost use Rattle.endpoint_model.specs.FlowCall.{OpenFlow, Queue};
 ghost use Rattle.rtmfp_words.specs.Node.{Serving};
 ghost use Rattle.rtmfp_words.specs.declared.opening_words.OpeningWords.{OpeningWords};
 ghost use Rattle.rtmfp_words.specs.declared.opening_words.Whom.TheVariants.{Print, Name};
 ghost use Rattle.rtmfp_node.specs.declared.served.Served.TheVariants.{EntropyFault, LinkFault};
-ghost use Rattle.rtmfp_node.specs.Calls.{calls_in, first_added, message_calls, opening_calls};
+ghost use Rattle.rtmfp_node.specs.Calls.{asked, calls_in, first_added, message_calls, opening_calls};
 ghost use Rattle.rtmfp_node.specs.Cut.{IsPart, LinesSoFar};
-ghost use Rattle.rtmfp_node.specs.Events.{AreOpened, AreTurnEvents, draws_of, opened_in, opening_call, opens_flow, queues};
+ghost use Rattle.rtmfp_node.specs.Events.{AreOpened, AreTurnEvents, AreWholeEvents, AreZeroEvents, advance_call, draws_of, learn_call, opened_in, opening_call, opens_flow, queues};
 ghost use Rattle.rtmfp_node.specs.Outside.{Told};
 ghost use Rattle.rtmfp_node.specs.Report.{refused_text, unsent_line, unsent_text};
 ghost use Rattle.rtmfp_node.specs.Turn.{until_of};
@@ -156,4 +157,29 @@ pub fn lines_are_told_of_self()
     ensures numbers { (a : AddressParts) (b : List ℕ) → unsent_text 7 10
         (Send a b false ∷ Send a b true ∷ Send a b false ∷ [])
         ≡ unsent_line 7 11 ++ (unsent_line 7 13 ++ []) }
+{}
+
+/// An end learns the next secret in turn 0 where the words have one, and goes over to it in their turn
+/// alone.
+pub fn an_end_goes_over_in_its_turn()
+    ensures next { (secret : List ℕ) → learn_call (Some secret) ≡ Some (Learn secret) }
+    ensures alone { learn_call None ≡ None }
+    ensures before { advance_call (Some 7) 6 ≡ None }
+    ensures at { advance_call (Some 7) 7 ≡ Some Advance }
+    ensures after { advance_call (Some 7) 8 ≡ None }
+    ensures never { (turn : ℕ) → advance_call None turn ≡ None }
+{}
+
+/// In turn 0 the next secret is learnt before the openings, and an end goes over to it before all
+/// else that it does in its turn.
+pub fn what_succeeds_comes_first()
+    ensures zero { (next : Option (List ℕ)) (openings : List OpeningWords) (moment : ℕ)
+        (blocks : List (List ℕ)) (log : List Event) →
+        AreZeroEvents next openings moment blocks log →
+        calls_in log ≡ asked (learn_call next) ++ opening_calls openings blocks }
+    ensures turn { (advance : Option ℕ) (turn : ℕ) (message : Option (List ℕ)) (given : Given)
+        (moment : ℕ) (draws : Draws) (log : List Event) →
+        AreWholeEvents advance turn message given moment draws log →
+        (others : List Event) × AreTurnEvents message given moment draws others ×
+        (calls_in log ≡ asked (advance_call advance turn) ++ calls_in others) }
 {}

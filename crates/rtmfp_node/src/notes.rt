@@ -2,13 +2,15 @@
 ghost use Rattle.std.specs.Prelude.{◌≡◌, ◌++◌, OnOk, false};
 ghost use Rattle.endpoint_model.specs.Event.{NotOpened, NotSought, Refused};
 ghost use Rattle.endpoint_model.specs.Log.{answer_of_call, answer_of_open, answer_of_seek};
+ghost use Rattle.endpoint_model.specs.Log.{answer_of_succession};
+ghost use Rattle.rtmfp_report.specs.KeptKeys.{secrets_in};
 ghost use Rattle.rtmfp_node.specs.Acting.{noted_more};
 ghost use Rattle.rtmfp_node.specs.Events.{IsSettled};
 ghost use Rattle.rtmfp_node.specs.Report.{refused_text};
 
 use endpoint::{CallRefusal, Entry, OpenRefusal, SeekRefusal};
 use rtmfp_report::{
-    GroupKeys, push_call_refusal, push_entries, push_open_refusal, push_seek_refusal,
+    GroupKeys, GroupSecrets, push_call_refusal, push_entries, push_open_refusal, push_seek_refusal,
 };
 use rtmfp_text::{Directory, Name, Text};
 use std::alloc::{AllocError, Global};
@@ -17,7 +19,7 @@ use std::marker::Model;
 /// The text of a turn's report, and what it is made with: the keys of the group, and how many
 /// datagrams went out so far.
 ///
-/// Contracts see the group's secret, the count and the text.
+/// Contracts see the group's secrets, the count and the text.
 #[derive(Drop)]
 pub(crate) struct Notes {
     keys: GroupKeys,
@@ -30,12 +32,14 @@ pub(crate) struct Notes {
 
 impl Model for Notes {
     ghost use Rattle.std.specs.Prelude.{◌≡◌, []};
-    ghost use Rattle.rtmfp_node.specs.Acting.{Noted};
+    ghost use Rattle.rtmfp_node.specs.Acting.{Noted, noted_code};
     ghost use Rattle.rtmfp_node.specs.Report.{self_name};
 
     ghost Value = { Noted };
 
-    ghost view = { λ n. record { secret = n.keys; count = n.count; text = n.text } };
+    ghost coded = { noted_code };
+
+    ghost view = { λ n. record { secrets = n.keys; count = n.count; text = n.text } };
 
     ghost invariant = { λ n. (n.ends ≡ []) × (n.name ≡ self_name) };
 }
@@ -44,14 +48,14 @@ impl Notes {
     ghost use Rattle.std.specs.Prelude.{[]};
 
     /// No text yet, and nothing that went out.
-    pub(crate) fn new(alloc: Global, secret: &[u8; 32]) -> Notes
-        ensures { result ≡ record { secret = secret.now; count = 0; text = [] } }
+    pub(crate) fn new(alloc: Global, secrets: GroupSecrets) -> Notes
+        ensures { result ≡ record { secrets = secrets_in secrets; count = 0; text = [] } }
     {
         let Some(name) = Name::new(b"self") else {
             unreachable!();
         };
         Notes {
-            keys: GroupKeys::of(alloc, secret),
+            keys: GroupKeys::of(alloc, secrets),
             ends: Directory::new(alloc),
             name,
             scratch: Vec::new(alloc),
@@ -77,7 +81,7 @@ impl Notes {
     /// Begins a text.
     pub(crate) fn clear(&mut self)
         ensures { self.new ≡ record {
-          secret = self.old.secret;
+          secrets = self.old.secrets;
           count = self.old.count;
           text = [];
         } }
@@ -110,7 +114,7 @@ impl Notes {
     ) -> Result<(), AllocError>
         ensures settled { OnOk result (IsSettled (answer_of_open answer)) }
         ensures text { OnOk result (self.new ≡ record {
-          secret = self.old.secret;
+          secrets = self.old.secrets;
           count = self.old.count;
           text = self.old.text ++ refused_text turn (answer_of_open answer);
         }) }
@@ -130,7 +134,7 @@ impl Notes {
 
     fn push_open(&mut self, turn: u64, refusal: &OpenRefusal) -> Result<(), AllocError>
         ensures { OnOk result (self.new ≡ record {
-          secret = self.old.secret;
+          secrets = self.old.secrets;
           count = self.old.count;
           text = self.old.text ++ refused_text turn (NotOpened refusal.now);
         }) }
@@ -146,7 +150,7 @@ impl Notes {
     ) -> Result<(), AllocError>
         ensures settled { OnOk result (IsSettled (answer_of_seek answer)) }
         ensures text { OnOk result (self.new ≡ record {
-          secret = self.old.secret;
+          secrets = self.old.secrets;
           count = self.old.count;
           text = self.old.text ++ refused_text turn (answer_of_seek answer);
         }) }
@@ -165,12 +169,37 @@ impl Notes {
 
     fn push_seek(&mut self, turn: u64, refusal: &SeekRefusal) -> Result<(), AllocError>
         ensures { OnOk result (self.new ≡ record {
-          secret = self.old.secret;
+          secrets = self.old.secrets;
           count = self.old.count;
           text = self.old.text ++ refused_text turn (NotSought refusal.now);
         }) }
     {
         push_seek_refusal(turn, &self.name, refusal, &mut self.text)
+    }
+
+    /// Adds the line of a learn or an advance that was refused, where it was. Want of memory ends
+    /// the run.
+    pub(crate) fn settle_succession(
+        &mut self,
+        turn: u64,
+        answer: Result<u64, CallRefusal>,
+    ) -> Result<(), AllocError>
+        ensures settled { OnOk result (IsSettled (answer_of_succession answer)) }
+        ensures text { OnOk result (self.new ≡ record {
+          secrets = self.old.secrets;
+          count = self.old.count;
+          text = self.old.text ++ refused_text turn (answer_of_succession answer);
+        }) }
+    {
+        match answer {
+            Ok(_) => Ok(()),
+            Err(refusal) => {
+                if is_want(&refusal) {
+                    return Err(AllocError);
+                }
+                push_call_refusal(turn, &self.name, &refusal, &mut self.text)
+            }
+        }
     }
 
     /// Adds the line of a call on a flow that was refused, where it was. Want of memory ends the
@@ -182,7 +211,7 @@ impl Notes {
     ) -> Result<(), AllocError>
         ensures settled { OnOk result (IsSettled (answer_of_call answer)) }
         ensures text { OnOk result (self.new ≡ record {
-          secret = self.old.secret;
+          secrets = self.old.secrets;
           count = self.old.count;
           text = self.old.text ++ refused_text turn (answer_of_call answer);
         }) }
@@ -213,5 +242,9 @@ fn is_want(refusal: &CallRefusal) -> bool
         CallRefusal::Queue(_) => false,
         CallRefusal::NotQueued => false,
         CallRefusal::Finished => false,
+        CallRefusal::NextKnown(_) => false,
+        CallRefusal::GenerationsSpent => false,
+        CallRefusal::SameSecret => false,
+        CallRefusal::NoNext => false,
     }
 }

@@ -9,6 +9,7 @@ ghost use Rattle.rtmfp_host.specs.Linking.{Calls, LinkSeen};
 ghost use Rattle.rtmfp_words.specs.Node.{IsNodeName};
 ghost use Rattle.rtmfp_node.specs.Acting.{Drew, TurnsEnd};
 ghost use Rattle.rtmfp_node.specs.Outside.{Counted, PassesOn, outside};
+ghost use Rattle.rtmfp_node.specs.Turn.{secrets_of};
 ghost use Rattle.rtmfp_node.specs.Whole.{Ends, setup_of};
 
 use crate::draw::{certificate_of, cookie_secret_of, draw};
@@ -19,6 +20,7 @@ use crate::turn_zero::turn_zero;
 use endpoint::{Config, Endpoint, Outbox};
 use rtmfp_base::Memory;
 use rtmfp_host::{Bound, Entropy, Link, Moments, Sink};
+use rtmfp_report::GroupSecrets;
 use rtmfp_text::Text;
 use rtmfp_words::ServeWords;
 use std::alloc::Global;
@@ -40,12 +42,14 @@ const ROOM: u32 = 1_024;
 /// its turns.
 ///
 /// Of the first block that is drawn, bytes 0 to 15 begin its certificate, unless the words do, and
-/// bytes 16 to 47 are its cookie secret. In turn 0 it looks at the clock, draws a block and opens
-/// an attempt for each opening in its order, writes their report, and sends each datagram. A turn
-/// is a draw, a look at the clock, a receive of the link until 50 ms later, and a second look;
-/// then, at this moment, the end takes the datagram that came, opens a flow and queues the message
-/// in each session that it opened, where the words have one, and does what is due; the report is
-/// written, and each datagram is sent. One that can't be sent is lost, and a line tells of it.
+/// bytes 16 to 47 are its cookie secret. In turn 0 it looks at the clock, learns the secret of the
+/// next generation, where the words have one, draws a block and opens an attempt for each opening in
+/// its order, writes their report, and sends each datagram. A turn is an advance to that
+/// generation, where the words have it in this turn, a draw, a look at the clock, a receive of the
+/// link until 50 ms later, and a second look; then, at this moment, the end takes the datagram that
+/// came, opens a flow and queues the message in each session that it opened, where the words have
+/// one, and does what is due; the report is written, and each datagram is sent. One that can't be
+/// sent is lost, and a line tells of it.
 ///
 /// The first event in the order of the run gives the answer. With `Done` all turns were taken. With
 /// `LinkFault` the bind or a receive failed, with `EntropyFault` a draw, and the turns before stand
@@ -97,7 +101,7 @@ fn serve_node<L: Link, C: Moments, E: Entropy, K: Sink>(
     entropy: &mut E,
     sink: &mut K,
 ) -> Served
-    requires secret { node.notes.secret ≡ words.now.group }
+    requires secrets { node.notes.secrets ≡ secrets_of words.now }
     requires none { node.notes.count ≡ 0 }
     ensures ends { (block : List ℕ) (before : LinkSeen) (blocks : EntropySeen) →
         IsSetup (setup_of words.now block) → StandsFor (setup_of words.now block) [] node.end →
@@ -126,7 +130,7 @@ fn take_all<L: Link, C: Moments, E: Entropy, K: Sink>(
     entropy: &mut E,
     sink: &mut K,
 ) -> Served
-    requires secret { node.old.notes.secret ≡ words.now.group }
+    requires secrets { node.old.notes.secrets ≡ secrets_of words.now }
     requires none { node.old.notes.count ≡ 0 }
     ensures ends { (block : List ℕ) (before : LinkSeen) (blocks : EntropySeen) →
         IsSetup (setup_of words.now block) → StandsFor (setup_of words.now block) [] node.old.end →
@@ -156,11 +160,12 @@ fn node_of(alloc: Global, words: &ServeWords, block: &[u8; 64]) -> Result<Node, 
     ensures fresh { IfOk result (λ node. node.end ≡ fresh (setup_of words.now block.now)) }
     ensures sized { IfOk result (λ node. IsSetup (setup_of words.now block.now)) }
     ensures notes { IfOk result (λ node. node.notes ≡ record {
-      secret = words.now.group;
+      secrets = secrets_of words.now;
       count = 0;
       text = [];
     }) }
 {
+    let early = Outbox::new(alloc, 1)?;
     let heard = Outbox::new(alloc, ROOM)?;
     let out = Outbox::new(alloc, ROOM)?;
     let config = Config {
@@ -180,9 +185,16 @@ fn node_of(alloc: Global, words: &ServeWords, block: &[u8; 64]) -> Result<Node, 
             secret,
             cookie_secret,
         ),
+        early,
         heard,
         out,
-        notes: Notes::new(alloc, &secret),
+        notes: Notes::new(
+            alloc,
+            GroupSecrets::Given {
+                first: secret,
+                next: words.next,
+            },
+        ),
         lost: Text::new(alloc),
     })
 }
@@ -204,7 +216,7 @@ fn take_turns<L: Link, C: Moments, E: Entropy, K: Sink>(
     entropy: &mut E,
     sink: &mut K,
 ) -> Served
-    requires { node.old.notes.secret ≡ words.now.group }
+    requires { node.old.notes.secrets ≡ secrets_of words.now }
     ensures ends { TurnsEnd result words.now node.old.notes.count node.old.end node.new.end
         node.new.notes.count
         (outside (L.seen link.old) (C.seen clock.old) (E.seen entropy.old) (K.seen sink.old))

@@ -1,11 +1,14 @@
 //! A turn of a node.
-ghost use Rattle.std.specs.Prelude.{◌≡◌, ℕ, List, ◌++◌, IsSome, OnOk, true, false};
+ghost use Rattle.std.specs.Prelude.{◌≡◌, ℕ, List, [], ◌++◌, IsSome, OnErr, OnOk, true, false};
 ghost use Rattle.rtmfp_host.specs.Faults.{CountsGot};
 ghost use Rattle.rtmfp_host.specs.Linking.{Fits, given_by};
-ghost use Rattle.rtmfp_node.specs.Acting.{ActedOn, TurnEnds, begun};
+ghost use Rattle.rtmfp_node.specs.Acting.{ActedOn, Succeeded, TurnEnds, begun};
+ghost use Rattle.rtmfp_node.specs.Events.{advance_call};
+ghost use Rattle.rtmfp_node.specs.Turn.{secrets_of};
 ghost use Rattle.rtmfp_node.specs.Outside.{Counted, PassesOn, outside};
 
 use crate::acting::act;
+use crate::calls::advance;
 use crate::draw::{draw, draws_of};
 use crate::notes::Notes;
 use crate::sending::emit;
@@ -24,6 +27,8 @@ const WAIT: u64 = 50;
 #[derive(Drop)]
 pub(crate) struct Node {
     pub(crate) end: Endpoint,
+    /// What an advance added.
+    pub(crate) early: Outbox,
     /// What a datagram added.
     pub(crate) heard: Outbox,
     /// What other calls added.
@@ -34,8 +39,9 @@ pub(crate) struct Node {
     pub(crate) lost: Text,
 }
 
-/// Takes a turn: draws, waits for a datagram, has the end take it and do what is due, writes what
-/// it did, and sends what goes out.
+/// Takes a turn: has the end go over to the next generation, where this is the turn for it; draws,
+/// waits for a datagram, has the end take it and do what is due, writes what it did, and sends what
+/// goes out.
 pub(crate) fn turn<L: Link, C: Moments, E: Entropy, K: Sink>(
     words: &ServeWords,
     turn: u64,
@@ -46,7 +52,7 @@ pub(crate) fn turn<L: Link, C: Moments, E: Entropy, K: Sink>(
     entropy: &mut E,
     sink: &mut K,
 ) -> Served
-    requires { node.old.notes.secret ≡ words.now.group }
+    requires { node.old.notes.secrets ≡ secrets_of words.now }
     ensures ends { TurnEnds result words.now turn node.old.notes.count node.old.end node.new.end
         node.new.notes.count
         (outside (L.seen link.old) (C.seen clock.old) (E.seen entropy.old) (K.seen sink.old))
@@ -57,8 +63,12 @@ pub(crate) fn turn<L: Link, C: Moments, E: Entropy, K: Sink>(
     ensures passed { PassesOn result
         (outside (L.seen link.old) (C.seen clock.old) (E.seen entropy.old) (K.seen sink.old))
         (outside (L.seen link.new) (C.seen clock.new) (E.seen entropy.new) (K.seen sink.new)) }
-    ensures secret { result ≡ Served.Done → node.new.notes.secret ≡ words.now.group }
+    ensures secrets { result ≡ Served.Done → node.new.notes.secrets ≡ secrets_of words.now }
 {
+    let count = node.notes.count();
+    let Ok(()) = begin(node, words.advance, turn) else {
+        return Served::Memory;
+    };
     let Some(block) = draw(entropy) else {
         return Served::EntropyFault;
     };
@@ -69,8 +79,7 @@ pub(crate) fn turn<L: Link, C: Moments, E: Entropy, K: Sink>(
         return Served::LinkFault;
     }
     let moment = clock.now();
-    let count = node.notes.count();
-    let Ok(()) = act_anew(node, got, buf, moment, &draws, &words.send, turn) else {
+    let Ok(()) = act_on(node, got, buf, moment, &draws, &words.send, turn) else {
         return Served::Memory;
     };
     emit(
@@ -85,8 +94,30 @@ pub(crate) fn turn<L: Link, C: Moments, E: Entropy, K: Sink>(
     )
 }
 
-/// Forgets what the turn before did, and makes the calls of this one.
-fn act_anew(
+/// Forgets what the turn before did, and has the end go over to the next generation, where this is
+/// the turn for it.
+fn begin(node: &mut Node, advance_at: Option<u64>, turn: u64) -> Result<(), AllocError>
+    ensures heard { OnOk result (node.new.heard.entries ≡ []) }
+    ensures out { OnOk result (node.new.out.entries ≡ []) }
+    ensures advanced { OnOk result (Succeeded (advance_call advance_at turn) turn node.old.end
+        node.new.end [] node.new.early.entries (begun node.old.notes) node.new.notes) }
+    ensures asked { OnErr result (IsSome (advance_call advance_at turn)) }
+{
+    node.early.clear();
+    node.heard.clear();
+    node.out.clear();
+    node.notes.clear();
+    advance(
+        &mut node.end,
+        advance_at,
+        turn,
+        &mut node.early,
+        &mut node.notes,
+    )
+}
+
+/// Makes the calls of a turn.
+fn act_on(
     node: &mut Node,
     got: Got,
     buf: &mut [u8; 2048],
@@ -95,14 +126,13 @@ fn act_anew(
     message: &Option<Message>,
     turn: u64,
 ) -> Result<(), AllocError>
-    requires { Fits got }
+    requires fits { Fits got }
+    requires heard { node.old.heard.entries ≡ [] }
+    requires out { node.old.out.entries ≡ [] }
     ensures { OnOk result (ActedOn message.now (given_by got buf.old) moment draws.now turn
         node.old.end node.new.end (node.new.heard.entries ++ node.new.out.entries)
-        (begun node.old.notes) node.new.notes) }
+        node.old.notes node.new.notes) }
 {
-    node.heard.clear();
-    node.out.clear();
-    node.notes.clear();
     act(
         &mut node.end,
         got,

@@ -2,8 +2,9 @@
 ghost use Rattle.std.specs.Prelude.{◌≡◌};
 ghost use Rattle.rtmfp_node.specs.Acting.{DrawnAt, OpensEnd, ZeroEnds};
 ghost use Rattle.rtmfp_node.specs.Outside.{Counted, PassesOn, outside};
+ghost use Rattle.rtmfp_node.specs.Turn.{secrets_of};
 
-use crate::calls::open;
+use crate::calls::{learn, open};
 use crate::draw::{draw, draws_of};
 use crate::notes::Notes;
 use crate::sending::emit;
@@ -13,7 +14,8 @@ use endpoint::{Endpoint, Outbox};
 use rtmfp_host::{Entropy, Link, Moments, Sink};
 use rtmfp_words::{OpeningWords, ServeWords};
 
-/// Takes turn 0: makes the openings, writes what they did, and sends what goes out.
+/// Takes turn 0: learns the next secret, where there is one, makes the openings, writes what was
+/// done, and sends what goes out.
 pub(crate) fn turn_zero<L: Link, C: Moments, E: Entropy, K: Sink>(
     words: &ServeWords,
     node: &mut Node,
@@ -22,7 +24,7 @@ pub(crate) fn turn_zero<L: Link, C: Moments, E: Entropy, K: Sink>(
     entropy: &mut E,
     sink: &mut K,
 ) -> Served
-    requires secret { node.old.notes.secret ≡ words.now.group }
+    requires secrets { node.old.notes.secrets ≡ secrets_of words.now }
     requires none { node.old.notes.count ≡ 0 }
     ensures ends { ZeroEnds result words.now node.old.end node.new.end node.new.notes.count
         (outside (L.seen link.old) (C.seen clock.old) (E.seen entropy.old) (K.seen sink.old))
@@ -33,12 +35,15 @@ pub(crate) fn turn_zero<L: Link, C: Moments, E: Entropy, K: Sink>(
     ensures passed { PassesOn result
         (outside (L.seen link.old) (C.seen clock.old) (E.seen entropy.old) (K.seen sink.old))
         (outside (L.seen link.new) (C.seen clock.new) (E.seen entropy.new) (K.seen sink.new)) }
-    ensures secret { result ≡ Served.Done → node.new.notes.secret ≡ words.now.group }
+    ensures secrets { result ≡ Served.Done → node.new.notes.secrets ≡ secrets_of words.now }
 {
     let moment = clock.now();
     node.heard.clear();
     node.out.clear();
     node.notes.clear();
+    let Ok(()) = learn(&mut node.end, &words.next, &mut node.out, &mut node.notes) else {
+        return Served::Memory;
+    };
     let served = open_all(
         &mut node.end,
         words.openings.as_slice(),

@@ -3,3 +3,4 @@ pub mod Deciphered
 pub mod Fronts
 pub mod Lone
 pub mod OnlyKind
+pub mod Secrets

@@ -2,8 +2,9 @@
 use Rattle.std.specs.Prelude.{ℕ, ◌+◌, List, [], ◌∷◌, ◌++◌, Option, Some, None, codes, length}
 use Rattle.rtmfp_base.specs.declared.cause.Cause.{Cause}
 use Rattle.endpoint_model.specs.declared.entry.Entry.{Entry}
-use Rattle.endpoint_model.specs.declared.entry.Entry.TheVariants.{Fact as FactEntry, Closed, Sought, Unsought, Moved, FlowOpened, Queued, Finished, Abandoned, Handed, Discard, Out}
+use Rattle.endpoint_model.specs.declared.entry.Entry.TheVariants.{Fact as FactEntry, Closed, Sought, Unsought, Moved, Learnt, Advanced, FlowOpened, Queued, Finished, Abandoned, Handed, Discard, Out}
 use Rattle.endpoint_model.specs.Views.{Sending, out_in}
+use Rattle.endpoint_laws.specs.Contexts.{Secrets}
 use Rattle.glare_core.specs.declared.facts.Why.{Why}
 use Rattle.rtmfp_forms.specs.Address.{AddressParts}
 use Rattle.rtmfp_text.specs.AddressText.{address_text}
@@ -32,6 +33,14 @@ unsought_text near why =
 unfoldable pub moved_text : ℕ → AddressParts → List ℕ
 moved_text near to =
     text_of (number_field_text (codes "moved near=") near ∷ codes " " ∷ address_text to ∷ [])
+
+-- a generation of the group's secret that was learnt
+unfoldable pub learnt_text : ℕ → List ℕ
+learnt_text generation = number_field_text (codes "learnt ") generation
+
+-- one that became the current one
+unfoldable pub advanced_text : ℕ → List ℕ
+advanced_text generation = number_field_text (codes "advanced ") generation
 
 -- a flow that was opened
 unfoldable pub flow_opened_text : ℕ → ℕ → List ℕ
@@ -68,35 +77,37 @@ counted_out sent (Some out) = sent + 1
 abbrev pub counted_after : ℕ → Entry → ℕ
 counted_after sent entry = counted_out sent (out_in entry)
 
--- What an entry tells. A datagram that goes out has this number.
-abbrev pub told_text : List ℕ → List Named → ℕ → Entry → List ℕ
-told_text secret ends number (FactEntry fact) = fact_text ends fact
-told_text secret ends number (Closed near) = closed_text near
-told_text secret ends number (Sought near name) = sought_text near name
-told_text secret ends number (Unsought near why) = unsought_text near why
-told_text secret ends number (Moved near to) = moved_text near to
-told_text secret ends number (FlowOpened near flow) = flow_opened_text near flow
-told_text secret ends number (Queued near flow seq message) =
+-- What an entry tells, by the secrets of the group. A datagram that goes out has this number.
+abbrev pub told_text : Secrets → List Named → ℕ → Entry → List ℕ
+told_text secrets ends number (FactEntry fact) = fact_text ends fact
+told_text secrets ends number (Closed near) = closed_text near
+told_text secrets ends number (Sought near name) = sought_text near name
+told_text secrets ends number (Unsought near why) = unsought_text near why
+told_text secrets ends number (Moved near to) = moved_text near to
+told_text secrets ends number (Learnt generation) = learnt_text generation
+told_text secrets ends number (Advanced generation) = advanced_text generation
+told_text secrets ends number (FlowOpened near flow) = flow_opened_text near flow
+told_text secrets ends number (Queued near flow seq message) =
     queued_text near flow seq (length message)
-told_text secret ends number (Finished near flow seq) =
+told_text secrets ends number (Finished near flow seq) =
     numbered_text (codes "finished") near flow seq
-told_text secret ends number (Abandoned near flow seq) =
+told_text secrets ends number (Abandoned near flow seq) =
     numbered_text (codes "abandoned") near flow seq
-told_text secret ends number (Handed near flow seq message) = handed_text near flow seq message
-told_text secret ends number (Discard place cause) = drop_text place cause
-told_text secret ends number (Out to datagram context) = sent_text secret number to datagram context
+told_text secrets ends number (Handed near flow seq message) = handed_text near flow seq message
+told_text secrets ends number (Discard place cause) = drop_text place cause
+told_text secrets ends number (Out to datagram context) = sent_text secrets number to datagram context
 
 -- the line of an entry of the end with this name
-abbrev pub entry_text : List ℕ → List Named → ℕ → List ℕ → ℕ → Entry → List ℕ
-entry_text secret ends line name number entry =
-    line_text line name (told_text secret ends number entry)
+abbrev pub entry_text : Secrets → List Named → ℕ → List ℕ → ℕ → Entry → List ℕ
+entry_text secrets ends line name number entry =
+    line_text line name (told_text secrets ends number entry)
 
 -- the lines of entries, one after another, where so many datagrams were sent before
-abbrev pub entries_text : List ℕ → List Named → ℕ → List ℕ → ℕ → List Entry → List ℕ
-entries_text secret ends line name sent [] = []
-entries_text secret ends line name sent (entry ∷ entries) =
-    entry_text secret ends line name (counted_after sent entry) entry
-    ++ entries_text secret ends line name (counted_after sent entry) entries
+abbrev pub entries_text : Secrets → List Named → ℕ → List ℕ → ℕ → List Entry → List ℕ
+entries_text secrets ends line name sent [] = []
+entries_text secrets ends line name sent (entry ∷ entries) =
+    entry_text secrets ends line name (counted_after sent entry) entry
+    ++ entries_text secrets ends line name (counted_after sent entry) entries
 
 -- how many datagrams were sent after entries, where so many were before
 abbrev pub sent_after : ℕ → List Entry → ℕ

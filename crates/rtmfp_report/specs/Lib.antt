@@ -2,6 +2,7 @@ pub mod NonceText
 pub mod CauseText
 pub mod FactText
 pub mod KeptKeys
+pub mod Hashed
 pub mod LineText
 pub mod LoneChunk
 pub mod LostText

@@ -7,7 +7,7 @@ use Rattle.endpoint_model.specs.declared.answers.OpenRefusal.TheVariants.{Candid
 use Rattle.endpoint_model.specs.declared.answers.SeekRefusal.{SeekRefusal}
 use Rattle.endpoint_model.specs.declared.answers.SeekRefusal.TheVariants.{Candidates as WrongCount, SessionsFull as NoPlace, Memory as SeekMemory}
 use Rattle.session_flows.specs.declared.refusal.CallRefusal.{CallRefusal}
-use Rattle.session_flows.specs.declared.refusal.CallRefusal.TheVariants.{NoAttempt, NoSession, NoFlow, FlowsFull, WideMetadata, Queue, NotQueued, Finished, Memory as CallMemory}
+use Rattle.session_flows.specs.declared.refusal.CallRefusal.TheVariants.{NoAttempt, NoSession, NoFlow, FlowsFull, WideMetadata, Queue, NotQueued, Finished, NextKnown, GenerationsSpent, SameSecret, NoNext, Memory as CallMemory}
 use Rattle.flow_send.specs.declared.outcome.QueueRefusal.{QueueRefusal}
 use Rattle.flow_send.specs.declared.outcome.QueueRefusal.TheVariants.{TooLong, Backlog, Finished as QueuedNoMore, SequenceSpent, Memory as QueueMemory}
 use Rattle.introducer.specs.declared.refusal.RowRefusal.{RowRefusal}
@@ -55,6 +55,10 @@ call_refusal_text (WideMetadata size) = number_field_text (codes "wide-metadata 
 call_refusal_text (Queue refusal) = queue_refusal_text refusal
 call_refusal_text NotQueued = codes "not-queued"
 call_refusal_text Finished = codes "finished"
+call_refusal_text (NextKnown generation) = number_field_text (codes "next-known ") generation
+call_refusal_text GenerationsSpent = codes "generations-spent"
+call_refusal_text SameSecret = codes "same-secret"
+call_refusal_text NoNext = codes "no-next"
 call_refusal_text CallMemory = []
 
 -- why a row of addresses isn't added; no text for want of memory

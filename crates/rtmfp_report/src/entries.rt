@@ -1,6 +1,6 @@
 //! The lines of what ends did.
 ghost use Rattle.std.specs.Prelude.{◌≡◌, ◌++◌, IfOk, OnOk};
-ghost use Rattle.rtmfp_report.specs.EntryText.{closed_text, sought_text, unsought_text, counted_after, drop_text, entries_text, entry_text, flow_opened_text, handed_text, moved_text, numbered_text, queued_text, sent_after, told_text};
+ghost use Rattle.rtmfp_report.specs.EntryText.{advanced_text, closed_text, learnt_text, sought_text, unsought_text, counted_after, drop_text, entries_text, entry_text, flow_opened_text, handed_text, moved_text, numbered_text, queued_text, sent_after, told_text};
 
 use crate::causes::push_cause;
 use crate::facts::{push_fact, push_why};
@@ -94,6 +94,8 @@ fn push_told(
         Entry::Sought { near, name } => push_sought(u64::from(*near), name.bytes(), text),
         Entry::Unsought { near, why } => push_unsought(u64::from(*near), *why, text),
         Entry::Moved { near, to } => push_moved(u64::from(*near), to, text),
+        Entry::Learnt { generation } => push_learnt(*generation, text),
+        Entry::Advanced { generation } => push_advanced(*generation, text),
         Entry::FlowOpened { near, flow } => push_flow_opened(u64::from(*near), *flow, text),
         Entry::Queued {
             near,
@@ -157,6 +159,22 @@ fn push_moved(near: u64, to: &Address, text: &mut Text) -> Result<(), AllocError
     text.push(" ")?;
     push_address(to, text)?;
     Ok(())
+}
+
+/// Adds that a generation of the group's secret was learnt.
+#[tactic(auto, unfolding(crate::specs::EntryText::learnt_text))]
+fn push_learnt(generation: u64, text: &mut Text) -> Result<(), AllocError>
+    ensures { OnOk result (text.new ≡ text.old ++ learnt_text generation) }
+{
+    text.push_number_field("learnt ", generation)
+}
+
+/// Adds that a generation of the group's secret became the current one.
+#[tactic(auto, unfolding(crate::specs::EntryText::advanced_text))]
+fn push_advanced(generation: u64, text: &mut Text) -> Result<(), AllocError>
+    ensures { OnOk result (text.new ≡ text.old ++ advanced_text generation) }
+{
+    text.push_number_field("advanced ", generation)
 }
 
 /// Adds that a flow was opened: the session ID, and its own ID.

@@ -146,6 +146,10 @@ fn push_call_name(refusal: &CallRefusal, text: &mut Text) -> Result<(), AllocErr
         CallRefusal::Queue(refusal) => push_queue_name(refusal, text),
         CallRefusal::NotQueued => text.push("not-queued"),
         CallRefusal::Finished => text.push("finished"),
+        CallRefusal::NextKnown(generation) => text.push_number_field("next-known ", *generation),
+        CallRefusal::GenerationsSpent => text.push("generations-spent"),
+        CallRefusal::SameSecret => text.push("same-secret"),
+        CallRefusal::NoNext => text.push("no-next"),
         CallRefusal::Memory => text.push(""),
     }
 }

@@ -8,7 +8,7 @@ use Rattle.rtmfp_words.specs.Reading.{behind_of}
 use Rattle.rtmfp_words.specs.Items.{Item, Plain, Valued, Introduce, name_text, is_hyphened, ItemSpells, ItemsSpell}
 use Rattle.rtmfp_words.specs.ItemReading.{name_of, joined_of, single_of, in_front, items_of}
 use Rattle.rtmfp_words.specs.declared.scan.OptionName.{OptionName}
-use Rattle.rtmfp_words.specs.declared.scan.OptionName.TheVariants.{Turns, Port, Instance, Send}
+use Rattle.rtmfp_words.specs.declared.scan.OptionName.TheVariants.{Turns, Port, Instance, Send, Next, Advance}
 use Rattle.rtmfp_words.proofs.Texts.{if-some, either-some, behind-some}
 
 -- ---- what is read is spelled
@@ -25,9 +25,15 @@ name_of-some word name h = elim (if-some (bytes_eq word (codes "--turns")) (Some
     | inl a ↦ named word (codes "--port") Port name a.0 refl a.1
     | inr b ↦ elim (if-some (bytes_eq word (codes "--instance")) (Some Instance) _ name b.1) [
       | inl a ↦ named word (codes "--instance") Instance name a.0 refl a.1
-      | inr b ↦ elim (if-some (bytes_eq word (codes "--send")) (Some Send) None name b.1) [
+      | inr b ↦ elim (if-some (bytes_eq word (codes "--send")) (Some Send) _ name b.1) [
         | inl a ↦ named word (codes "--send") Send name a.0 refl a.1
-        | inr b ↦ absurd (let e : None ≡ Some name = b.1 in cc)
+        | inr b ↦ elim (if-some (bytes_eq word (codes "--next")) (Some Next) _ name b.1) [
+          | inl a ↦ named word (codes "--next") Next name a.0 refl a.1
+          | inr b ↦ elim (if-some (bytes_eq word (codes "--advance")) (Some Advance) None name b.1) [
+            | inl a ↦ named word (codes "--advance") Advance name a.0 refl a.1
+            | inr b ↦ absurd (let e : None ≡ Some name = b.1 in cc)
+          ]
+        ]
       ]
     ]
   ]
@@ -45,8 +51,14 @@ joined_of-some word p h = elim (either-some _ (λ value. Some (Turns, value)) (b
     | inl a ↦ found_joined word a.0 Port p (behind-some (codes "--port=") word a.0 a.1) a.2
     | inr b ↦ elim (either-some _ (λ value. Some (Instance, value)) (behind_of (codes "--instance=") word) p b) [
       | inl a ↦ found_joined word a.0 Instance p (behind-some (codes "--instance=") word a.0 a.1) a.2
-      | inr b ↦ let s = bind_some (behind_of (codes "--send=") word) (λ value. Some (Send, value)) p b in
-          found_joined word s.0 Send p (behind-some (codes "--send=") word s.0 s.1) s.2
+      | inr b ↦ elim (either-some _ (λ value. Some (Send, value)) (behind_of (codes "--send=") word) p b) [
+        | inl a ↦ found_joined word a.0 Send p (behind-some (codes "--send=") word a.0 a.1) a.2
+        | inr b ↦ elim (either-some _ (λ value. Some (Next, value)) (behind_of (codes "--next=") word) p b) [
+          | inl a ↦ found_joined word a.0 Next p (behind-some (codes "--next=") word a.0 a.1) a.2
+          | inr b ↦ let s = bind_some (behind_of (codes "--advance=") word) (λ value. Some (Advance, value)) p b in
+              found_joined word s.0 Advance p (behind-some (codes "--advance=") word s.0 s.1) s.2
+        ]
+      ]
     ]
   ]
 ]
@@ -114,6 +126,8 @@ named_first Turns value parts = refl
 named_first Port value parts = refl
 named_first Instance value parts = refl
 named_first Send value parts = refl
+named_first Next value parts = refl
+named_first Advance value parts = refl
 
 joined_name : (name : OptionName) (value : List ℕ) → name_of (name_text name ++ codes "=" ++ value) ≡ None
 unfolding name_of
@@ -121,6 +135,8 @@ joined_name Turns value = refl
 joined_name Port value = refl
 joined_name Instance value = refl
 joined_name Send value = refl
+joined_name Next value = refl
+joined_name Advance value = refl
 
 joined_single : (name : OptionName) (value : List ℕ) → single_of (name_text name ++ codes "=" ++ value) ≡ Some (Valued name value)
 unfolding single_of joined_of behind_of
@@ -128,6 +144,8 @@ joined_single Turns value = refl
 joined_single Port value = refl
 joined_single Instance value = refl
 joined_single Send value = refl
+joined_single Next value = refl
+joined_single Advance value = refl
 
 plain_name : (word : List ℕ) → is_hyphened word ≡ false → name_of word ≡ None
 unfolding name_of
@@ -144,6 +162,8 @@ name_alone Turns = refl
 name_alone Port = refl
 name_alone Instance = refl
 name_alone Send = refl
+name_alone Next = refl
+name_alone Advance = refl
 
 -- an option without its value
 pub name_last : (word : List ℕ) (name : OptionName) → name_of word ≡ Some name → items_of (word ∷ []) ≡ None

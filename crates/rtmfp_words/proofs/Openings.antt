@@ -1,8 +1,10 @@
 -- The plain words of `serve`: what is read is said, and what is said is read.
-use Rattle.std.proofs.Common.{◌≡◌, ◌≢◌, ℕ, ◌*◌, ◌<◌, ◌≤◌, ◌==◌, Bool, true, List, [], ◌∷◌, ◌++◌, length, map, Option, Some, None, refl, sym, ap, ◌∙◌, subst, arith, append_assoc, append-nil, inl, inr}
+use Rattle.std.proofs.Common.{◌≡◌, ◌≢◌, ℕ, ◌*◌, ◌<◌, ◌≤◌, ◌==◌, Bool, true, false, not, List, [], ◌∷◌, ◌++◌, length, map, Option, Some, None, refl, sym, ap, ◌∙◌, subst, arith, append_assoc, append-nil, inl, inr}
 use Rattle.std.specs.Prelude.{◌&&◌, codes, nat_le, nat_lt, if◌then◌else◌}
 use Rattle.std.specs.Option.{option_map}
 use Rattle.std.specs.List.{list_all}
+use Rattle.std.specs.Str.{bytes_eq}
+use Rattle.std.proofs.lemmas.Slice.Eq.{bytes_eq-Decides}
 use Rattle.std.proofs.lemmas.Bool.{and_parts, and_from, le-leb, eq-eqb, eqb-true}
 use Rattle.std.proofs.lemmas.Bool.Decides.{nat_tests}
 use Rattle.hex.specs.Hex.{encode_lower}
@@ -11,13 +13,13 @@ use Rattle.rtmfp_text.specs.AddressText.{address_text}
 use Rattle.rtmfp_text.specs.Words.{bytes_text}
 use Rattle.identity.specs.ServiceNames.{IsServiceName}
 use Rattle.rtmfp_script.specs.Grammar.{IsPlainAddress}
-use Rattle.rtmfp_script.specs.Fields.{◌>>=◌, digits_of, service_of, split_of, address_of, is_lower_digit}
+use Rattle.rtmfp_script.specs.Fields.{◌>>=◌, only_if, digits_of, service_of, split_of, address_of, is_lower_digit}
 use Rattle.rtmfp_script.proofs.Splits.{some_some, bind_some, only_if-some, each_is, each_passes, Lacks, split_text, split_joined}
 use Rattle.rtmfp_script.proofs.Digits.{digits_of-some, digits_of-encoded, length-encoded, lower_encoded}
 use Rattle.rtmfp_script.proofs.Addresses.{address_of-some, address_of-text}
 use Rattle.rtmfp_script.proofs.Services.{ascii_bytes, service_of-some, service_of-text}
-use Rattle.rtmfp_words.specs.Node.{AreBytes, IsNodeName, IsWhom, IsOpening, EachIsOpening, IsInstance, IsMessage, IsSent, opening_text, whom_text}
-use Rattle.rtmfp_words.specs.NodeReading.{of_digits, is_node_name, node_name_of, whom_of, opening_of, openings_from, Places, places_of, instance_of, message_of, send_of}
+use Rattle.rtmfp_words.specs.Node.{AreBytes, IsNodeName, IsWhom, IsOpening, EachIsOpening, IsInstance, IsMessage, IsNext, IsSent, opening_text, whom_text}
+use Rattle.rtmfp_words.specs.NodeReading.{of_digits, is_node_name, node_name_of, whom_of, opening_of, openings_from, Places, places_of, instance_of, message_of, next_of, send_of}
 use Rattle.rtmfp_words.specs.declared.opening_words.OpeningWords.{OpeningWords}
 use Rattle.rtmfp_words.specs.declared.opening_words.Whom.{Whom}
 use Rattle.rtmfp_words.specs.declared.opening_words.Whom.TheVariants.{Print, Name}
@@ -259,6 +261,38 @@ pub instance_of-text : (instance : Option (List ℕ)) → IsInstance instance �
 unfolding instance_of
 instance_of-text None is = refl
 instance_of-text (Some bytes) is = ap (λ (o : Option (List ℕ)). o >>= λ x. Some (Some x)) (of_digits-text 16 bytes is)
+
+-- another secret than that of the group
+only_other : (group next : List ℕ) → not (bytes_eq next group) ≡ true → next ≢ group
+only_other group next other same = by (bytes_eq next group) ((bytes_eq-Decides next group).1 same) other
+  where
+    by : (b : Bool) → b ≡ true → not b ≡ true → ⊥
+    by true is not_is = cc
+    by false is not_is = cc
+
+other_passes : (group next : List ℕ) → next ≢ group → not (bytes_eq next group) ≡ true
+other_passes group next other = by (bytes_eq next group) refl
+  where
+    by : (b : Bool) → bytes_eq next group ≡ b → not b ≡ true
+    by true is = absurd (other ((bytes_eq-Decides next group).0 is))
+    by false is = refl
+
+pub next_of-some : (group : List ℕ) (value next : Option (List ℕ)) → next_of group value ≡ Some next → (value ≡ option_map encode_lower next) × IsNext group next
+unfolding next_of
+next_of-some group None next h =
+    subst (λ (x : Option (List ℕ)). (None ≡ option_map encode_lower x) × IsNext group x) (some_some None next h) (refl, tt)
+next_of-some group (Some word) next h =
+    let b = bind_some (of_digits 64 word) (λ bytes. only_if (not (bytes_eq bytes group)) (Some bytes)) next h in
+    let found = of_digits-some 32 word b.0 b.1 in
+    let other = only_if-some (not (bytes_eq b.0 group)) (Some b.0) next b.2 in
+    subst (λ (x : Option (List ℕ)). (Some word ≡ option_map encode_lower x) × IsNext group x) other.1 (ap (λ (w : List ℕ). Some w) found.0, (found.1, only_other group b.0 other.0))
+
+pub next_of-text : (group : List ℕ) (next : Option (List ℕ)) → IsNext group next → next_of group (option_map encode_lower next) ≡ Some next
+unfolding next_of
+next_of-text group None is = refl
+next_of-text group (Some bytes) is =
+    ap (λ (o : Option (List ℕ)). o >>= λ x. only_if (not (bytes_eq x group)) (Some x)) (of_digits-text 32 bytes is.0)
+    ∙ ap (λ (b : Bool). only_if b (Some bytes)) (other_passes group bytes is.1)
 
 message_of-some : (word bytes : List ℕ) → message_of word ≡ Some bytes → (word ≡ encode_lower bytes) × IsMessage bytes
 unfolding message_of

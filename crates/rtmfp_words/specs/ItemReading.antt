@@ -5,7 +5,7 @@ use Rattle.rtmfp_script.specs.Fields.{◌>>=◌, either, only_if}
 use Rattle.rtmfp_words.specs.Reading.{behind_of}
 use Rattle.rtmfp_words.specs.Items.{Item, Plain, Valued, Introduce, Scanned, empty, is_hyphened}
 use Rattle.rtmfp_words.specs.declared.scan.OptionName.{OptionName}
-use Rattle.rtmfp_words.specs.declared.scan.OptionName.TheVariants.{Turns, Port, Instance, Send}
+use Rattle.rtmfp_words.specs.declared.scan.OptionName.TheVariants.{Turns, Port, Instance, Send, Next, Advance}
 
 -- the option that has this name
 unfoldable pub name_of : List ℕ → Option OptionName
@@ -14,6 +14,8 @@ name_of word =
     else if bytes_eq word (codes "--port") then Some Port
     else if bytes_eq word (codes "--instance") then Some Instance
     else if bytes_eq word (codes "--send") then Some Send
+    else if bytes_eq word (codes "--next") then Some Next
+    else if bytes_eq word (codes "--advance") then Some Advance
     else None
 
 -- the option that is one word, with its value
@@ -22,7 +24,11 @@ joined_of word =
     either
     (either
     (either
-    (behind_of (codes "--send=") word >>= λ value. Some (Send, value))
+    (either
+    (either
+    (behind_of (codes "--advance=") word >>= λ value. Some (Advance, value))
+    (λ value. Some (Next, value)) (behind_of (codes "--next=") word))
+    (λ value. Some (Send, value)) (behind_of (codes "--send=") word))
     (λ value. Some (Instance, value)) (behind_of (codes "--instance=") word))
     (λ value. Some (Port, value)) (behind_of (codes "--port=") word))
     (λ value. Some (Turns, value)) (behind_of (codes "--turns=") word)
@@ -56,6 +62,8 @@ put s Turns value = only_if (is_none s.turns) (record s { turns = Some value })
 put s Port value = only_if (is_none s.port) (record s { port = Some value })
 put s Instance value = only_if (is_none s.instance) (record s { instance = Some value })
 put s Send value = only_if (is_none s.send) (record s { send = Some value })
+put s Next value = only_if (is_none s.next) (record s { next = Some value })
+put s Advance value = only_if (is_none s.advance) (record s { advance = Some value })
 
 unfoldable pub add : Scanned → Item → Option Scanned
 add s (Plain word) = Some (record s { plain = s.plain ++ word ∷ [] })

@@ -2,13 +2,15 @@
 use Rattle.std.specs.Prelude.{◌≡◌, ◌==◌, ℕ, Bool, true, false, List, [], ◌∷◌, ◌++◌, codes, Option, Some, None}
 use Rattle.rtmfp_words.specs.Words.{OptionSpells}
 use Rattle.rtmfp_words.specs.declared.scan.OptionName.{OptionName}
-use Rattle.rtmfp_words.specs.declared.scan.OptionName.TheVariants.{Turns, Port, Instance, Send}
+use Rattle.rtmfp_words.specs.declared.scan.OptionName.TheVariants.{Turns, Port, Instance, Send, Next, Advance}
 
 abbrev pub name_text : OptionName → List ℕ
 name_text Turns = codes "--turns"
 name_text Port = codes "--port"
 name_text Instance = codes "--instance"
 name_text Send = codes "--send"
+name_text Next = codes "--next"
+name_text Advance = codes "--advance"
 
 -- the word begins with a hyphen
 abbrev pub is_hyphened : List ℕ → Bool
@@ -40,10 +42,21 @@ pub record Gathered : Type 0 where
   pub port : List (List ℕ)
   pub instance : List (List ℕ)
   pub send : List (List ℕ)
+  pub next : List (List ℕ)
+  pub advance : List (List ℕ)
   pub introduce : List Bool
 
 abbrev pub nothing : Gathered
-nothing = record { plain = []; turns = []; port = []; instance = []; send = []; introduce = [] }
+nothing = record {
+  plain = [];
+  turns = [];
+  port = [];
+  instance = [];
+  send = [];
+  next = [];
+  advance = [];
+  introduce = [];
+}
 
 abbrev pub of_item : Item → Gathered
 of_item (Plain word) = record nothing { plain = word ∷ [] }
@@ -51,6 +64,8 @@ of_item (Valued Turns value) = record nothing { turns = value ∷ [] }
 of_item (Valued Port value) = record nothing { port = value ∷ [] }
 of_item (Valued Instance value) = record nothing { instance = value ∷ [] }
 of_item (Valued Send value) = record nothing { send = value ∷ [] }
+of_item (Valued Next value) = record nothing { next = value ∷ [] }
+of_item (Valued Advance value) = record nothing { advance = value ∷ [] }
 of_item Introduce = record nothing { introduce = true ∷ [] }
 
 abbrev pub joined : Gathered → Gathered → Gathered
@@ -60,6 +75,8 @@ joined a b = record {
   port = a.port ++ b.port;
   instance = a.instance ++ b.instance;
   send = a.send ++ b.send;
+  next = a.next ++ b.next;
+  advance = a.advance ++ b.advance;
   introduce = a.introduce ++ b.introduce;
 }
 
@@ -74,6 +91,8 @@ pub record Scanned : Type 0 where
   pub port : Option (List ℕ)
   pub instance : Option (List ℕ)
   pub send : Option (List ℕ)
+  pub next : Option (List ℕ)
+  pub advance : Option (List ℕ)
   pub introduce : Bool
 
 abbrev pub empty : Scanned
@@ -83,6 +102,8 @@ empty = record {
   port = None;
   instance = None;
   send = None;
+  next = None;
+  advance = None;
   introduce = false;
 }
 
@@ -101,6 +122,8 @@ lists_of s = record {
   port = listed s.port;
   instance = listed s.instance;
   send = listed s.send;
+  next = listed s.next;
+  advance = listed s.advance;
   introduce = flagged s.introduce;
 }
 

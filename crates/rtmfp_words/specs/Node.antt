@@ -1,5 +1,5 @@
 -- What the words of `meet` and of `serve` say (own).
-use Rattle.std.specs.Prelude.{◌≡◌, ℕ, ◌≤◌, nat_lt, Bool, true, List, [], ◌∷◌, ◌++◌, map, length, codes, decimal, Option, Some, None, String, string_bytes}
+use Rattle.std.specs.Prelude.{◌≡◌, ◌≢◌, ℕ, ◌≤◌, nat_lt, Bool, true, List, [], ◌∷◌, ◌++◌, map, length, codes, decimal, Option, Some, None, String, string_bytes}
 use Rattle.std.specs.Option.{option_map}
 use Rattle.std.specs.List.{list_all}
 use Rattle.std.specs.declared.alloc.Global.{Global}
@@ -43,7 +43,7 @@ pub record IsMeet (words : List (String Global)) (port turns : ℕ) : Type 0 whe
   pub turns_fit : AreTurns turns
 
 -- ---- `serve BIND GROUP NAME OPENING .. --turns N`, and where wanted `--instance DIGITS`,
--- `--introduce` and `--send HEX`
+-- `--introduce`, `--send HEX`, and `--next DIGITS` with `--advance T` or without
 
 -- what `serve` is told
 pub record Serving : Type 0 where
@@ -55,6 +55,10 @@ pub record Serving : Type 0 where
   pub instance : Option (List ℕ)
   pub introduce : Bool
   pub send : Option (List ℕ)
+  -- the group's secret in the next generation, where it is learnt
+  pub next : Option (List ℕ)
+  -- the turn in which the end goes over to that
+  pub advance : Option ℕ
 
 -- an end is named by the digits of its fingerprint, and a service by `n:` and those of its name
 abbrev pub whom_text : Whom → List ℕ
@@ -72,6 +76,8 @@ serve_items v = record {
   port = None;
   instance = option_map encode_lower v.instance;
   send = option_map encode_lower v.send;
+  next = option_map encode_lower v.next;
+  advance = option_map decimal v.advance;
   introduce = v.introduce;
 }
 
@@ -110,6 +116,17 @@ abbrev pub IsSent : Option (List ℕ) → Type 0
 IsSent None = Unit {0}
 IsSent (Some bytes) = IsMessage bytes
 
+-- another secret than that of the group
+abbrev pub IsNext : List ℕ → Option (List ℕ) → Type 0
+IsNext group None = Unit {0}
+IsNext group (Some next) = AreBytes 32 next × (next ≢ group)
+
+-- one of so many turns, where there is a next secret
+abbrev pub IsTurnToAdvance : Option (List ℕ) → ℕ → Option ℕ → Type 0
+IsTurnToAdvance next turns None = Unit {0}
+IsTurnToAdvance None turns (Some turn) = ⊥
+IsTurnToAdvance (Some next) turns (Some turn) = (1 ≤ turn) × (turn ≤ turns)
+
 pub record IsServe (words : List (String Global)) (v : Serving) : Type 0 where
   pub said : Commands (codes "serve") words (serve_items v)
   pub bind : IsPlainAddress v.bind
@@ -119,3 +136,5 @@ pub record IsServe (words : List (String Global)) (v : Serving) : Type 0 where
   pub turns : AreTurns v.turns
   pub instance : IsInstance v.instance
   pub send : IsSent v.send
+  pub next : IsNext v.group v.next
+  pub advance : IsTurnToAdvance v.next v.turns v.advance

@@ -36,7 +36,8 @@ port_of s = value_within 1 65533 s.port
 
 -- nothing but `--port` and `--turns`
 abbrev pub is_bare : Scanned → Bool
-is_bare s = is_empty s.plain && (is_none s.instance && (is_none s.send && not s.introduce))
+is_bare s = is_empty s.plain && (is_none s.instance && (is_none s.send
+    && (is_none s.next && (is_none s.advance && not s.introduce))))
 
 unfoldable pub meet_from : Scanned → Option MeetWords
 meet_from s =
@@ -108,6 +109,18 @@ unfoldable pub send_of : Option (List ℕ) → Option (Option (List ℕ))
 send_of None = Some None
 send_of (Some word) = message_of word >>= λ bytes. Some (Some bytes)
 
+-- another secret than that of the group
+unfoldable pub next_of : List ℕ → Option (List ℕ) → Option (Option (List ℕ))
+next_of group None = Some None
+next_of group (Some word) =
+    of_digits 64 word >>= λ next. only_if (not (bytes_eq next group)) (Some next)
+
+-- one of so many turns, where there is a next secret
+unfoldable pub advance_of : Option (List ℕ) → ℕ → Option (List ℕ) → Option (Option ℕ)
+advance_of next turns None = Some None
+advance_of None turns (Some word) = None
+advance_of (Some next) turns (Some word) = number_within 1 turns word >>= λ turn. Some (Some turn)
+
 unfoldable pub serve_from : Scanned → Option Serving
 serve_from s =
     if is_none s.port then
@@ -115,6 +128,8 @@ serve_from s =
     turns_of s >>= λ turns.
     instance_of s.instance >>= λ instance.
     send_of s.send >>= λ send.
+    next_of p.group s.next >>= λ next.
+    advance_of next turns s.advance >>= λ advance.
     Some (record {
       bind = p.bind;
       group = p.group;
@@ -124,6 +139,8 @@ serve_from s =
       instance = instance;
       introduce = s.introduce;
       send = send;
+      next = next;
+      advance = advance;
     }))
     else None
 

@@ -61,7 +61,12 @@ fn meet_from(scan: &Scan) -> Option<MeetWords>
 fn is_bare(scan: &Scan) -> bool
     ensures { result ≡ is_bare scan.now }
 {
-    scan.plain.is_empty() && scan.instance.is_none() && scan.send.is_none() && !scan.introduce
+    scan.plain.is_empty()
+        && scan.instance.is_none()
+        && scan.send.is_none()
+        && scan.next.is_none()
+        && scan.advance.is_none()
+        && !scan.introduce
 }
 
 /// The first port.

@@ -22,6 +22,10 @@ pub(crate) enum OptionName {
     Instance,
     /// `--send`
     Send,
+    /// `--next`
+    Next,
+    /// `--advance`
+    Advance,
 }
 
 /// The plain words in their order, and the values of options that stand once at most.
@@ -32,6 +36,8 @@ pub(crate) struct Scan {
     pub(crate) port: Option<Message>,
     pub(crate) instance: Option<Message>,
     pub(crate) send: Option<Message>,
+    pub(crate) next: Option<Message>,
+    pub(crate) advance: Option<Message>,
     pub(crate) introduce: bool,
 }
 
@@ -46,6 +52,8 @@ impl Model for Scan {
       port = s.port;
       instance = s.instance;
       send = s.send;
+      next = s.next;
+      advance = s.advance;
       introduce = s.introduce;
     } };
 }
@@ -60,6 +68,8 @@ impl Scan {
             port: None,
             instance: None,
             send: None,
+            next: None,
+            advance: None,
             introduce: false,
         }
     }
@@ -74,6 +84,8 @@ impl Scan {
             OptionName::Port => fill(&mut self.port, value),
             OptionName::Instance => fill(&mut self.instance, value),
             OptionName::Send => fill(&mut self.send, value),
+            OptionName::Next => fill(&mut self.next, value),
+            OptionName::Advance => fill(&mut self.advance, value),
         }
     }
 
@@ -233,6 +245,12 @@ fn name_of(word: &[u8]) -> Option<OptionName>
     if word == b"--send".as_slice() {
         return Some(OptionName::Send);
     }
+    if word == b"--next".as_slice() {
+        return Some(OptionName::Next);
+    }
+    if word == b"--advance".as_slice() {
+        return Some(OptionName::Advance);
+    }
     None
 }
 
@@ -251,8 +269,14 @@ fn joined_of(word: &[u8]) -> Option<(OptionName, &[u8])>
     if let Some(value) = behind(b"--instance=", word) {
         return Some((OptionName::Instance, value));
     }
-    match behind(b"--send=", word) {
-        Some(value) => Some((OptionName::Send, value)),
+    if let Some(value) = behind(b"--send=", word) {
+        return Some((OptionName::Send, value));
+    }
+    if let Some(value) = behind(b"--next=", word) {
+        return Some((OptionName::Next, value));
+    }
+    match behind(b"--advance=", word) {
+        Some(value) => Some((OptionName::Advance, value)),
         None => None,
     }
 }

@@ -2,12 +2,13 @@
 ghost use Rattle.std.specs.Prelude.{◌≡◌, ◌⊎◌, Some, None, Ok, Err, MatchResult, IfOk, map, string_bytes, nat_lt};
 ghost use Rattle.std.specs.List.{list_all};
 ghost use Rattle.rtmfp_words.specs.Node.{IsServe, Serving};
-ghost use Rattle.rtmfp_words.specs.NodeReading.{is_node_name, node_name_of, places_of, instance_of, message_of, of_digits, send_of, serve_from, serve_of};
+ghost use Rattle.rtmfp_words.specs.NodeReading.{is_node_name, node_name_of, advance_of, places_of, instance_of, message_of, next_of, of_digits, send_of, serve_from, serve_of};
 
 use crate::fault::WordsFault;
 use crate::meet_words::turns_of;
 use crate::opening_words::{OpeningWords, openings_of, print_of};
 use crate::scan::{Scan, scan_behind};
+use crate::values::number_within;
 use rtmfp_base::Message;
 use rtmfp_forms::Address;
 use rtmfp_script::{read_address, read_digits, read_sixteen};
@@ -33,6 +34,10 @@ pub struct ServeWords {
     pub introduce: bool,
     /// The message for each session that it opens, 1 to 1,000 bytes.
     pub send: Option<Message>,
+    /// The secret of the group's next generation, where it is learnt; it isn't that of the group.
+    pub next: Option<[u8; 32]>,
+    /// The turn in which the end goes over to that, one of its turns.
+    pub advance: Option<u64>,
 }
 
 impl Model for ServeWords {
@@ -49,6 +54,8 @@ impl Model for ServeWords {
       instance = s.instance;
       introduce = s.introduce;
       send = s.send;
+      next = s.next;
+      advance = s.advance;
     } };
 }
 
@@ -77,10 +84,11 @@ impl Model for PlaceWords {
 /// What the words after the program's name tell `serve` (own).
 ///
 /// They are `serve BIND GROUP NAME` and openings, with options between them: `--turns N`, which is
-/// needed, and where wanted `--instance` with 32 digits, `--introduce` and `--send HEX`, each once
-/// at most. BIND is an address, GROUP is 64 digits, NAME is 1 to 64 ASCII bytes, an opening is 64
-/// digits, or `n:` and the digits of 1 to 64 ASCII bytes, then `@` and an address, N is 1 to
-/// 1,000,000, and HEX is 1 to 1,000 bytes. All digits are lower-case.
+/// needed, and where wanted `--instance` with 32 digits, `--introduce`, `--send HEX`, and `--next`
+/// with 64 digits other than GROUP, with `--advance T` or without, each once at most. BIND is an
+/// address, GROUP is 64 digits, NAME is 1 to 64 ASCII bytes, an opening is 64 digits, or `n:` and
+/// the digits of 1 to 64 ASCII bytes, then `@` and an address, N is 1 to 1,000,000, HEX is 1 to
+/// 1,000 bytes, and T is 1 to N. All digits are lower-case.
 pub fn read_serve_words(alloc: Global, words: &[String]) -> Result<ServeWords, WordsFault>
     // What is read is said.
     ensures reads { IfOk result (λ v. IsServe words.now v) }
@@ -129,6 +137,12 @@ fn serve_from(alloc: Global, scan: &Scan) -> Result<ServeWords, WordsFault>
         Err(fault) => return Err(fault),
     };
     let group = places.group;
+    let Some(next) = next_of(&group, &scan.next) else {
+        return Err(WordsFault::Faulty);
+    };
+    let Some(advance) = advance_of(&next, turns, &scan.advance) else {
+        return Err(WordsFault::Faulty);
+    };
     Ok(ServeWords {
         bind: places.bind,
         group,
@@ -138,6 +152,8 @@ fn serve_from(alloc: Global, scan: &Scan) -> Result<ServeWords, WordsFault>
         instance,
         introduce: scan.introduce,
         send,
+        next,
+        advance,
     })
 }
 
@@ -213,6 +229,40 @@ fn instance_of(value: &Option<Message>) -> Option<Option<[u8; 16]>>
                 Some(bytes) => Some(Some(bytes)),
                 None => None,
             }
+        }
+        None => Some(None),
+    }
+}
+
+/// The secret of the next generation, where it is told: another one than that of the group.
+#[tactic(auto, unfolding(crate::specs::NodeReading::next_of))]
+fn next_of(group: &[u8; 32], value: &Option<Message>) -> Option<Option<[u8; 32]>>
+    ensures { result ≡ next_of group.now value.now }
+{
+    match value {
+        Some(word) => {
+            let next = print_of(word.bytes())?;
+            if next == *group {
+                return None;
+            }
+            Some(Some(next))
+        }
+        None => Some(None),
+    }
+}
+
+/// The turn in which the end goes over, where it is told: one of so many, where there is a next
+/// secret.
+#[tactic(auto, unfolding(crate::specs::NodeReading::advance_of))]
+fn advance_of(next: &Option<[u8; 32]>, turns: u64, value: &Option<Message>) -> Option<Option<u64>>
+    ensures { result ≡ advance_of next.now turns value.now }
+{
+    match value {
+        Some(word) => {
+            if next.is_none() {
+                return None;
+            }
+            Some(Some(number_within(1, turns, word.bytes())?))
         }
         None => Some(None),
     }

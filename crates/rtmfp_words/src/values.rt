@@ -7,7 +7,7 @@ use rtmfp_base::Message;
 
 /// A number within limits.
 #[tactic(auto, unfolding(crate::specs::NodeReading::number_within))]
-fn number_within(least: u64, most: u64, word: &[u8]) -> Option<u64>
+pub(crate) fn number_within(least: u64, most: u64, word: &[u8]) -> Option<u64>
     ensures value { result ≡ number_within least most word.now }
     ensures bound { IfSome result (λ n. n ≤ most) }
 {

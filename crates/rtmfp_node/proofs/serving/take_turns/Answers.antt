@@ -11,7 +11,7 @@ loop-before-init g c =
       turns = turns_none c.args.words.now c.args.node.now.notes.count c.args.node.now.end first;
       counted = record { link = refl; entropy = refl; sink = refl };
       passed = λ h. h;
-      secret = c.requires;
+      secrets = c.requires;
     }
 
 pub loop-before-preserved : goal.loop-before-preserved
@@ -27,7 +27,7 @@ loop-before-preserved g c =
           (turn_done t.result c.args.words.now _ l.node.notes.count t.new.node.notes.count l.node.end t.new.node.end before after (search rules) t.ensures.ends);
       counted = counted_later Done first before after l.invariant.counted (counted_as t.result before after (search rules) t.ensures.counted);
       passed = passed_later Done first before after l.invariant.passed (passed_as t.result before after (search rules) t.ensures.passed);
-      secret = search rules;
+      secrets = search rules;
     }
 
 pub returns-then-not-is_done-clause-ends : goal.returns-then-not-is_done-clause-ends

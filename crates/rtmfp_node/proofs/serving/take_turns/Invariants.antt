@@ -2,6 +2,7 @@ use Rattle.std.proofs.Common.{◌≡◌}
 use Rattle.rtmfp_node.specs.declared.served.Served.TheVariants.{Done}
 use Rattle.rtmfp_node.specs.Outside.{Counted, PassesOn, outside}
 use Rattle.rtmfp_node.specs.Acting.{TurnsDone}
+use Rattle.rtmfp_node.specs.Turn.{secrets_of}
 use Rattle.rtmfp_node.proofs.serving.take_turns.Given as goal
 
 abbrev pub invariant-loop-before : goal.invariant-loop-before
@@ -11,5 +12,5 @@ invariant-loop-before g l =
       turns : TurnsDone l.fn.words l.before l.fn.node.notes.count l.fn.node.end l.node.end l.node.notes.count first now;
       counted : Counted Done first now;
       passed : PassesOn Done first now;
-      secret : l.node.notes.secret ≡ l.fn.words.group;
+      secrets : l.node.notes.secrets ≡ secrets_of l.fn.words;
     }

@@ -1,22 +1,24 @@
-use Rattle.std.proofs.Common.{rules, ◌++◌, ℕ, List, [], ap, ◌∙◌, inl}
+use Rattle.std.proofs.Common.{rules, ◌++◌, [], ap, ◌∙◌, inl, inr}
 use Rattle.rtmfp_host.specs.Linking.{given_by}
 use Rattle.rtmfp_node.specs.Outside.{outside}
+use Rattle.endpoint_laws.specs.Contexts.{Secrets}
 use Rattle.rtmfp_node.specs.Acting.{begun}
 use Rattle.rtmfp_node.proofs.Sends.{counted_all, emit_as, passes_all}
 use Rattle.rtmfp_node.proofs.Told.{leaves_map}
-use Rattle.rtmfp_node.proofs.Turning.{turn_ends_on, undrawn, wait_failed, waited}
+use Rattle.rtmfp_node.proofs.Turning.{turn_ends_on, unbegun, undrawn, wait_failed, waited}
 use Rattle.rtmfp_node.proofs.turn.turn.Goals as goal
 
 pub returns-clause-ends : goal.returns-clause-ends
 returns-clause-ends g c =
     let given = given_by c.receive-got.result c.receive-got.new.buf in
     let m = c.args.node.now.notes in
-    let node = c.act_anew.new.node in
-    turn_ends_on c.emit.result c.args.words.now c.args.turn m.count c.in-Some.block c.now-first.result c.now-moment.result given c.args.node.now.end node.end
-    (node.heard.entries ++ node.out.entries) (begun m) node.notes (g.L.Link.seen c.args.link.now) (g.L.Link.seen c.receive-got.new.self) (g.L.Link.seen c.emit.new.link)
+    let early = c.begin.new.node in
+    let node = c.act_on.new.node in
+    turn_ends_on c.emit.result c.args.words.now c.args.turn m.count c.in-Some.block c.now-first.result c.now-moment.result given c.args.node.now.end early.end node.end
+    early.early.entries (node.heard.entries ++ node.out.entries) (begun m) early.notes node.notes (g.L.Link.seen c.args.link.now) (g.L.Link.seen c.receive-got.new.self) (g.L.Link.seen c.emit.new.link)
     (g.C.Moments.seen c.args.clock.now) (g.C.Moments.seen c.now-first.new.self) (g.C.Moments.seen c.now-moment.new.self) (g.E.Entropy.seen c.args.entropy.now)
-    (g.E.Entropy.seen c.draw.new.entropy) (g.K.Sink.seen c.args.sink.now) (g.K.Sink.seen c.emit.new.sink) (search rules) (search rules) (search rules) (search rules) (search rules)
-    (ap (λ (x : List ℕ). record { secret = x; count = m.count; text = [] }) c.requires)
+    (g.E.Entropy.seen c.draw.new.entropy) (g.K.Sink.seen c.args.sink.now) (g.K.Sink.seen c.emit.new.sink) (search rules) (search rules) (search rules) (search rules) (search rules) (search rules)
+    (ap (λ (x : Secrets). record { secrets = x; count = m.count; text = [] }) c.requires)
     (emit_as c.emit.result c.args.turn c.count-count.result m.count c.text.result.now node.notes.text c.entries.result.now c.entries-2.result.now node.heard.entries node.out.entries
     (g.L.Link.seen c.receive-got.new.self).line (g.L.Link.seen c.emit.new.link).line (g.K.Sink.seen c.args.sink.now).written (g.K.Sink.seen c.emit.new.sink).written (search rules) (search rules)
     (search rules) (search rules) c.emit.ensures.ends)
@@ -41,15 +43,20 @@ returns-then-is_failed-clause-ends g c =
     (g.C.Moments.seen c.args.clock.now) (g.C.Moments.seen c.now-first.new.self) (g.E.Entropy.seen c.args.entropy.now) (g.E.Entropy.seen c.draw.new.entropy) (g.K.Sink.seen c.args.sink.now)
     (ap (λ x. given_by x c.receive-got.new.buf) (c.is_failed.ensures.yes (search rules))) (search rules) (search rules) (search rules)
 
-pub returns-in_default-act_anew-clause-ends : goal.returns-in_default-act_anew-clause-ends
-returns-in_default-act_anew-clause-ends g c =
+pub returns-in_default-act_on-clause-ends : goal.returns-in_default-act_on-clause-ends
+returns-in_default-act_on-clause-ends g c =
     leaves_map
     (waited c.in-Some.block c.now-first.result c.now-moment.result (given_by c.receive-got.result c.receive-got.new.buf) (g.L.Link.seen c.args.link.now) (g.L.Link.seen c.receive-got.new.self)
     (g.C.Moments.seen c.args.clock.now) (g.C.Moments.seen c.now-first.new.self) (g.C.Moments.seen c.now-moment.new.self) (g.E.Entropy.seen c.args.entropy.now) (g.E.Entropy.seen c.draw.new.entropy)
     (g.K.Sink.seen c.args.sink.now) (c.is_failed.ensures.given (search rules) c.receive-got.new.buf) (search rules) (search rules) (search rules) (search rules))
-    (λ x y h. inl h)
+    (λ x y h. inr (inl h))
+
+pub returns-in_default-draw-clause-ends : goal.returns-in_default-draw-clause-ends
+returns-in_default-draw-clause-ends g c =
+    undrawn (g.L.Link.seen c.args.link.now) (g.C.Moments.seen c.args.clock.now) (g.E.Entropy.seen c.args.entropy.now) (g.E.Entropy.seen c.draw.new.entropy) (g.K.Sink.seen c.args.sink.now)
+    (c.draw.ensures.undrawn (search rules))
 
 pub returns-in_default-clause-ends : goal.returns-in_default-clause-ends
 returns-in_default-clause-ends g c =
-    undrawn (g.L.Link.seen c.args.link.now) (g.C.Moments.seen c.args.clock.now) (g.E.Entropy.seen c.args.entropy.now) (g.E.Entropy.seen c.draw.new.entropy) (g.K.Sink.seen c.args.sink.now)
-    (c.draw.ensures.undrawn (search rules))
+    unbegun c.args.words.now c.args.turn c.args.node.now.notes.count c.args.node.now.end
+    (outside (g.L.Link.seen c.args.link.now) (g.C.Moments.seen c.args.clock.now) (g.E.Entropy.seen c.args.entropy.now) (g.K.Sink.seen c.args.sink.now)) (search rules)
