@@ -3,20 +3,19 @@
 mod called;
 
 use crate::play::called::{Called, Deed, do_deed};
+use counted_secrets::counted_secret;
 use endpoint::{Config, Draws, Endpoint, Entry, MessageOptions, Outbox};
 use identity::Certificate;
 use rtmfp_base::Message;
 use rtmfp_forms::Address;
 use rtmfp_host::{Sink, StreamSink};
-use rtmfp_report::{GroupKeys, push_entries};
+use rtmfp_report::{GroupKeys, GroupSecrets, push_entries};
 use rtmfp_script::{BringLine, CallLine, Content, Said, ScriptLine, read_line};
 use rtmfp_text::{Directory, Name, Named, Text};
 use std::alloc::Global;
 use std::test::Fail;
 
-/// The group's secret, and the number of its generation.
-const SECRET: [u8; 32] = [0; 32];
-
+/// The generation in which an end begins.
 const GENERATION: u64 = 0;
 
 /// How often a call is made at most.
@@ -95,7 +94,7 @@ impl Play {
             alloc,
             players: Vec::new(alloc),
             names: Directory::new(alloc),
-            keys: GroupKeys::of(alloc, &SECRET),
+            keys: GroupKeys::of(alloc, GroupSecrets::Counted),
             sent: Vec::new(alloc),
             moment: 0,
             text: Text::new(alloc),
@@ -120,7 +119,14 @@ impl Play {
             max_sessions: sessions.min(65_536),
             introduces: false,
         };
-        let end = Endpoint::new(self.alloc, config, cert, GENERATION, SECRET, print);
+        let end = Endpoint::new(
+            self.alloc,
+            config,
+            cert,
+            GENERATION,
+            counted_secret(GENERATION),
+            print,
+        );
         let named = Named {
             print,
             name: name.again(),

@@ -122,6 +122,8 @@ fn entry_text(alloc: Global, entry: &Entry) -> Result<String, AllocError> {
         Entry::Fact(fact) => fact_text(alloc, fact),
         Entry::Closed { near } => format!(in alloc; "closed {near}; "),
         Entry::Moved { near, to } => format!(in alloc; "moved {near} {}; ", to.host[3]),
+        Entry::Learnt { generation } => format!(in alloc; "learnt {generation}; "),
+        Entry::Advanced { generation } => format!(in alloc; "advanced {generation}; "),
         Entry::Sought { near, .. } => format!(in alloc; "sought {near}; "),
         Entry::Unsought { near, why } => format!(in alloc; "unsought {near} {why:?}; "),
         Entry::Discard { place, cause } => format!(in alloc; "drop {place} {cause:?}; "),

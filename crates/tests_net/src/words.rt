@@ -78,6 +78,29 @@ serve = none
 serves 10.0.0.1:1 P name --turns 5 = none
 ";
 
+/// Rows of `serve` that say a next secret: Q stands for 64 digits other than those of P. Behind `=`
+/// stand its first byte and the turn of the advance, or hyphens for none; or `none`.
+const SUCCESSIONS: &str = "\
+serve 10.0.0.1:1 P name --turns 5 = - -
+serve 10.0.0.1:1 P name --turns 5 --next Q = 250 -
+serve --next=Q 10.0.0.1:1 P name --advance=5 --turns 5 = 250 5
+serve 10.0.0.1:1 Q name --advance 1 --turns 5 --next P = 1 1
+serve 10.0.0.1:1 P name --turns 5 --next P = none
+serve 10.0.0.1:1 P name --turns 5 --next II = none
+serve 10.0.0.1:1 P name --turns 5 --next I = none
+serve 10.0.0.1:1 P name --turns 5 --next Q0 = none
+serve 10.0.0.1:1 P name --turns 5 --next IU = none
+serve 10.0.0.1:1 P name --turns 5 --next= = none
+serve 10.0.0.1:1 P name --turns 5 --next = none
+serve 10.0.0.1:1 P name --turns 5 --next Q --next Q = none
+serve 10.0.0.1:1 P name --turns 5 --advance 1 = none
+serve 10.0.0.1:1 P name --turns 5 --next Q --advance 0 = none
+serve 10.0.0.1:1 P name --turns 5 --next Q --advance 6 = none
+serve 10.0.0.1:1 P name --turns 5 --next Q --advance 05 = none
+serve 10.0.0.1:1 P name --turns 5 --next Q --advance = none
+serve 10.0.0.1:1 P name --turns 5 --next Q --advance 1 --advance=1 = none
+";
+
 /// Rows of `meet`, with its port and its turns behind `=`.
 const MEET: &str = "\
 meet --port 40100 --turns 200 = 40100 200
@@ -134,6 +157,7 @@ show  = none
 fn digits_of(letter: char) -> &'static str {
     match letter {
         'P' => "0123456789abcdef0123456789abcdef0123456789abcdef0123456789abcdef",
+        'Q' => "fa23456789abcdef0123456789abcdef0123456789abcdef0123456789abcdef",
         'I' => "0123456789abcdef0123456789abcdef",
         'G' => "0123456789abcdef0123456789abcde",
         'U' => "0123456789ABCDEF0123456789ABCDEF",
@@ -181,6 +205,27 @@ fn serve_text(alloc: Global, serve: &ServeWords) -> Result<String, AllocError> {
     let (turns, introduce) = (serve.turns, serve.introduce);
     let sent = serve.send.as_ref().map_or(0, |bytes| bytes.len());
     format!(in alloc; "{openings} {turns} {introduce} {sent}")
+}
+
+/// What `serve` is told of a next secret, in words.
+fn next_text(alloc: Global, serve: &ServeWords) -> Result<String, AllocError> {
+    let Some(next) = &serve.next else {
+        return String::from_str(alloc, "- -");
+    };
+    let first = next[0];
+    match serve.advance {
+        Some(turn) => format!(in alloc; "{first} {turn}"),
+        None => format!(in alloc; "{first} -"),
+    }
+}
+
+/// The same of words.
+fn succeeded(alloc: Global, text: &str) -> Result<String, AllocError> {
+    let words = words_of(alloc, text)?;
+    match read_serve_words(alloc, words.as_slice()) {
+        Ok(serve) => next_text(alloc, &serve),
+        Err(fault) => String::from_str(alloc, fault_name(fault)),
+    }
 }
 
 /// What `serve` is told, in words.
@@ -250,6 +295,22 @@ fn wrong_serve(alloc: Global) -> Result<Option<&'static str>, AllocError> {
     Ok(None)
 }
 
+fn is_succession(alloc: Global, row: &str) -> Result<bool, AllocError> {
+    let (text, wanted) = sides(row);
+    let told = succeeded(alloc, text)?;
+    Ok(told.as_str() == wanted)
+}
+
+/// The first row that is wrong.
+fn wrong_succession(alloc: Global) -> Result<Option<&'static str>, AllocError> {
+    for row in SUCCESSIONS.lines() {
+        if !is_succession(alloc, row)? {
+            return Ok(Some(row));
+        }
+    }
+    Ok(None)
+}
+
 fn is_meet(alloc: Global, row: &str) -> Result<bool, AllocError> {
     let (text, wanted) = sides(row);
     let told = met(alloc, text)?;
@@ -269,6 +330,12 @@ fn wrong_meet(alloc: Global) -> Result<Option<&'static str>, AllocError> {
 #[test]
 fn words_of_serve_are_these(rt: HostRuntime) -> Result<(), Fail> {
     assert_eq!(rt; wrong_serve(rt.alloc())?, None);
+    Ok(())
+}
+
+#[test]
+fn next_secrets_of_serve_are_these(rt: HostRuntime) -> Result<(), Fail> {
+    assert_eq!(rt; wrong_succession(rt.alloc())?, None);
     Ok(())
 }
 

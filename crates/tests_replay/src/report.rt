@@ -9,7 +9,7 @@ use introducer::RowRefusal;
 use rtmfp_base::{Cause, Message};
 use rtmfp_forms::Address;
 use rtmfp_report::{
-    GroupKeys, push_call_refusal, push_entries, push_open_refusal, push_row_refusal,
+    GroupKeys, GroupSecrets, push_call_refusal, push_entries, push_open_refusal, push_row_refusal,
 };
 use rtmfp_text::{Directory, Name, Named, Text};
 use std::alloc::Global;
@@ -141,7 +141,13 @@ fn report_all(
     text: &mut Text,
 ) -> Result<(), Fail> {
     let mut scratch = Vec::new(alloc);
-    let mut keys = GroupKeys::of(alloc, &SECRET);
+    let mut keys = GroupKeys::of(
+        alloc,
+        GroupSecrets::Given {
+            first: SECRET,
+            next: None,
+        },
+    );
     push_entries(&mut keys, ends, 1, name, 0, entries, &mut scratch, text)?;
     Ok(())
 }

@@ -1,5 +1,6 @@
 //! A call of an end, which may be made again.
 
+use counted_secrets::secret_after;
 use endpoint::{
     CallRefusal, Draws, Endpoint, MessageOptions, OpenRefusal, Outbox, RowRefusal, SeekRefusal,
 };
@@ -162,6 +163,14 @@ fn finishes(end: &mut Endpoint, near: u32, flow: u64, out: &mut Outbox) -> Calle
     of_call(end.finish(near, flow, out))
 }
 
+fn learns(end: &mut Endpoint, out: &mut Outbox) -> Called {
+    of_call(end.learn(secret_after(end.generation()), out))
+}
+
+fn advances(end: &mut Endpoint, out: &mut Outbox) -> Called {
+    of_call(end.advance(out))
+}
+
 fn ticks(end: &mut Endpoint, moment: u64, draws: &Draws, out: &mut Outbox) -> Called {
     match end.tick(moment, draws, out) {
         Ok(()) => Called::Done,
@@ -196,6 +205,8 @@ fn calls(
         } => opens_flow(end, *near, *priority, metadata.bytes(), *answers, out),
         CallLine::Abandon { near, flow, seq } => abandons(end, *near, *flow, *seq, out),
         CallLine::Finish { near, flow } => finishes(end, *near, *flow, out),
+        CallLine::Learn => learns(end, out),
+        CallLine::Advance => advances(end, out),
         _ => Called::Done,
     }
 }
