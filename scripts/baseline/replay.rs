@@ -1,6 +1,7 @@
 //! A plain Rust program that prints what `rtmfp replay --generate N --steps K` prints: the bar for its speed.
 //! With `--flows` it makes another run instead, of two ends that call on flows, with `--calls` one of six ends that also
 //! call each other, hang up and move, with `--names` one of six ends that also search for each other by three names, with
+//! `--successions` one of six ends whose group also changes its secret, with
 //! `--places` one of six ends that meet through address translators, and with `--transfer` one of K megabytes that go over,
 //! of whose datagrams each N-th is lost. With `--script` it prints the script of the run, and with `--report` the report of
 //! it. Without a seed it reads a script from its input, and prints the report of each line;
@@ -51,6 +52,8 @@ pub enum Step {
     Abandon { end: usize, near: u32, flow: u64, seq: u64 },
     Finish { end: usize, near: u32, flow: u64 },
     Introduce { end: usize },
+    Learn { end: usize },
+    Advance { end: usize },
     Redirect { end: usize, peer: usize, list: Vec<Address> },
     Translator { name: String, mapping: Rule, filter: Rule, host: [u8; 4], first: u16 },
     Place { end: usize, at: Address, behind: Option<usize> },
@@ -75,7 +78,8 @@ struct Sent {
 }
 
 pub struct World {
-    group: Rc<Group>,
+    /// The generations of the group's secret of which an end knows, from 0.
+    groups: Vec<Rc<Group>>,
     pub ends: Vec<End>,
     by_name: HashMap<String, usize>,
     by_print: HashMap<Print, usize>,
@@ -94,9 +98,8 @@ enum StepFault {
 
 impl World {
     fn new() -> Self {
-        let group = Rc::new(Group::new([0; 32]));
         World {
-            group,
+            groups: vec![group(0)],
             ends: Vec::new(),
             by_name: HashMap::new(),
             by_print: HashMap::new(),
@@ -126,7 +129,7 @@ impl World {
         let (mut datagram, mut lost, mut refused, mut entries) = (None, None, None, Vec::new());
         let end = match &step {
             Step::End { name, max_peers, max_sessions, cert } => {
-                let end = End::new(name.clone(), *max_peers, *max_sessions, cert.clone().into_bytes(), self.group.clone());
+                let end = End::new(name.clone(), *max_peers, *max_sessions, cert.clone().into_bytes(), self.groups[0].clone());
                 if self.by_name.contains_key(name) || self.by_print.contains_key(&end.print) {
                     return Err(StepFault::BadStep);
                 }
@@ -192,6 +195,15 @@ impl World {
                 self.ends[*end].redirect(peer, list);
                 Some(*end)
             }
+            Step::Learn { end } => {
+                let next = self.ends[*end].following().map(|generation| self.group_of(generation));
+                refused = self.ends[*end].learn(next, &mut entries).err();
+                Some(*end)
+            }
+            Step::Advance { end } => {
+                refused = self.ends[*end].advance(&mut entries).err();
+                Some(*end)
+            }
             Step::Translator { name, mapping, filter, host, first } => {
                 self.places.add(name, *mapping, *filter, *host, *first).ok_or(StepFault::BadStep)?;
                 None
@@ -228,6 +240,14 @@ impl World {
         }
         self.journal.push(JournalLine { line, step, end, lost, datagram, refused, entries });
         Ok(())
+    }
+
+    /// A generation that is known, or the one after the last.
+    fn group_of(&mut self, generation: u64) -> Rc<Group> {
+        if generation == self.groups.len() as u64 {
+            self.groups.push(group(generation));
+        }
+        self.groups[generation as usize].clone()
     }
 
     /// Brings a datagram to an end, and gives its bytes.
@@ -271,6 +291,7 @@ impl World {
             *match entry {
                 Entry::Closed { .. } | Entry::Moved { .. } => continue,
                 Entry::Sought { .. } | Entry::Unsought { .. } => continue,
+                Entry::Learnt { .. } | Entry::Advanced { .. } => continue,
                 Entry::FlowOpened { .. } | Entry::Queued { .. } | Entry::Finished { .. } => continue,
                 Entry::Abandoned { .. } | Entry::Handed { .. } => continue,
                 Entry::Out(_) => &mut sent,
@@ -288,6 +309,13 @@ impl World {
              confirmed={confirmed} ended={ended} dropped={dropped} kept={kept}"
         )
     }
+}
+
+/// A generation of the group's secret, which is the generation's number.
+fn group(generation: u64) -> Rc<Group> {
+    let mut secret = [0; 32];
+    secret[24..].copy_from_slice(&generation.to_be_bytes());
+    Rc::new(Group::new(generation, secret))
 }
 
 /// Where an end of the generated run is.
@@ -317,7 +345,8 @@ fn run(seed: u64, steps: u64) -> Result<World, (StepFault, u64)> {
 }
 
 /// The run of a seed; with `--flows` one that calls on flows; with `--calls` one of ends that also call each other, hang
-/// up and move; with `--names` one of ends that also search for each other; with `--places` one of ends that meet through translators; with `--transfer` so many megabytes that go over, of whose datagrams each so many-th is lost, as the
+/// up and move; with `--names` one of ends that also search for each other; with `--successions` one of ends that also
+/// change the group's secret; with `--places` one of ends that meet through translators; with `--transfer` so many megabytes that go over, of whose datagrams each so many-th is lost, as the
 /// seed says.
 fn generated(seed: u64, steps: u64, flags: &HashSet<String>) -> Result<World, (StepFault, u64)> {
     if flags.contains("--flows") {
@@ -328,6 +357,9 @@ fn generated(seed: u64, steps: u64, flags: &HashSet<String>) -> Result<World, (S
     }
     if flags.contains("--names") {
         return random::names(seed, steps);
+    }
+    if flags.contains("--successions") {
+        return random::successions(seed, steps);
     }
     if flags.contains("--places") {
         return random::places(seed, steps);
@@ -395,7 +427,7 @@ fn task() -> Option<Task> {
         match word.as_str() {
             "--generate" => seed = Some(words.next()?.parse().ok()?),
             "--steps" => steps = Some(words.next()?.parse().ok().filter(|n| *n <= 100_000)?),
-            "--script" | "--report" | "--flows" | "--calls" | "--names" | "--places" | "--transfer" => _ = flags.insert(word),
+            "--script" | "--report" | "--flows" | "--calls" | "--names" | "--successions" | "--places" | "--transfer" => _ = flags.insert(word),
             "--datagrams" if seed.is_none() && steps.is_none() => return words.next().is_none().then_some(Task::Datagrams),
             _ => return None,
         }

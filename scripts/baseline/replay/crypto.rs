@@ -153,8 +153,8 @@ impl Kinds {
 /// What a datagram is sealed for.
 #[derive(Clone, PartialEq, Eq, Debug)]
 pub enum Context {
-    Startup,
-    Session { ni: Nonce, nr: Nonce, initiator: Print, responder: Print, sid_i: u32, sid_r: u32, to_responder: bool },
+    Startup { generation: u64 },
+    Session { generation: u64, ni: Nonce, nr: Nonce, initiator: Print, responder: Print, sid_i: u32, sid_r: u32, to_responder: bool },
 }
 
 pub struct Keys {
@@ -166,10 +166,10 @@ impl Keys {
     /// The keys of a context under the group's secret.
     pub fn new(group: &Hmac, context: &Context) -> Self {
         match context {
-            Context::Startup => {
+            Context::Startup { .. } => {
                 Keys { enc: Hmac::new(&group.of(&[b"rtmfp startup enc"])), mac: Hmac::new(&group.of(&[b"rtmfp startup mac"])) }
             }
-            Context::Session { ni, nr, initiator, responder, sid_i, sid_r, to_responder } => {
+            Context::Session { ni, nr, initiator, responder, sid_i, sid_r, to_responder, .. } => {
                 let side = if *to_responder { b"i" } else { b"r" };
                 let key = |label: &[u8]| {
                     let ids = (sid_i.to_be_bytes(), sid_r.to_be_bytes());

@@ -20,19 +20,21 @@ const TEST_TIME: u64 = 1_000;
 const INITIATOR: u8 = 1;
 const RESPONDER: u8 = 2;
 
-/// What all ends of the group know.
+/// What the ends of a group know that are in one generation of its secret.
 pub struct Group {
+    pub generation: u64,
     secret: Hmac,
     startup: (Rc<Context>, Keys),
     sign: Hmac,
 }
 
 impl Group {
-    pub fn new(secret: [u8; 32]) -> Self {
+    pub fn new(generation: u64, secret: [u8; 32]) -> Self {
         let secret = Hmac::new(&secret);
         let sign = Hmac::new(&secret.of(&[b"rtmfp sign"]));
-        let startup = (Rc::new(Context::Startup), Keys::new(&secret, &Context::Startup));
-        Group { secret, startup, sign }
+        let startup = Context::Startup { generation };
+        let startup = (Rc::new(startup.clone()), Keys::new(&secret, &startup));
+        Group { generation, secret, startup, sign }
     }
 }
 
@@ -126,6 +128,10 @@ pub enum Refusal {
     Queue(QueueRefusal),
     Finished,
     NotQueued,
+    NextKnown(u64),
+    GenerationsSpent,
+    SameSecret,
+    NoNext,
 }
 
 pub struct Out {
@@ -141,6 +147,8 @@ pub enum Entry {
     Sought { near: u32, name: Vec<u8> },
     Unsought { near: u32, why: Why },
     Moved { near: u32, to: Address },
+    Learnt { generation: u64 },
+    Advanced { generation: u64 },
     FlowOpened { near: u32, flow: u64 },
     Queued { near: u32, flow: u64, seq: u64, length: usize },
     Finished { near: u32, flow: u64, seq: u64 },
@@ -152,7 +160,7 @@ pub enum Entry {
 
 enum Stage {
     Hello,
-    Keying { address: Address, cookie: Vec<u8> },
+    Keying { address: Address, cookie: Vec<u8>, group: Rc<Group> },
 }
 
 /// Whom an attempt is towards, and its number; or the name of the ends that are searched for.
@@ -200,8 +208,9 @@ struct Session {
     stamp: Option<(u16, u64)>,
     trip: Option<(u64, u64)>,
     flows: Flows,
-    /// The keying of a responder, which is sent again for a repeat.
+    /// The keying of a responder, which is sent again for a repeat, in this generation.
     rikeying: Vec<u8>,
+    group: Rc<Group>,
 }
 
 impl Attempt {
@@ -210,6 +219,14 @@ impl Attempt {
         match self.aim {
             Aim::AtPeer { n, .. } => Some(n),
             Aim::ByName(_) => None,
+        }
+    }
+
+    /// The generation that it takes datagrams in.
+    fn group<'a>(&'a self, current: &'a Rc<Group>) -> &'a Rc<Group> {
+        match &self.stage {
+            Stage::Hello => current,
+            Stage::Keying { group, .. } => group,
         }
     }
 }
@@ -247,20 +264,23 @@ enum Place {
 /// A datagram that was opened.
 pub struct Unsealed {
     place: Place,
+    /// Outside of sessions, the generation in which it opened; else the current one.
+    group: Rc<Group>,
     pub context: Rc<Context>,
     number: u64,
     plain: Vec<u8>,
 }
 
 impl Session {
-    fn new(joined: Joined, own: Print, mode: u8, secret: &Hmac, address: Address, moment: u64) -> Self {
+    fn new(joined: Joined, own: Print, mode: u8, group: &Rc<Group>, address: Address, moment: u64) -> Self {
         let (initiator, responder, sid_i, sid_r) = match mode {
             INITIATOR => (own, joined.peer, joined.near, joined.far),
             _ => (joined.peer, own, joined.far, joined.near),
         };
         let context = |to_responder| {
-            let context = Context::Session { ni: joined.ni, nr: joined.nr, initiator, responder, sid_i, sid_r, to_responder };
-            let keys = Keys::new(secret, &context);
+            let (generation, ni, nr) = (group.generation, joined.ni, joined.nr);
+            let context = Context::Session { generation, ni, nr, initiator, responder, sid_i, sid_r, to_responder };
+            let keys = Keys::new(&group.secret, &context);
             (Rc::new(context), keys)
         };
         let (inward, outward) = (context(mode == RESPONDER), context(mode == INITIATOR));
@@ -281,6 +301,7 @@ impl Session {
             trip: None,
             flows: Flows::new(),
             rikeying: Vec::new(),
+            group: group.clone(),
         }
     }
 
@@ -351,7 +372,9 @@ pub struct End {
     cert: Vec<u8>,
     max_peers: usize,
     max_sessions: usize,
+    /// The current generation, and the next one where it is known.
     group: Rc<Group>,
+    next: Option<Rc<Group>>,
     cookie_key: Hmac,
     started: u64,
     sealed: u64,
@@ -373,6 +396,7 @@ impl End {
             max_peers,
             max_sessions,
             group,
+            next: None,
             cookie_key: Hmac::new(&print),
             started: 0,
             sealed: 0,
@@ -399,6 +423,32 @@ impl End {
     }
 
     // ---- calls
+
+    pub fn generation(&self) -> u64 {
+        self.group.generation
+    }
+
+    /// The number of the generation after the current one, of which the secret may be learnt.
+    pub fn following(&self) -> Option<u64> {
+        self.group.generation.checked_add(1)
+    }
+
+    /// Learns the secret of the generation after the current one.
+    pub fn learn(&mut self, next: Option<Rc<Group>>, out: &mut Vec<Entry>) -> Result<(), Refusal> {
+        if let Some(next) = &self.next {
+            return Err(Refusal::NextKnown(next.generation));
+        }
+        let next = next.ok_or(Refusal::GenerationsSpent)?;
+        out.push(Entry::Learnt { generation: next.generation });
+        self.next = Some(next);
+        Ok(())
+    }
+
+    pub fn advance(&mut self, out: &mut Vec<Entry>) -> Result<(), Refusal> {
+        self.group = self.next.take().ok_or(Refusal::NoNext)?;
+        out.push(Entry::Advanced { generation: self.group.generation });
+        Ok(())
+    }
 
     pub fn open(&mut self, peer: Print, list: &[Address], moment: u64, draws: &Draws, out: &mut Vec<Entry>) -> Result<(), Refusal> {
         if list.is_empty() || list.len() > 16 {
@@ -586,16 +636,27 @@ impl End {
         }
         let sid = session_id(datagram);
         let place = self.place_of(sid).ok_or(Cause::UnknownSession)?;
+        let mut group = match place {
+            Place::Attempt(near) => self.attempts[&near].group(&self.group),
+            _ => &self.group,
+        };
         let (context, keys) = match place {
             Place::Session(near) => &self.sessions[&near].inward,
-            _ => &self.group.startup,
+            _ => &group.startup,
         };
+        let mut context = context.clone();
         // A number that no packet of a session has needs no tag.
         if matches!(place, Place::Session(_)) && datagram[20..28] != [0; 8] {
             return Err(Cause::BadTag);
         }
-        let (number, plain) = keys.open(sid, datagram).ok_or(Cause::BadTag)?;
-        Ok(Unsealed { place, context: context.clone(), number: u64::from_be_bytes(number[8..].try_into().unwrap()), plain })
+        let mut opened = keys.open(sid, datagram);
+        if let (None, Place::Startup, Some(next)) = (&opened, place, &self.next) {
+            (group, context) = (next, next.startup.0.clone());
+            opened = next.startup.1.open(sid, datagram);
+        }
+        let (number, plain) = opened.ok_or(Cause::BadTag)?;
+        let number = u64::from_be_bytes(number[8..].try_into().unwrap());
+        Ok(Unsealed { place, group: group.clone(), context, number, plain })
     }
 
     pub fn receive(&mut self, from: Address, moment: u64, unsealed: Result<Unsealed, Cause>, draws: &Draws, out: &mut Vec<Entry>) {
@@ -633,7 +694,7 @@ impl End {
         }
         let mut walk = Walk::default();
         for chunk in &packet.chunks {
-            if let Err(cause) = self.take_chunk(place, chunk, &mut walk, from, moment, draws, out) {
+            if let Err(cause) = self.take_chunk(place, &unsealed.group, chunk, &mut walk, from, moment, draws, out) {
                 out.push(Entry::Discard { place: chunk.at, cause });
             }
             walk.keyed |= chunk.kind == wire::IIKEYING;
@@ -678,8 +739,8 @@ impl End {
 
     #[allow(clippy::too_many_arguments)]
     fn take_chunk(
-        &mut self, place: Place, raw: &wire::RawChunk, walk: &mut Walk, from: Address, moment: u64, draws: &Draws,
-        out: &mut Vec<Entry>,
+        &mut self, place: Place, group: &Rc<Group>, raw: &wire::RawChunk, walk: &mut Walk, from: Address, moment: u64,
+        draws: &Draws, out: &mut Vec<Entry>,
     ) -> Result<(), Cause> {
         let chunk = Chunk::read(raw.kind, raw.payload, walk.before.take()).map_err(|fault| match fault {
             ChunkFault::Unknown => Cause::UnknownChunk(raw.kind),
@@ -704,14 +765,14 @@ impl End {
         }
         match (place, chunk) {
             (_, Chunk::Fragment) => Err(Cause::Fragment),
-            (Place::Startup, Chunk::IHello { epd, tag }) => self.take_open_hello(epd, tag, from, moment, out),
+            (Place::Startup, Chunk::IHello { epd, tag }) => self.take_open_hello(epd, tag, from, moment, group, out),
             (Place::Startup, Chunk::Redirect { tag, list }) => self.take_redirect(tag, &list, from, moment, out),
-            (Place::Session(_), Chunk::FIHello { epd, reply, tag }) => self.take_hello(epd, tag, reply, moment, out),
-            (Place::Startup, Chunk::RHello { tag, cookie, cert }) => self.take_rhello(tag, cookie, cert, from, moment, out),
-            (Place::Startup, Chunk::CookieChange { old, new }) => self.take_cookie_change(None, old, new, moment, out),
-            (Place::Attempt(near), Chunk::CookieChange { old, new }) => self.take_cookie_change(Some(near), old, new, moment, out),
+            (Place::Session(_), Chunk::FIHello { epd, reply, tag }) => self.take_hello(epd, tag, reply, moment, &self.group.clone(), out),
+            (Place::Startup, Chunk::RHello { tag, cookie, cert }) => self.take_rhello(tag, cookie, cert, from, moment, group, out),
+            (Place::Startup, Chunk::CookieChange { old, new }) => self.take_cookie_change(None, old, new, moment, group, out),
+            (Place::Attempt(near), Chunk::CookieChange { old, new }) => self.take_cookie_change(Some(near), old, new, moment, group, out),
             (Place::Startup, Chunk::IIKeying(_)) if walk.keyed => Err(Cause::SecondKeying),
-            (Place::Startup, Chunk::IIKeying(keying)) => self.take_iikeying(&keying, from, moment, draws, out),
+            (Place::Startup, Chunk::IIKeying(keying)) => self.take_iikeying(&keying, from, moment, draws, group, out),
             (Place::Attempt(near), Chunk::RIKeying(keying)) => self.take_rikeying(near, &keying, from, moment, out),
             (Place::Session(near), Chunk::Ping(bytes)) => {
                 if bytes.len() > 1024 {
@@ -748,7 +809,9 @@ impl End {
         }
     }
 
-    fn take_hello(&mut self, epd: &[u8], tag: &[u8], to: Address, moment: u64, out: &mut Vec<Entry>) -> Result<(), Cause> {
+    fn take_hello(
+        &mut self, epd: &[u8], tag: &[u8], to: Address, moment: u64, group: &Rc<Group>, out: &mut Vec<Entry>,
+    ) -> Result<(), Cause> {
         not_wide(tag)?;
         let selects = match epd {
             [1, print @ ..] => print == self.print,
@@ -762,15 +825,17 @@ impl End {
         put_counted(tag, &mut payload);
         put_counted(&self.cookie(to, moment), &mut payload);
         payload.extend_from_slice(&self.cert);
-        self.send_startup(0, to, wire::RHELLO, &payload, out);
+        self.send_startup(group, 0, to, wire::RHELLO, &payload, out);
         Ok(())
     }
 
     /// Answers a hello for this end; of one for another end it tells that one, or tells of it, or both.
-    fn take_open_hello(&mut self, epd: &[u8], tag: &[u8], from: Address, moment: u64, out: &mut Vec<Entry>) -> Result<(), Cause> {
+    fn take_open_hello(
+        &mut self, epd: &[u8], tag: &[u8], from: Address, moment: u64, group: &Rc<Group>, out: &mut Vec<Entry>,
+    ) -> Result<(), Cause> {
         let selected = epd.split_first().filter(|(kind, _)| **kind == 1).and_then(|(_, print)| Print::try_from(print).ok());
         let Some(peer) = selected.filter(|print| *print != self.print) else {
-            return self.take_hello(epd, tag, from, moment, out);
+            return self.take_hello(epd, tag, from, moment, group, out);
         };
         not_wide(tag)?;
         let before = out.len();
@@ -788,7 +853,7 @@ impl End {
             let mut payload = Vec::with_capacity(256);
             put_counted(tag, &mut payload);
             row.iter().for_each(|place| place.write(0, &mut payload));
-            self.send_startup(0, from, wire::REDIRECT, &payload, out);
+            self.send_startup(group, 0, from, wire::REDIRECT, &payload, out);
         }
         if out.len() == before { Err(Cause::NotSelected) } else { Ok(()) }
     }
@@ -818,7 +883,8 @@ impl End {
     }
 
     fn take_rhello(
-        &mut self, tag: &[u8], cookie: &[u8], cert: &[u8], from: Address, moment: u64, out: &mut Vec<Entry>,
+        &mut self, tag: &[u8], cookie: &[u8], cert: &[u8], from: Address, moment: u64, group: &Rc<Group>,
+        out: &mut Vec<Entry>,
     ) -> Result<(), Cause> {
         not_wide(tag)?;
         not_wide(cookie)?;
@@ -834,7 +900,7 @@ impl End {
             Aim::ByName(_) => self.find(near, print, moment, out)?,
         }
         let attempt = self.attempts.get_mut(&near).unwrap();
-        attempt.stage = Stage::Keying { address: from, cookie: cookie.to_vec() };
+        attempt.stage = Stage::Keying { address: from, cookie: cookie.to_vec(), group: group.clone() };
         (attempt.sent, attempt.gap) = (moment, 0);
         self.send_attempt(near, out);
         Ok(())
@@ -864,7 +930,7 @@ impl End {
     }
 
     fn take_cookie_change(
-        &mut self, near: Option<u32>, old: &[u8], new: &[u8], moment: u64, out: &mut Vec<Entry>,
+        &mut self, near: Option<u32>, old: &[u8], new: &[u8], moment: u64, group: &Rc<Group>, out: &mut Vec<Entry>,
     ) -> Result<(), Cause> {
         not_wide(old)?;
         not_wide(new)?;
@@ -872,7 +938,10 @@ impl End {
         let (near, attempt) = attempts
             .find(|(_, a)| matches!(&a.stage, Stage::Keying { cookie, .. } if cookie == old))
             .ok_or(Cause::NoAttempt)?;
-        if let Stage::Keying { cookie, .. } = &mut attempt.stage {
+        if let Stage::Keying { cookie, group: own, .. } = &mut attempt.stage {
+            if own.generation != group.generation {
+                return Err(Cause::NoAttempt);
+            }
             *cookie = new.to_vec();
         }
         attempt.sent = moment;
@@ -881,8 +950,10 @@ impl End {
         Ok(())
     }
 
-    fn take_iikeying(&mut self, keying: &IIKeying, from: Address, moment: u64, draws: &Draws, out: &mut Vec<Entry>) -> Result<(), Cause> {
-        if self.group.sign.of(&[keying.signed]) != keying.sign {
+    fn take_iikeying(
+        &mut self, keying: &IIKeying, from: Address, moment: u64, draws: &Draws, group: &Rc<Group>, out: &mut Vec<Entry>,
+    ) -> Result<(), Cause> {
+        if group.sign.of(&[keying.signed]) != keying.sign {
             return Err(Cause::BadSignature);
         }
         not_wide(keying.cookie)?;
@@ -892,7 +963,7 @@ impl End {
                 let mut payload = Vec::with_capacity(96);
                 put_counted(keying.cookie, &mut payload);
                 payload.extend_from_slice(&self.cookie(from, moment));
-                self.send_startup(keying.near, from, wire::COOKIECHANGE, &payload, out);
+                self.send_startup(group, keying.near, from, wire::COOKIECHANGE, &payload, out);
                 return Ok(());
             }
             Test::Current => {}
@@ -909,8 +980,8 @@ impl End {
             let session = &self.sessions[&near];
             let joined = &session.joined;
             if session.mode == RESPONDER && (joined.n, joined.ni, joined.far) == (keying.n, keying.ni, keying.near) {
-                let rikeying = session.rikeying.clone();
-                self.send_startup(keying.near, from, wire::RIKEYING, &rikeying, out);
+                let (rikeying, group) = (session.rikeying.clone(), session.group.clone());
+                self.send_startup(&group, keying.near, from, wire::RIKEYING, &rikeying, out);
                 return Ok(());
             }
         }
@@ -942,16 +1013,17 @@ impl End {
         let joined = Joined { peer, n: keying.n, near, far: keying.near, ni: keying.ni, nr: draws.nonce, k: self.started };
         self.hold(peer, Held::Session(near)).floor = keying.n;
         out.push(Entry::Fact(Fact::Born(joined.clone())));
-        let mut session = Session::new(joined, self.print, RESPONDER, &self.group.secret, from, moment);
-        session.rikeying = self.rikeying(&session.joined);
-        self.send_startup(keying.near, from, wire::RIKEYING, &session.rikeying, out);
+        let mut session = Session::new(joined, self.print, RESPONDER, group, from, moment);
+        session.rikeying = self.rikeying(&session.joined, group);
+        self.send_startup(group, keying.near, from, wire::RIKEYING, &session.rikeying, out);
         self.sessions.insert(near, session);
         Ok(())
     }
 
     fn take_rikeying(&mut self, near: u32, keying: &RIKeying, from: Address, moment: u64, out: &mut Vec<Entry>) -> Result<(), Cause> {
         let attempt = self.attempts.get(&near).ok_or(Cause::NoAttempt)?;
-        if self.group.sign.of(&[keying.signed]) != keying.sign {
+        let group = attempt.group(&self.group).clone();
+        if group.sign.of(&[keying.signed]) != keying.sign {
             return Err(Cause::BadSignature);
         }
         let Aim::AtPeer { peer, n } = attempt.aim else { return Err(Cause::NoAttempt) };
@@ -970,7 +1042,7 @@ impl End {
         let row = self.hold(peer, Held::Session(near));
         row.floor = row.floor.max(keying.k);
         out.push(Entry::Fact(Fact::Opened(joined.clone())));
-        self.sessions.insert(near, Session::new(joined, self.print, INITIATOR, &self.group.secret, from, moment));
+        self.sessions.insert(near, Session::new(joined, self.print, INITIATOR, &group, from, moment));
         self.send_in_session(near, from, wire::PING, &[], moment, out);
         Ok(())
     }
@@ -1070,12 +1142,12 @@ impl End {
 
     // ---- sending
 
-    fn send_startup(&mut self, sid: u32, to: Address, kind: u8, payload: &[u8], out: &mut Vec<Entry>) {
+    fn send_startup(&mut self, group: &Group, sid: u32, to: Address, kind: u8, payload: &[u8], out: &mut Vec<Entry>) {
         self.sealed += 1;
         let mut number = [0; 16];
         number[..8].copy_from_slice(&self.print[..8]);
         number[8..].copy_from_slice(&self.sealed.to_be_bytes());
-        let (context, keys) = &self.group.startup;
+        let (context, keys) = &group.startup;
         let datagram = keys.seal(sid, number, &packet(STARTUP_MODE, None, None, kind, payload)).into();
         out.push(Entry::Out(Out { to, datagram, context: context.clone(), kinds: Kinds::One(kind) }));
     }
@@ -1115,15 +1187,15 @@ impl End {
                 let list = attempt.candidates.clone();
                 self.send_hellos(near, &list, out);
             }
-            Stage::Keying { address, cookie } => {
-                let to = *address;
+            Stage::Keying { address, cookie, group } => {
+                let (to, group) = (*address, group.clone());
                 payload.extend_from_slice(&near.to_be_bytes());
                 put_counted(cookie, &mut payload);
                 put_counted(&self.cert, &mut payload);
                 let Aim::AtPeer { peer, n } = &attempt.aim else { unreachable!("a search sends no keying") };
                 put_counted(&[&attempt.ni[..], &n.to_be_bytes(), peer].concat(), &mut payload);
-                payload.extend_from_slice(&self.group.sign.of(&[&payload]));
-                self.send_startup(0, to, wire::IIKEYING, &payload, out);
+                payload.extend_from_slice(&group.sign.of(&[&payload]));
+                self.send_startup(&group, 0, to, wire::IIKEYING, &payload, out);
             }
         }
     }
@@ -1138,16 +1210,17 @@ impl End {
         let mut payload = Vec::with_capacity(128);
         put_counted(&epd, &mut payload);
         payload.extend_from_slice(&attempt.tag);
+        let group = self.group.clone();
         for to in list {
-            self.send_startup(0, *to, wire::IHELLO, &payload, out);
+            self.send_startup(&group, 0, *to, wire::IHELLO, &payload, out);
         }
     }
 
-    fn rikeying(&self, joined: &Joined) -> Vec<u8> {
+    fn rikeying(&self, joined: &Joined, group: &Group) -> Vec<u8> {
         let mut payload = Vec::with_capacity(128);
         payload.extend_from_slice(&joined.near.to_be_bytes());
         put_counted(&[&joined.nr[..], &joined.k.to_be_bytes(), &self.print, &joined.ni].concat(), &mut payload);
-        let sign = self.group.sign.of(&[&payload]);
+        let sign = group.sign.of(&[&payload]);
         payload.extend_from_slice(&sign);
         payload
     }

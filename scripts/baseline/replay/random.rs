@@ -62,6 +62,16 @@ pub fn names(seed: u64, steps: u64) -> Result<World, (StepFault, u64)> {
     Ok(script.world)
 }
 
+/// A world of several ends that change the group's secret while they search for and call each other, after a script of so
+/// many lines behind those of the ends. Each learns and goes over by itself.
+pub fn successions(seed: u64, steps: u64) -> Result<World, (StepFault, u64)> {
+    let mut script = Script::new(seed, CALLERS);
+    script.disorder = script.draw(30);
+    let done = script.meet_by_name().and_then(|()| (0..steps).try_for_each(|_| script.succeed()));
+    done.map_err(|fault| (fault, script.line))?;
+    Ok(script.world)
+}
+
 /// A world of several ends at places, of which the first introduces the others, after a script of so many lines behind
 /// those that place them.
 pub fn places(seed: u64, steps: u64) -> Result<World, (StepFault, u64)> {
@@ -315,6 +325,23 @@ impl Script {
             8..=40 => self.bring_some(),
             41..=46 => self.step(Step::Tick { end }),
             _ => self.call(),
+        }
+    }
+
+    /// A step of ends that change the group's secret, or one of ends that search for each other.
+    fn succeed(&mut self) -> Result<(), StepFault> {
+        let (end, peer) = (self.end(), self.end());
+        // Mostly one that is behind the others.
+        let ends = &self.world.ends;
+        let last = (0..self.ends).min_by_key(|end| ends[*end].generation()).unwrap_or(0);
+        let next = if self.draw(8) == 0 { end } else { last };
+        match self.draw(2 * PARTS) {
+            0 => self.step(Step::Learn { end: next }),
+            1 => self.step(Step::Learn { end }),
+            2 => self.step(Step::Advance { end: next }),
+            3..=20 => self.step(Step::Open { end, peer, list: vec![address_of(peer)] }),
+            21..=80 => self.bring_some(),
+            _ => self.search(),
         }
     }
 

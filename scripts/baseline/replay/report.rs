@@ -37,6 +37,8 @@ pub fn print_script(world: &World) {
             Step::Deliver { number, end, from } => writeln!(out, "deliver {number} {} {}", name(end), At(*from)),
             Step::Tick { end } => writeln!(out, "tick {}", name(end)),
             Step::Introduce { end } => writeln!(out, "introduce {}", name(end)),
+            Step::Learn { end } => writeln!(out, "learn {}", name(end)),
+            Step::Advance { end } => writeln!(out, "advance {}", name(end)),
             Step::Redirect { end, peer, list } => writeln!(out, "redirect {} {}{}", name(end), name(peer), places(list)),
             Step::Translator { name, mapping, filter, host: [a, b, c, d], first } => {
                 writeln!(out, "translator {name} {} {} {a}.{b}.{c}.{d} {first}", rule(*mapping), rule(*filter))
@@ -93,6 +95,8 @@ pub fn write_line(out: &mut impl Write, world: &World, line: &JournalLine, sent:
             }
             Entry::Unsought { near, why } => writeln!(out, "unsought near={near} {}", why_text(*why))?,
             Entry::Moved { near, to } => writeln!(out, "moved near={near} {}", At(*to))?,
+            Entry::Learnt { generation } => writeln!(out, "learnt {generation}")?,
+            Entry::Advanced { generation } => writeln!(out, "advanced {generation}")?,
             Entry::Discard { place, cause } => writeln!(out, "drop {place} {}", cause_text(cause))?,
             Entry::FlowOpened { near, flow } => writeln!(out, "flow near={near} id={flow}")?,
             Entry::Queued { near, flow, seq, length } => {
@@ -241,6 +245,10 @@ fn refusal(refusal: &Refusal) -> String {
         Refusal::Queue(QueueRefusal::SequenceSpent) => "sequence-spent".into(),
         Refusal::Queue(QueueRefusal::Finished) | Refusal::Finished => "finished".into(),
         Refusal::NotQueued => "not-queued".into(),
+        Refusal::NextKnown(generation) => format!("next-known {generation}"),
+        Refusal::GenerationsSpent => "generations-spent".into(),
+        Refusal::SameSecret => "same-secret".into(),
+        Refusal::NoNext => "no-next".into(),
     }
 }
 

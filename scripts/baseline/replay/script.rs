@@ -41,6 +41,8 @@ fn step(world: &World, word: &str, rest: &str) -> Option<Step> {
         }
         "tick" => Step::Tick { end: end(words.next())? },
         "introduce" => Step::Introduce { end: end(words.next())? },
+        "learn" => Step::Learn { end: end(words.next())? },
+        "advance" => Step::Advance { end: end(words.next())? },
         "redirect" => {
             let (end, peer) = (end(words.next())?, end(words.next())?);
             let list: Vec<Address> = words.by_ref().map(address).collect::<Option<_>>()?;
