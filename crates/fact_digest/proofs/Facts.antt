@@ -5,16 +5,16 @@ use Rattle.std.specs.Str.{bytes_eq}
 use Rattle.std.specs.Ordering.{nat_cmp}
 use Rattle.std.specs.Cmp.Lexicographic.{slice_cmp}
 use Rattle.std.specs.FinMap.{get, len, get-empty, len-empty}
-use Rattle.std.proofs.lemmas.Bool.{cases_Bool}
 use Rattle.glare_core.specs.declared.facts.Fact.{Fact}
 use Rattle.glare_core.specs.declared.facts.Fact.TheVariants.{Started, Born, Opened, Confirmed, Ended}
 use Rattle.glare_core.specs.declared.facts.Held.{Held}
 use Rattle.glare_core.specs.declared.facts.Held.TheVariants.{Opening, HalfOpen}
 use Rattle.glare_core.specs.Standing.{peer_of, after, held, seen_in, count, with_peer, peers_in}
 use Rattle.glare_core.specs.Stands.{Stands}
-use Rattle.glare_core.specs.Ledger.{PeerRow, PeerRows, row_or_blank, row_in, row_after, rows_after}
+use Rattle.glare_core.specs.Ledger.{PeerRow, PeerRows, row_or_blank, row_in, row_after}
+use Rattle.glare_core.proofs.Accounts.{row_noted, any_same, any_with, length_with}
 use Rattle.glare_core.proofs.Tails.{same_end}
-use Rattle.glare_core.proofs.Maps.{bytes_eq_sym, row_inserted, known_inserted, len_inserted}
+use Rattle.glare_core.proofs.Maps.{known_inserted, len_inserted}
 use Rattle.fact_digest.specs.Roll.{Rolled, no_facts, started_after, with_fact, IsOfFacts}
 
 pub none_said : IsOfFacts [] no_facts
@@ -25,25 +25,6 @@ none_said = record {
   rows_are = len-empty (slice_cmp nat_cmp) PeerRow;
   count_is = refl;
 }
-
-row_noted : (fact : Fact) (rows : PeerRows) (q : List ℕ) → row_in (rows_after fact rows) q ≡ cond (bytes_eq (peer_of fact) q) (row_after fact (row_in rows q)) (row_in rows q)
-row_noted fact rows q =
-    row_inserted rows (peer_of fact) (row_after fact (row_in rows (peer_of fact))) q ∙
-    elim (same_end (peer_of fact) q) [ inl d ↦ rw d.1 (ap (λ r. row_after fact (row_in rows r)) d.0) | inr d ↦ rw d.1 refl ]
-
--- The different peers with one more.
-any_same : (p q : List ℕ) (peers : List (List ℕ)) → p ≡ q → list_any (bytes_eq p) peers ≡ true → list_any (bytes_eq q) peers ≡ true
-any_same p q peers e h = subst (λ r. list_any (bytes_eq r) peers ≡ true) e h
-
-any_with : (p q : List ℕ) (peers : List (List ℕ)) → list_any (bytes_eq q) (with_peer p peers) ≡ cond (bytes_eq p q) true (list_any (bytes_eq q) peers)
-any_with p q peers =
-    elim (cases_Bool (list_any (bytes_eq p) peers)) [
-      | inl here ↦ rw here (elim (same_end p q) [ inl d ↦ rw d.1 (any_same p q peers d.0 here) | inr d ↦ rw d.1 refl ])
-      | inr gone ↦ rw (gone, bytes_eq_sym q p) (elim (same_end p q) [ inl d ↦ rw d.1 refl | inr d ↦ rw d.1 refl ])
-    ]
-
-length_with : (p : List ℕ) (peers : List (List ℕ)) → length (with_peer p peers) ≡ cond (list_any (bytes_eq p) peers) (length peers) (length peers + 1)
-length_with p peers = elim (cases_Bool (list_any (bytes_eq p) peers)) [ inl here ↦ rw here refl | inr gone ↦ rw gone (omega arith) ]
 
 -- A peer with which something is held has a row.
 has_row : (o : Option PeerRow) (h : Held) → (row_or_blank o).held ≡ Some h → is_some o ≡ true

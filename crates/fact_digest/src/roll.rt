@@ -4,12 +4,12 @@ ghost use Rattle.std.specs.Prelude.{◌≡◌, ◌∷◌, ℕ, List, [], true, O
 ghost use Rattle.std.specs.Option.{option_copied};
 ghost use Rattle.std.specs.FinMap.{contains_key, len};
 ghost use Rattle.glare_core.specs.declared.facts.Fact.{Fact};
-ghost use Rattle.glare_core.specs.Standing.{peer_of, after, seen_in, count};
+ghost use Rattle.glare_core.specs.Standing.{peer_of, count};
 ghost use Rattle.glare_core.specs.Stands.{Stands};
 ghost use Rattle.glare_core.specs.Ledger.{row_in, row_after};
 ghost use Rattle.fact_digest.specs.Roll.{no_facts, started_after, with_fact, IsOfFacts};
 
-use glare_core::{Fact, Held};
+use glare_core::{Fact, Held, held_after, number_in, peer_of};
 use rtmfp_base::Memory;
 use std::alloc::Global;
 use std::collections::HashMap;
@@ -58,58 +58,13 @@ impl Model for Roll {
     ghost view = { λ r. record { started = r.started; rows = from_entries r.rows.entries } };
 }
 
-/// The peer that a fact speaks of.
-fn peer_of(fact: &Fact) -> [u8; 32]
-    ensures { result ≡ peer_of fact.now }
-{
-    match fact {
-        Fact::Started { peer, .. } | Fact::Confirmed { peer, .. } | Fact::Ended { peer, .. } =>
-            *peer,
-        Fact::Born(joined) | Fact::Opened(joined) => joined.peer,
-    }
-}
-
-/// What is held after a fact with its peer.
-fn held_after(fact: &Fact, before: Option<Held>) -> Option<Held>
-    ensures { result ≡ after fact.now before }
-{
-    match fact {
-        Fact::Started { n, near, ni, .. } => Some(Held::Opening {
-            n: *n,
-            near: *near,
-            ni: *ni,
-        }),
-        Fact::Born(joined) => Some(Held::HalfOpen(*joined)),
-        Fact::Opened(joined) => match before {
-            Some(Held::Opening { .. }) => Some(Held::KeptAsInitiator(*joined)),
-            other => other,
-        },
-        Fact::Confirmed { .. } => match before {
-            Some(Held::HalfOpen(joined)) => Some(Held::KeptAsResponder(joined)),
-            other => other,
-        },
-        Fact::Ended { .. } => None,
-    }
-}
-
-/// The number that a fact adds to those seen of its peer.
-fn seen_in(fact: &Fact) -> u64
-    ensures { result ≡ seen_in fact.now }
-{
-    match fact {
-        Fact::Born(joined) => joined.n,
-        Fact::Opened(joined) => joined.k,
-        _ => 0,
-    }
-}
-
 /// What a fact leaves of the row of its peer.
 fn row_after(fact: &Fact, before: Row) -> Row
     ensures { result ≡ row_after fact.now before }
 {
     Row {
         held: held_after(fact, before.held),
-        seen: seen_in(fact).max(before.seen),
+        seen: number_in(fact).max(before.seen),
     }
 }
 

@@ -17,7 +17,7 @@ use Rattle.glare_core.specs.Account.{AreLawful, StandsFor}
 use Rattle.glare_core.proofs.Tails.{same_end}
 use Rattle.glare_core.proofs.Maps.{bytes_eq_sym, row_inserted, known_inserted, len_inserted}
 
-row_noted : (fact : Fact) (rows : PeerRows) (q : List ℕ) → row_in (rows_after fact rows) q ≡ cond (bytes_eq (peer_of fact) q) (row_after fact (row_in rows q)) (row_in rows q)
+pub row_noted : (fact : Fact) (rows : PeerRows) (q : List ℕ) → row_in (rows_after fact rows) q ≡ cond (bytes_eq (peer_of fact) q) (row_after fact (row_in rows q)) (row_in rows q)
 row_noted fact rows q =
     row_inserted rows (peer_of fact) (row_after fact (row_in rows (peer_of fact))) q ∙
     elim (same_end (peer_of fact) q) [ inl d ↦ rw d.1 (ap (λ r. row_after fact (row_in rows r)) d.0) | inr d ↦ rw d.1 refl ]
@@ -41,17 +41,17 @@ started_left own max_peers from [] = omega arith
 started_left own max_peers from (fact ∷ earlier) = omega (arith, started_left own max_peers from earlier)
 
 -- The different peers.
-any_same : (p q : List ℕ) (peers : List (List ℕ)) → p ≡ q → list_any (bytes_eq p) peers ≡ true → list_any (bytes_eq q) peers ≡ true
+pub any_same : (p q : List ℕ) (peers : List (List ℕ)) → p ≡ q → list_any (bytes_eq p) peers ≡ true → list_any (bytes_eq q) peers ≡ true
 any_same p q peers e h = subst (λ r. list_any (bytes_eq r) peers ≡ true) e h
 
-any_with : (p q : List ℕ) (peers : List (List ℕ)) → list_any (bytes_eq q) (with_peer p peers) ≡ cond (bytes_eq p q) true (list_any (bytes_eq q) peers)
+pub any_with : (p q : List ℕ) (peers : List (List ℕ)) → list_any (bytes_eq q) (with_peer p peers) ≡ cond (bytes_eq p q) true (list_any (bytes_eq q) peers)
 any_with p q peers =
     elim (cases_Bool (list_any (bytes_eq p) peers)) [
       | inl here ↦ rw here (elim (same_end p q) [ inl d ↦ rw d.1 (any_same p q peers d.0 here) | inr d ↦ rw d.1 refl ])
       | inr gone ↦ rw (gone, bytes_eq_sym q p) (elim (same_end p q) [ inl d ↦ rw d.1 refl | inr d ↦ rw d.1 refl ])
     ]
 
-length_with : (p : List ℕ) (peers : List (List ℕ)) → length (with_peer p peers) ≡ cond (list_any (bytes_eq p) peers) (length peers) (length peers + 1)
+pub length_with : (p : List ℕ) (peers : List (List ℕ)) → length (with_peer p peers) ≡ cond (list_any (bytes_eq p) peers) (length peers) (length peers + 1)
 length_with p peers = elim (cases_Bool (list_any (bytes_eq p) peers)) [ inl here ↦ rw here refl | inr gone ↦ rw gone (omega arith) ]
 
 -- A peer with which something is held is among them.

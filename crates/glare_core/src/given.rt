@@ -10,7 +10,7 @@ use crate::facts::{Fact, Held, Joined, Why};
 use identity::prevails;
 
 /// The peer that a fact speaks of.
-pub(crate) fn peer_of(fact: &Fact) -> [u8; 32]
+pub fn peer_of(fact: &Fact) -> [u8; 32]
     ensures { result ≡ peer_of fact.now }
 {
     match fact {
@@ -21,7 +21,7 @@ pub(crate) fn peer_of(fact: &Fact) -> [u8; 32]
 }
 
 /// What is held after a fact with its peer.
-pub(crate) fn held_after(fact: &Fact, before: Option<Held>) -> Option<Held>
+pub fn held_after(fact: &Fact, before: Option<Held>) -> Option<Held>
     ensures { result ≡ after fact.now before }
 {
     match fact {
@@ -44,7 +44,7 @@ pub(crate) fn held_after(fact: &Fact, before: Option<Held>) -> Option<Held>
 }
 
 /// The number that a fact adds to those seen of its peer.
-pub(crate) fn number_in(fact: &Fact) -> u64
+pub fn number_in(fact: &Fact) -> u64
     ensures { result ≡ seen_in fact.now }
 {
     match fact {

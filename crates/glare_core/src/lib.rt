@@ -14,4 +14,5 @@ mod rows;
 
 pub use answers::{HearRefusal, Heard, Judged, Keying, StartRefusal, Way};
 pub use facts::{Fact, Held, Joined, Why};
+pub use given::{held_after, number_in, peer_of};
 pub use peers::Peers;
