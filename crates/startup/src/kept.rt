@@ -5,19 +5,19 @@ ghost use Rattle.std.specs.Option.{option_copied};
 ghost use Rattle.std.specs.FinMap.{empty, get, insert, remove};
 
 use crate::print::Print;
-use crypto_profile::Keys;
+use crypto_profile::PlainKeys;
 use rtmfp_base::Memory;
 use std::alloc::Global;
 use std::collections::HashMap;
 use std::marker::Model;
 
 /// What answers a repeated keying of a session that was born here: the generation in which its
-/// keying came, the startup keys of that generation, and the signature of the responder's keying.
-/// The secret itself isn't kept (own).
+/// keying came, the startup keys of that generation as bytes, and the signature of the responder's
+/// keying. The secret itself isn't kept (own).
 #[derive(Drop)]
 pub(crate) struct KeptKeying {
     pub(crate) generation: u64,
-    pub(crate) keys: Keys,
+    pub(crate) keys: PlainKeys,
     pub(crate) sign: [u8; 32],
 }
 

@@ -27,7 +27,7 @@ use crate::choosing::wide;
 use crate::kept::KeptKeying;
 use crate::rows::forget;
 use crate::startup::Startup;
-use crypto_profile::Generation;
+use crypto_profile::{Generation, Keys};
 use glare_core::{Fact, Joined, Keying, Way, Why};
 use rtmfp_base::{Cause, Memory};
 use rtmfp_forms::Address;
@@ -141,7 +141,7 @@ impl Startup {
     {
         KeptKeying {
             generation: under.number(),
-            keys: under.startup().copy(),
+            keys: under.startup().plain(),
             sign: rikeying_signature(
                 under.sign(),
                 session.near,
@@ -153,8 +153,15 @@ impl Startup {
         }
     }
 
-    /// The responder's keying of a session, as it is kept.
-    pub(crate) fn kept_answer(&self, session: &Joined, from: &Address, kept: &KeptKeying) -> Answer
+    /// The responder's keying of a session, as it is kept, with the kept keys hashed for use.
+    pub(crate) fn kept_answer(
+        &self,
+        session: &Joined,
+        from: &Address,
+        kept: &KeptKeying,
+        keys: Keys,
+    ) -> Answer
+        requires { keys ≡ kept.now.keys }
         ensures kept { result ≡ kept_answer self.now session.now from.now kept.now }
         ensures born { (g : GroupSecret) → kept.now ≡ kept_keying self.now session.now g →
             result ≡ session_answer self.now session.now from.now g }
@@ -171,7 +178,7 @@ impl Startup {
                 &kept.sign,
             ),
             generation: kept.generation,
-            keys: kept.keys.copy(),
+            keys,
         }
     }
 
@@ -182,7 +189,7 @@ impl Startup {
             ≡ Some (IsAgain result) }
     {
         match self.kept.get(peer) {
-            Some(kept) => self.kept_answer(session, from, kept),
+            Some(kept) => self.kept_answer(session, from, kept, kept.keys.hashed()),
             None => unreachable!(),
         }
     }
@@ -223,7 +230,7 @@ impl Startup {
             k: self.peers.started(),
         };
         let kept = self.kept_keying(&session, under);
-        let answer = self.kept_answer(&session, from, &kept);
+        let answer = self.kept_answer(&session, from, &kept, under.startup().copy());
         match self.peers.bear(keying, way, near, nr) {
             Ok((ended, born)) => {
                 let attempt = attempt_gone(&ended);
