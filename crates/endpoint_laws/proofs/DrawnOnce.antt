@@ -21,34 +21,34 @@ Nonces = List (List ℕ)
 
 -- ---- lists that are all different
 
-among_left : (x : List ℕ) (xs ys : Nonces) → Among x xs → Among x (xs ++ ys)
+pub among_left : (x : List ℕ) (xs ys : Nonces) → Among x xs → Among x (xs ++ ys)
 among_left x [] ys a = absurd a
 among_left x (y ∷ xs) ys (inl is) = inl is
 among_left x (y ∷ xs) ys (inr later) = inr (among_left x xs ys later)
 
-among_right : (x : List ℕ) (xs ys : Nonces) → Among x ys → Among x (xs ++ ys)
+pub among_right : (x : List ℕ) (xs ys : Nonces) → Among x ys → Among x (xs ++ ys)
 among_right x [] ys a = a
 among_right x (y ∷ xs) ys a = inr (among_right x xs ys a)
 
-among_either : (x : List ℕ) (xs ys : Nonces) → Among x (xs ++ ys) → Among x xs ⊎ Among x ys
+pub among_either : (x : List ℕ) (xs ys : Nonces) → Among x (xs ++ ys) → Among x xs ⊎ Among x ys
 among_either x [] ys a = inr a
 among_either x (y ∷ xs) ys (inl is) = inl (inl is)
 among_either x (y ∷ xs) ys (inr later) = elim (among_either x xs ys later) [ inl a ↦ inl (inr a) | inr a ↦ inr a ]
 
-different_left : (xs ys : Nonces) → AllDifferent (xs ++ ys) → AllDifferent xs
+pub different_left : (xs ys : Nonces) → AllDifferent (xs ++ ys) → AllDifferent xs
 different_left [] ys d = tt
 different_left (x ∷ xs) ys d = ((λ a. d.0 (among_left x xs ys a)), different_left xs ys d.1)
 
-different_right : (xs ys : Nonces) → AllDifferent (xs ++ ys) → AllDifferent ys
+pub different_right : (xs ys : Nonces) → AllDifferent (xs ++ ys) → AllDifferent ys
 different_right [] ys d = d
 different_right (x ∷ xs) ys d = different_right xs ys d.1
 
-apart : (x : List ℕ) (xs ys : Nonces) → AllDifferent (xs ++ ys) → Among x xs → Among x ys → ⊥
+pub apart : (x : List ℕ) (xs ys : Nonces) → AllDifferent (xs ++ ys) → Among x xs → Among x ys → ⊥
 apart x [] ys d a b = a
 apart x (y ∷ xs) ys d (inl is) b = d.0 (subst (λ (z : List ℕ). Among z (xs ++ ys)) is (among_right x xs ys b))
 apart x (y ∷ xs) ys d (inr later) b = apart x xs ys d.1 later b
 
-different_both : (xs ys : Nonces) → AllDifferent xs → AllDifferent ys → ((x : List ℕ) → Among x xs → Among x ys → ⊥) → AllDifferent (xs ++ ys)
+pub different_both : (xs ys : Nonces) → AllDifferent xs → AllDifferent ys → ((x : List ℕ) → Among x xs → Among x ys → ⊥) → AllDifferent (xs ++ ys)
 different_both [] ys d e none = e
 different_both (x ∷ xs) ys d e none =
     ((λ a. elim (among_either x xs ys a) [ inl here ↦ d.0 here | inr there ↦ none x (inl refl) there ]), different_both xs ys d.1 e (λ z a b. none z (inr a) b))
@@ -225,7 +225,7 @@ draws_onto m k (x ∷ xs) past alone older last same =
     (ap (λ (c : Option Call). draws_done (OfEntry x) c ++ draws_of past) last ∙ ap (λ (l : Nonces). draws_done (OfEntry x) (last_call alone) ++ l) same
     ∙ sym (append_assoc (draws_done (OfEntry x) (last_call alone)) (draws_of alone) older))
 
-nonces_and : (o : Option Fact) (facts alone : List Fact) (older : Nonces) → nonces_of facts ≡ nonces_of alone ++ older → nonces_of (fact_and o facts) ≡ nonces_of (fact_and o alone) ++ older
+pub nonces_and : (o : Option Fact) (facts alone : List Fact) (older : Nonces) → nonces_of facts ≡ nonces_of alone ++ older → nonces_of (fact_and o facts) ≡ nonces_of (fact_and o alone) ++ older
 nonces_and None facts alone older same = same
 nonces_and (Some (Started peer n near ni)) facts alone older same = ap (λ (l : Nonces). ni ∷ l) same
 nonces_and (Some (Born j)) facts alone older same = ap (λ (l : Nonces). j.nr ∷ l) same
@@ -233,7 +233,7 @@ nonces_and (Some (Opened j)) facts alone older same = same
 nonces_and (Some (Confirmed peer near)) facts alone older same = same
 nonces_and (Some (Ended peer near why)) facts alone older same = same
 
-nonces_onto : (m k : ℕ) (entries : List Entry) (past alone : Past) (older : Nonces) → nonces_of (facts_of past) ≡ nonces_of (facts_of alone) ++ older →
+pub nonces_onto : (m k : ℕ) (entries : List Entry) (past alone : Past) (older : Nonces) → nonces_of (facts_of past) ≡ nonces_of (facts_of alone) ++ older →
     nonces_of (facts_of (onto m entries past)) ≡ nonces_of (facts_of (onto k entries alone)) ++ older
 nonces_onto m k [] past alone older same = same
 nonces_onto m k (x ∷ xs) past alone older same = nonces_onto m k xs (stamped m x ∷ past) (stamped k x ∷ alone) older (nonces_and (fact_in x) (facts_of past) (facts_of alone) older same)

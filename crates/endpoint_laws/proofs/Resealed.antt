@@ -30,7 +30,7 @@ tag_bytes keys sid number plain i within =
 word_small : (a b c d : ℕ) → a < 256 → b < 256 → c < 256 → d < 256 → a * 16777216 + b * 65536 + c * 256 + d < 2 ^ 32
 word_small a b c d p q r s = omega arith
 
-scrambled_small : (keys : Keys) (sid : ℕ) (number plain : List ℕ) → sid < 2 ^ 32 → scrambled sid (sealed keys sid number plain) < 2 ^ 32
+pub scrambled_small : (keys : Keys) (sid : ℕ) (number plain : List ℕ) → sid < 2 ^ 32 → scrambled sid (sealed keys sid number plain) < 2 ^ 32
 scrambled_small keys sid number plain small =
     let part : List ℕ = sealed keys sid number plain in
     let at : (i : ℕ) → i < 16 → get_or part i 0 < 256 = tag_bytes keys sid number plain in
@@ -40,7 +40,7 @@ scrambled_small keys sid number plain small =
     let second : second_word part < 2 ^ 32 = omega (arith, second_word_bytes part, two) in
     xor_of_32 (bit_xor sid (first_word part)) (second_word part) (xor_of_32 sid (first_word part) small first) second
 
-pub opens_again : (secrets : Secrets) (secret : List ℕ) (generation sid : ℕ) (number plain : List ℕ) → get secrets generation ≡ Some secret → sid < 2 ^ 32 → length number ≡ 16 →
+unfoldable pub opens_again : (secrets : Secrets) (secret : List ℕ) (generation sid : ℕ) (number plain : List ℕ) → get secrets generation ≡ Some secret → sid < 2 ^ 32 → length number ≡ 16 →
     OpensUnder secrets (Startup generation) sid (datagram sid (sealed_in secret (Startup generation) sid number plain)) plain
 opens_again secrets secret generation sid number plain known small size =
     let keys : Keys = keys_of secret (Startup generation) in
