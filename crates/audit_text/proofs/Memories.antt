@@ -20,7 +20,3 @@ event_takes name moment nonce (Some Advance) h = absurd h
 event_takes name moment nonce (Some (Receive from datagram)) h = tt
 event_takes name moment nonce (Some Tick) h = absurd h
 event_takes name moment nonce (Some Other) h = absurd h
-
-pub entry_takes : (o : Option LogEntry) → EntryTakesMemory o → LineTakesMemory (o >>= λ entry. Some (Entry entry))
-entry_takes None h = absurd h
-entry_takes (Some entry) h = h
