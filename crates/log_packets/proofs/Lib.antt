@@ -1,0 +1,9 @@
+pub mod Entries
+pub mod Opens
+pub mod Firsts
+pub mod Seals
+pub mod Chunks
+pub mod SaidFields
+pub mod SeenKeyings
+pub mod Asking
+pub mod OpenedReads

@@ -1,0 +1,5 @@
+pub mod Secrets
+pub mod Opening
+pub mod Asked
+pub mod Laws
+pub mod Edges
