@@ -1,0 +1,1 @@
+use Rattle.log_contexts.proofs.taking.Taking.held.Goals as goal

@@ -1,0 +1,6 @@
+pub mod Kept
+pub mod Changes
+pub mod Contexts
+pub mod Taking
+pub mod Edges
+pub mod Laws
