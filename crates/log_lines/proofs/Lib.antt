@@ -1,0 +1,4 @@
+pub mod Asked
+pub mod Standing
+pub mod Ages
+pub mod Ending
