@@ -1,0 +1,4 @@
+pub mod Arriving
+pub mod Answering
+pub mod Hearing
+pub mod Joining
