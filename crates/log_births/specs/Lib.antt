@@ -1,0 +1,5 @@
+pub mod Offers
+pub mod Rooms
+pub mod Ways
+pub mod Births
+pub mod Edges
