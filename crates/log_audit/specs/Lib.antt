@@ -1,0 +1,5 @@
+pub mod Told
+pub mod Checks
+pub mod Audited
+pub mod Laws
+pub mod Edges
