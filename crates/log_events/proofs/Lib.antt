@@ -1,0 +1,6 @@
+pub mod Calls
+pub mod Things
+pub mod Underway
+pub mod Telling
+pub mod Watching
+pub mod Beginning

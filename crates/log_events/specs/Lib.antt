@@ -1,0 +1,4 @@
+pub mod Underway
+pub mod Laws
+pub mod Watch
+pub mod Edges
