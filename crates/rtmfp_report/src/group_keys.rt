@@ -145,6 +145,9 @@ impl GroupKeys {
         let Some(slot) = slot_of(context) else {
             return;
         };
+        if self.kept_key(context).is_some() {
+            return;
+        }
         let Some(key) = self.derived(context) else {
             return;
         };
