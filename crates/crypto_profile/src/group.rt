@@ -96,6 +96,18 @@ impl Generation {
         }
     }
 
+    /// The same generation, which isn't hashed again.
+    pub fn copy(&self) -> Generation
+        ensures { result ≡ self.now }
+    {
+        Generation {
+            number: self.number,
+            secret: self.secret.copy(),
+            sign: self.sign.copy(),
+            startup: self.startup.copy(),
+        }
+    }
+
     /// Whether it is the generation of this number with this secret.
     pub fn is(&self, group: &GroupSecret) -> bool
         ensures { result ≡ (self.now.generation == group.now.generation)
