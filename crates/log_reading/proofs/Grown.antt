@@ -7,7 +7,7 @@ use Rattle.log_values.specs.declared.log.EndLog.{EndLog}
 use Rattle.log_values.specs.declared.log.Logged.{Logged}
 use Rattle.log_values.specs.Events.{event_of, events_of, setup_of}
 use Rattle.log_values.specs.Told.{Logs, logs_of}
-use Rattle.log_audit.specs.Told.{setups_of}
+use Rattle.log_verdict.specs.Told.{setups_of}
 use Rattle.log_reading.specs.Gathered.{and_entry, change_at, to_last}
 
 pub length_logs : (logs : List EndLog) → length (logs_of logs) ≡ length logs

@@ -4,14 +4,14 @@ ghost use Rattle.std.specs.Prelude.{◌≡◌, ◌≤◌, ◌<◌, ◌+◌, ◌+
 ghost use Rattle.log_values.specs.Events.{event_of, events_of, setup_of};
 ghost use Rattle.log_values.specs.Told.{IsOrder, logs_of};
 ghost use Rattle.log_reading.specs.Said.{entry_said, event_said, setup_said};
-ghost use Rattle.log_audit.specs.Told.{setups_of};
+ghost use Rattle.log_verdict.specs.Told.{setups_of};
 ghost use Rattle.audit_text.specs.declared.line.LogLine.TheVariants.{Log as LogOf, Event as EventOf, Entry as EntryOf};
 ghost use Rattle.log_reading.specs.Gathered.{and_entry, and_event, change_at, line_from, line_of, may_stand, nothing_read, place_of, read_with, taken, to_last, with_entry, with_event, with_log};
 
 use crate::turning::{entry_of, event_of, log_of};
 use audit_text::{LogEntry, LogEvent, LogHead, LogLine};
 use endpoint_model::Entry;
-use log_audit::Finding;
+use log_verdict::Finding;
 use log_values::{EndLog, Logged};
 use rtmfp_base::Memory;
 use rtmfp_text::Name;
@@ -54,7 +54,7 @@ pub struct Gathered {
 }
 
 impl Model for Gathered {
-    ghost use Rattle.log_audit.specs.Told.{setups_of};
+    ghost use Rattle.log_verdict.specs.Told.{setups_of};
     ghost use Rattle.log_values.specs.Told.{logs_of};
     ghost use Rattle.log_reading.specs.Gathered.{Read, IsSound};
 

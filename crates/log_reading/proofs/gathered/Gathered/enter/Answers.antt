@@ -1,7 +1,7 @@
 use Rattle.std.proofs.Common.{ℕ, List, [], ◌∷◌, ◌++◌, ◌≡◌, ◌<◌, ◌+◌, ◌∙◌, ap, sym, subst, length}
 use Rattle.log_values.specs.declared.log.EndLog.{EndLog}
 use Rattle.log_values.specs.Told.{logs_of}
-use Rattle.log_audit.specs.Told.{setups_of}
+use Rattle.log_verdict.specs.Told.{setups_of}
 use Rattle.log_reading.specs.Said.{setup_said}
 use Rattle.log_reading.specs.Gathered.{Read, with_log}
 use Rattle.log_reading.proofs.Grown.{logs_more, setups_more}

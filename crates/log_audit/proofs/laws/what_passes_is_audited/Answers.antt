@@ -1,5 +1,0 @@
-use Rattle.log_audit.proofs.Whole.{what_passes_is_audited}
-use Rattle.log_audit.proofs.laws.what_passes_is_audited.Goals as goal
-
-pub returns : goal.returns
-returns c = what_passes_is_audited
