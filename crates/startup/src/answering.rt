@@ -25,7 +25,7 @@ use crate::leaving::{Found, Greeting};
 use crate::rows::{FoundAttempt, Sought};
 use crate::sending::keying_again;
 use crate::startup::Startup;
-use crypto_profile::{Generation, GroupSecret};
+use crypto_profile::Generation;
 use glare_core::Fact;
 use identity::ServiceName;
 use rtmfp_base::{Cause, Memory};
@@ -158,7 +158,7 @@ impl Startup {
         from: &Address,
         cookie: &[u8],
         moment: u64,
-        under: &GroupSecret,
+        under: &Generation,
     ) -> Result<Fact, Memory>
         requires search { has_search self.old near ≡ true }
         requires free { start_refusal self.old.ledger print.now ≡ None }
@@ -201,7 +201,7 @@ impl Startup {
 
     /// An attempt or a search that was found is answered from an address with a cookie, in this
     /// generation: a search starts as an attempt, whose Started is given; it goes on to keyings in
-    /// this generation, whose secret it keeps, and its keying is given.
+    /// this generation, which it keeps hashed, and its keying is given.
     ///
     /// Only a search takes memory, for the row of its peer and for its number; where there is none,
     /// all is as before.
@@ -240,15 +240,13 @@ impl Startup {
         match aim {
             Aim::AtPeer { peer, n } => {
                 let answer = self.keying_towards(near, &ni, &peer, n, from, cookie, under);
-                let group = under.plain();
                 self.attempts
-                    .change(near, &Change::Answered(from, cookie, &group), moment);
+                    .change(near, &Change::Answered(from, cookie, under), moment);
                 Ok((None, answer))
             }
             Aim::ByName { .. } => {
                 let print = &greeting.print;
-                let group = under.plain();
-                let fact = match self.start_search(near, print, from, cookie, moment, &group) {
+                let fact = match self.start_search(near, print, from, cookie, moment, under) {
                     Ok(fact) => fact,
                     Err(Memory) => return Err(Memory),
                 };
@@ -260,9 +258,9 @@ impl Startup {
     }
 
     /// Hears a responder's hello with this tag, cookie and certificate, from an address: the
-    /// attempt goes on to keyings in the generation in which the hello opened, whose secret it
-    /// keeps, and its keying is given. A search starts as an attempt towards the end whose hello it
-    /// is, and its Started is given, too; it lasts from this moment on.
+    /// attempt goes on to keyings in the generation in which the hello opened, which it keeps
+    /// hashed, and its keying is given. A search starts as an attempt towards the end whose hello
+    /// it is, and its Started is given, too; it lasts from this moment on.
     ///
     /// The causes, in their order, are a wide tag or cookie, no attempt or search with this tag (of
     /// several the one with the lowest near id counts), an attempt that was answered already, and
@@ -314,32 +312,25 @@ impl Startup {
         sid: u32,
         old: &[u8],
         new: &[u8],
-        under: &Generation,
+        generation: u64,
     ) -> Result<Found, Cause>
         ensures found { IfOk result (λ found. IsFound self.now found
             (changed self.now.attempts sid old.now)) }
         ensures cookie { IfOk result (λ _. length new.now ≤ 128) }
         ensures none { IfOk result (λ _. cookie_change_cause self.now sid old.now new.now
-            under.now.generation ≡ None) }
+            generation ≡ None) }
         ensures refused { IfErr result (λ cause. cookie_change_cause self.now sid old.now new.now
-            under.now.generation ≡ Some cause) }
+            generation ≡ Some cause) }
     {
-        match changed_near(&self.attempts, sid, old, new, under.number()) {
+        match changed_near(&self.attempts, sid, old, new, generation) {
             Ok(near) => Ok(Found { near }),
             Err(cause) => Err(cause),
         }
     }
 
     /// The keying of an attempt that was found, which is in the keying stage, goes out again with
-    /// another cookie, in the generation of the attempt. It takes no memory. Where that generation
-    /// is given, nothing is hashed for its keys; what is given doesn't depend on it.
-    pub fn apply_cookie_change(
-        &mut self,
-        found: Found,
-        new: &[u8],
-        moment: u64,
-        under: &Generation,
-    ) -> Answer
+    /// another cookie, in the generation of the attempt. It takes no memory.
+    pub fn apply_cookie_change(&mut self, found: Found, new: &[u8], moment: u64) -> Answer
         requires found { (sid : ℕ) × ((old : List ℕ) × IsFound self.old found
             (changed self.old.attempts sid old)) }
         requires cookie { length new.now ≤ 128 }
@@ -350,7 +341,7 @@ impl Startup {
     {
         let near = found.near;
         let again = match self.attempts.get(near) {
-            Some(attempt) => keying_again(near, attempt, &self.cert, new, under),
+            Some(attempt) => keying_again(near, attempt, &self.cert, new),
             None => unreachable!(),
         };
         let answer = match again {
@@ -375,7 +366,6 @@ impl Startup {
         new: &[u8],
         moment: u64,
         generation: u64,
-        secret: &[u8; 32],
     ) -> Result<Answer, Cause>
         ensures answer { IfOk result (λ answer. cookie_change_keying self.old sid old.now new.now
             ≡ Some answer) }
@@ -387,9 +377,8 @@ impl Startup {
             (IsOk result) }
         ensures err { OnErr result (self.new ≡ self.old) }
     {
-        let under = Generation::of(generation, secret);
-        match self.judge_cookie_change(sid, old, new, &under) {
-            Ok(found) => Ok(self.apply_cookie_change(found, new, moment, &under)),
+        match self.judge_cookie_change(sid, old, new, generation) {
+            Ok(found) => Ok(self.apply_cookie_change(found, new, moment)),
             Err(cause) => Err(cause),
         }
     }

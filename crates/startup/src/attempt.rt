@@ -2,7 +2,7 @@
 
 use crate::aim::Aim;
 use crate::words::cookie_word;
-use crypto_profile::GroupSecret;
+use crypto_profile::Generation;
 use rtmfp_base::limits::CANDIDATES;
 use rtmfp_forms::Address;
 use std::marker::Model;
@@ -71,12 +71,12 @@ impl KeptCookie {
 pub(crate) enum Stage {
     /// Hellos go to all candidates.
     Hello,
-    /// The responder answered from this address with this cookie, and keyings go there, under the
-    /// secret of the group under which its answer opened.
+    /// The responder answered from this address with this cookie, and keyings go there, in the
+    /// generation in which its answer opened, which is kept hashed.
     Keying {
         at: Address,
         cookie: KeptCookie,
-        under: GroupSecret,
+        under: Generation,
     },
 }
 
@@ -154,22 +154,23 @@ impl Attempt {
         }
     }
 
-    /// The responder answered from this address with this cookie, under this secret of the group.
-    pub(crate) fn answer(&mut self, from: &Address, cookie: &[u8], moment: u64, under: &GroupSecret)
+    /// The responder answered from this address with this cookie, in this generation, which isn't
+    /// hashed again.
+    pub(crate) fn answer(&mut self, from: &Address, cookie: &[u8], moment: u64, under: &Generation)
         requires { length cookie.now ≤ 128 }
         ensures { self.new ≡ answered self.old from.now cookie.now moment under.now }
     {
         self.stage = Stage::Keying {
             at: *from,
             cookie: KeptCookie::of(cookie),
-            under: *under,
+            under: under.copy(),
         };
         self.last = moment;
         self.gap = 0;
     }
 
-    /// The search was answered by this end, from this address with this cookie, under this secret
-    /// of the group: it is the attempt towards it with this number, which starts now.
+    /// The search was answered by this end, from this address with this cookie, in this
+    /// generation: it is the attempt towards it with this number, which starts now.
     pub(crate) fn meet(
         &mut self,
         peer: &[u8; 32],
@@ -177,7 +178,7 @@ impl Attempt {
         from: &Address,
         cookie: &[u8],
         moment: u64,
-        under: &GroupSecret,
+        under: &Generation,
     )
         requires { length cookie.now ≤ 128 }
         ensures { self.new ≡ met self.old peer.now n from.now cookie.now moment under.now }
@@ -192,12 +193,9 @@ impl Attempt {
         requires { length new.now ≤ 128 }
         ensures { self.new ≡ recookied self.old new.now moment }
     {
-        if let Stage::Keying { at, under, .. } = &self.stage {
-            self.stage = Stage::Keying {
-                at: *at,
-                cookie: KeptCookie::of(new),
-                under: *under,
-            };
+        match &mut self.stage {
+            Stage::Hello => {}
+            Stage::Keying { cookie, .. } => *cookie = KeptCookie::of(new),
         }
         self.last = moment;
     }
@@ -238,16 +236,16 @@ impl Attempt {
 /// How an attempt changes.
 #[derive(Drop)]
 pub(crate) enum Change<'a> {
-    /// The responder answered from this address with this cookie, under this secret of the group.
-    Answered(&'a Address, &'a [u8], &'a GroupSecret),
-    /// The search was answered from this address with this cookie, under this secret of the group,
-    /// and is the attempt with this number towards this end.
+    /// The responder answered from this address with this cookie, in this generation.
+    Answered(&'a Address, &'a [u8], &'a Generation),
+    /// The search was answered from this address with this cookie, in this generation, and is the
+    /// attempt with this number towards this end.
     Met {
         peer: &'a [u8; 32],
         n: u64,
         from: &'a Address,
         cookie: &'a [u8],
-        under: &'a GroupSecret,
+        under: &'a Generation,
     },
     /// Its keying goes out with this cookie from now on.
     Recookied(&'a [u8]),

@@ -122,7 +122,7 @@ fn is_under(stage: &Stage, generation: u64) -> bool
 {
     match stage {
         Stage::Hello => false,
-        Stage::Keying { under, .. } => under.generation == generation,
+        Stage::Keying { under, .. } => under.number() == generation,
     }
 }
 

@@ -8,7 +8,6 @@ use crate::attempt::Change;
 use crate::rows::{end_at, is_over};
 use crate::sending::repeat_of;
 use crate::startup::Startup;
-use crypto_profile::Generation;
 use glare_core::{Fact, Why};
 
 /// What is done at an end with this fact: without one it is that of a search.
@@ -38,19 +37,9 @@ impl Startup {
     /// after it began, and before that it repeats its hellos. None exactly where nothing is due. It
     /// takes no memory.
     ///
-    /// A keying is repeated in the generation of its attempt, whose secret the attempt keeps. What
+    /// A keying is repeated in the generation of its attempt, which the attempt keeps hashed. What
     /// is given isn't due any more at this moment, so calls until None give all that is.
     pub fn due(&mut self, moment: u64) -> Option<Due>
-        ensures due { result ≡ due self.old moment }
-        ensures after { self.new ≡ after_due self.old moment }
-        ensures falls { IfSome result (λ _. due_count moment self.new < due_count moment self.old) }
-    {
-        self.due_under(moment, &Generation::of(0, &[0; 32]))
-    }
-
-    /// The same. Where a keying is repeated in the generation that is given, nothing is hashed for
-    /// its keys; what is given doesn't depend on it.
-    pub fn due_under(&mut self, moment: u64, current: &Generation) -> Option<Due>
         ensures due { result ≡ due self.old moment }
         ensures after { self.new ≡ after_due self.old moment }
         ensures falls { IfSome result (λ _. due_count moment self.new < due_count moment self.old) }
@@ -63,7 +52,7 @@ impl Startup {
             let end = end_at(&mut self.peers, &mut self.attempts, near, Why::Expired);
             return Some(due_by(near, end));
         }
-        let repeat = repeat_of(near, found.attempt, &self.cert, current);
+        let repeat = repeat_of(near, found.attempt, &self.cert);
         self.attempts.change(near, &Change::Repeated, moment);
         Some(repeat)
     }

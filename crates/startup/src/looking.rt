@@ -1,6 +1,6 @@
 //! What an end asks before it changes anything. No call here takes memory.
 
-ghost use Rattle.std.specs.Prelude.{◌≡◌, ◌<◌, ◌^◌, is_some};
+ghost use Rattle.std.specs.Prelude.{◌≡◌, ◌<◌, ◌^◌, is_some, option_copied};
 ghost use Rattle.std.specs.FinMap.{contains_key, len};
 ghost use Rattle.startup.specs.Due.{due_sends, sends};
 ghost use Rattle.startup.specs.Attempts.{cancel_fact, secret_in, secret_of};
@@ -8,7 +8,7 @@ ghost use Rattle.startup.specs.Attempts.{cancel_fact, secret_in, secret_of};
 use crate::attempt::{Attempt, Stage};
 use crate::rows::{Sought, is_over};
 use crate::startup::Startup;
-use crypto_profile::GroupSecret;
+use crypto_profile::Generation;
 
 impl Startup {
     /// How many attempts there are, searches among them.
@@ -33,10 +33,10 @@ impl Startup {
         self.attempts.find(&Sought::Number(n)).is_some()
     }
 
-    /// The generation and secret of the attempt in the keying stage with this near id; None exactly
-    /// where there is none.
-    pub fn secret_of(&self, near: u32) -> Option<GroupSecret>
-        ensures { result ≡ secret_of self.now near }
+    /// The generation of the attempt in the keying stage with this near id, which was hashed before
+    /// the attempt was answered; None exactly where there is none.
+    pub fn secret_of(&self, near: u32) -> Option<&Generation>
+        ensures { option_copied result ≡ secret_of self.now near }
     {
         match self.attempts.get(near) {
             Some(attempt) => secret_in(&attempt.stage),
@@ -56,13 +56,13 @@ impl Startup {
     }
 }
 
-/// The generation and secret that an attempt keeps in the keying stage.
-fn secret_in(stage: &Stage) -> Option<GroupSecret>
-    ensures { result ≡ secret_in stage.now }
+/// The generation that an attempt keeps in the keying stage.
+fn secret_in(stage: &Stage) -> Option<&Generation>
+    ensures { option_copied result ≡ secret_in stage.now }
 {
     match stage {
         Stage::Hello => None,
-        Stage::Keying { under, .. } => Some(*under),
+        Stage::Keying { under, .. } => Some(under),
     }
 }
 

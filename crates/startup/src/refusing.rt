@@ -41,7 +41,7 @@ impl Startup {
         match kind {
             RHELLO => self.rhello_refusal(payload),
             REDIRECT => self.redirect_refusal(payload, from),
-            COOKIE_CHANGE => self.cookie_change_refusal(sid, payload, &under),
+            COOKIE_CHANGE => self.cookie_change_refusal(sid, payload, generation),
             IIKEYING => self.iikeying_cause(payload, from, moment, full, &under),
             RIKEYING => self.rikeying_cause(sid, payload, &under),
             _ => None,
@@ -99,12 +99,12 @@ impl Startup {
 
     /// Why a change of a cookie would be discarded.
     #[tactic(auto, unfolding(crate::specs::Refusals::cookie_change_refusal))]
-    fn cookie_change_refusal(&self, sid: u32, payload: &[u8], under: &Generation) -> Option<Cause>
-        ensures { result ≡ cookie_change_refusal self.now sid payload.now under.now.generation }
+    fn cookie_change_refusal(&self, sid: u32, payload: &[u8], generation: u64) -> Option<Cause>
+        ensures { result ≡ cookie_change_refusal self.now sid payload.now generation }
     {
         match read_chunk(COOKIE_CHANGE, payload) {
             Ok(ChunkView::CookieChange { old, new }) => {
-                self.change_refusal(sid, old, new, under)
+                self.change_refusal(sid, old, new, generation)
             }
             Ok(_) => Some(Cause::UnknownChunk(COOKIE_CHANGE)),
             Err(fault) => Some(fault_cause(fault)),
@@ -112,10 +112,10 @@ impl Startup {
     }
 
     /// Why a change of this cookie would be discarded.
-    fn change_refusal(&self, sid: u32, old: &[u8], new: &[u8], under: &Generation) -> Option<Cause>
-        ensures { result ≡ cookie_change_cause self.now sid old.now new.now under.now.generation }
+    fn change_refusal(&self, sid: u32, old: &[u8], new: &[u8], generation: u64) -> Option<Cause>
+        ensures { result ≡ cookie_change_cause self.now sid old.now new.now generation }
     {
-        match self.judge_cookie_change(sid, old, new, under) {
+        match self.judge_cookie_change(sid, old, new, generation) {
             Ok(_) => None,
             Err(cause) => Some(cause),
         }

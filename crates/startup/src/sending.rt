@@ -9,7 +9,7 @@ ghost use Rattle.startup.specs.Due.{repeat_under};
 use crate::aim::Aim;
 use crate::answer::{Answer, Due, Spread};
 use crate::attempt::{Attempt, Stage};
-use crypto_profile::{Generation, GroupSecret};
+use crypto_profile::Generation;
 use identity::Certificate;
 use rtmfp_base::limits::CANDIDATES;
 use rtmfp_forms::Address;
@@ -58,36 +58,13 @@ fn keying_in(
     Answer::under(under, to, 0, plain)
 }
 
-/// The keying of an attempt under its own secret of the group, to an address with a cookie. It is
-/// no search. The secret is hashed where it isn't that of the generation that is given.
-fn keying_under(
-    near: u32,
-    attempt: &Attempt,
-    cert: &Certificate,
-    to: &Address,
-    cookie: &[u8],
-    under: &GroupSecret,
-    given: &Generation,
-) -> Answer
-    requires aims { is_search attempt.now.aim ≡ false }
-    requires cookie { length cookie.now ≤ 128 }
-    ensures { result ≡ keying_under under.now cert.now near attempt.now to.now cookie.now }
-{
-    if given.is(under) {
-        return keying_in(near, attempt, cert, to, cookie, given);
-    }
-    let own = Generation::of(under.generation, &under.secret);
-    keying_in(near, attempt, cert, to, cookie, &own)
-}
-
-/// The keying of an attempt under its own secret of the group, to the address that answered, with
-/// another cookie; None in the hello stage.
+/// The keying of an attempt in its own generation, to the address that answered, with another
+/// cookie; None in the hello stage.
 pub(crate) fn keying_again(
     near: u32,
     attempt: &Attempt,
     cert: &Certificate,
     cookie: &[u8],
-    given: &Generation,
 ) -> Option<Answer>
     requires fits { FitsStage attempt.now.aim attempt.now.stage }
     requires cookie { length cookie.now ≤ 128 }
@@ -95,14 +72,14 @@ pub(crate) fn keying_again(
 {
     match &attempt.stage {
         Stage::Hello => None,
-        Stage::Keying { at, under, .. } => Some(keying_under(
-            near, attempt, cert, at, cookie, under, given,
-        )),
+        Stage::Keying { at, under, .. } => {
+            Some(keying_in(near, attempt, cert, at, cookie, under))
+        }
     }
 }
 
-/// What an attempt sends again, a keying under its own secret of the group.
-pub(crate) fn repeat_of(near: u32, attempt: &Attempt, cert: &Certificate, given: &Generation) -> Due
+/// What an attempt sends again, a keying in its own generation.
+pub(crate) fn repeat_of(near: u32, attempt: &Attempt, cert: &Certificate) -> Due
     requires { FitsStage attempt.now.aim attempt.now.stage }
     ensures { result ≡ repeat_under cert.now near attempt.now attempt.now.stage }
 {
@@ -110,7 +87,7 @@ pub(crate) fn repeat_of(near: u32, attempt: &Attempt, cert: &Certificate, given:
         Stage::Hello => Due::Hello(hello_spread(attempt)),
         Stage::Keying { at, cookie, under } => {
             let kept = cookie.bytes();
-            Due::Keying(keying_under(near, attempt, cert, at, kept, under, given))
+            Due::Keying(keying_in(near, attempt, cert, at, kept, under))
         }
     }
 }

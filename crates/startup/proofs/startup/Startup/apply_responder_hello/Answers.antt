@@ -6,8 +6,7 @@ use Rattle.startup.specs.declared.attempt.Stage.TheVariants.{Keying}
 use Rattle.startup.specs.declared.answer.Answer.{Answer}
 use Rattle.glare_core.specs.declared.facts.Fact.{Fact}
 use Rattle.startup.specs.State.{AttemptState, StartupState}
-use Rattle.crypto_profile.specs.declared.group.GroupSecret.{GroupSecret}
-use Rattle.startup.specs.Attempts.{after_start, answered, keying_towards, with_attempt}
+use Rattle.startup.specs.Attempts.{answered, keying_towards, with_attempt}
 use Rattle.startup.proofs.Choices.{got_is, never_none}
 use Rattle.startup.proofs.Greeted.{greeted_starts, has_it, search_after, search_fact, search_keying, towards_after, towards_fact, towards_keying}
 use Rattle.startup.proofs.Keeping.{peer_fits}
@@ -34,8 +33,8 @@ invariant_of-self c =
     let same : c.in-Some.attempt.now ≡ found.attempt = got_is i.attempts.attempts near c.in-Some.attempt.now found.attempt (sym c.in-Some.ensures) there in
     let inner : c.attempt.inside.aim ≡ found.attempt.aim = ap (λ (x : AttemptState). x.aim) (c.attempt.view_is ∙ same) in
     changed_is_kept i.cert i.print i.cookies i.peers i.attempts.attempts i.kept.keyings c.self.invariant near found.attempt there
-    (λ a. answered a c.args.from.now c.args.cookie.now c.args.moment c.plain-group.result) c.change.new.self.attempts c.change.ensures (record { aim = λ a. refl; ni = λ a. refl })
-    (peer_fits found.attempt.aim c.in-AtPeer.peer c.in-AtPeer.n (Keying c.args.from.now c.args.cookie.now c.plain-group.result) (sym inner ∙ c.in-AtPeer.is))
+    (λ a. answered a c.args.from.now c.args.cookie.now c.args.moment c.args.under.now) c.change.new.self.attempts c.change.ensures (record { aim = λ a. refl; ni = λ a. refl })
+    (peer_fits found.attempt.aim c.in-AtPeer.peer c.in-AtPeer.n (Keying c.args.from.now c.args.cookie.now c.args.under.now) (sym inner ∙ c.in-AtPeer.is))
 
 pub returns-in-AtPeer-clause-fact : goal.returns-in-AtPeer-clause-fact
 returns-in-AtPeer-clause-fact c chosen found =
@@ -67,9 +66,8 @@ returns-in-AtPeer-clause-after c chosen found =
     let same : c.in-Some.attempt.now ≡ found.attempt = got_is i.attempts.attempts near c.in-Some.attempt.now found.attempt (sym c.in-Some.ensures) there in
     let inner : c.attempt.inside.aim ≡ found.attempt.aim = ap (λ (x : AttemptState). x.aim) (c.attempt.view_is ∙ same) in
     changed_state i.cert i.print i.cookies i.peers i.attempts.attempts i.kept.keyings c.self.invariant near found.attempt there
-    (λ a. answered a c.args.from.now c.args.cookie.now c.args.moment c.plain-group.result) c.change.new.self.attempts c.change.ensures
-    ∙ ap (λ (t : StartupState). with_attempt t near (answered found.attempt c.args.from.now c.args.cookie.now c.args.moment c.plain-group.result)) c.self.view_is
-    ∙ ap (λ (g : GroupSecret). with_attempt s near (answered found.attempt c.args.from.now c.args.cookie.now c.args.moment g)) c.plain-group.ensures
+    (λ a. answered a c.args.from.now c.args.cookie.now c.args.moment c.args.under.now) c.change.new.self.attempts c.change.ensures
+    ∙ ap (λ (t : StartupState). with_attempt t near (answered found.attempt c.args.from.now c.args.cookie.now c.args.moment c.args.under.now)) c.self.view_is
     ∙ sym (towards_after s c.args.greeting.now.print c.args.greeting.now.found chosen found c.in-AtPeer.peer c.in-AtPeer.n (sym inner ∙ c.in-AtPeer.is) c.args.from.now c.args.cookie.now c.args.moment c.args.under.now)
 
 -- ---- a search
@@ -117,7 +115,6 @@ returns-in-Ok-clause-after c chosen found =
     let same : c.in-Some.attempt.now ≡ found.attempt = got_is i.attempts.attempts near c.in-Some.attempt.now found.attempt (sym c.in-Some.ensures) there in
     let inner : c.attempt.inside.aim ≡ found.attempt.aim = ap (λ (x : AttemptState). x.aim) (c.attempt.view_is ∙ same) in
     c.in-Ok.ensures.after found.attempt found.there
-    ∙ ap (λ (g : GroupSecret). after_start s c.args.greeting.now.print near found.attempt c.args.from.now c.args.cookie.now c.args.moment g) c.plain-group-in-ByName.ensures
     ∙ sym (search_after s c.args.greeting.now.print c.args.greeting.now.found chosen found c.in-ByName.name (sym inner ∙ c.in-ByName.is) c.args.from.now c.args.cookie.now c.args.moment c.args.under.now)
 
 pub returns-in-Ok-clause-answer : goal.returns-in-Ok-clause-answer

@@ -8,7 +8,7 @@ use Rattle.startup.specs.Attempts.{with_attempt, without_attempt_by}
 use Rattle.startup.specs.Due.{repeated, repeat_of, due, due_by, due_end, due_of, after_due, after_due_of, due_count}
 use Rattle.startup.proofs.Falling.{due_end_is, falls_when}
 use Rattle.startup.proofs.Startups.{held_at, ended_is_kept, ended_state, changed_is_kept, changed_state}
-use Rattle.startup.proofs.startup.Startup.due_under.Goals as goal
+use Rattle.startup.proofs.startup.Startup.due.Goals as goal
 
 pub end_at-end-requires-clause-there : goal.end_at-end-requires-clause-there
 end_at-end-requires-clause-there c = ap is_some c.in-Some.ensures.there
