@@ -45,28 +45,6 @@ opens_long secrets context sid datagram plain o = by (nat_lt (length datagram) 3
     by true e = absurd (short_never secrets context sid datagram plain (ap (λ (b : Bool). if b then None else Some (sid_of datagram)) e) o)
     by false e = ap (λ (b : Bool). if b then None else Some (sid_of datagram)) e
 
-first_never : (secrets : Secrets) (contexts : List Context) (sid : ℕ) (datagram : List ℕ) (context : Context) (plain : List ℕ) → sid_in datagram ≡ None → OpensFirst secrets contexts sid datagram context plain → ⊥
-first_never secrets [] sid datagram context plain short o = o
-first_never secrets (first ∷ later) sid datagram context plain short (inl here) = short_never secrets context sid datagram plain short here.1
-first_never secrets (first ∷ later) sid datagram context plain short (inr there) = first_never secrets later sid datagram context plain short there.1
-
--- one that is too short opens nowhere
-pub arrived_nowhere : (secrets : Secrets) (setup : Setup) (past : Past) (datagram plain : List ℕ) → sid_in datagram ≡ None → IsArrived secrets setup past datagram plain (record { arrival = Nowhere; context = None; taking = Nothing })
-arrived_nowhere secrets setup past datagram plain short = record {
-  arrival = record {
-    startup = λ generation e. absurd cc;
-    starts = λ generation other s. absurd (first_never secrets s.contexts (sid_of datagram) datagram (Startup generation) other short s.opens);
-    session = λ e. absurd cc;
-    goes_on = λ near thing at. absurd (short_never secrets (inward setup at.generation thing) near datagram at.plain short at.opens);
-  };
-  context = record {
-    there = λ contexts context other cs o. absurd (first_never secrets contexts (sid_of datagram) datagram context other short o);
-    is = λ context e. absurd (let clash : None ≡ Some context = e in cc);
-  };
-  arrival_is = refl;
-  taking = λ sid e. absurd (let clash : None ≡ Some sid = sym short ∙ e in cc);
-}
-
 -- ---- a context and where it is
 
 startup_found : (found : Option Context) (generation : ℕ) → arrival_of found ≡ InStartup generation → found ≡ Some (Startup generation)

@@ -115,9 +115,6 @@ module _ (secrets : Secrets) (setup : Setup) (now : ℕ) (e : Event) (before pas
 
 -- ---- what sessions take
 
-one_receives : (r s : ReceiveCall) → Some r ≡ Some s → r ≡ s
-one_receives r s e = cc
-
 one_datagram : (a b : List ℕ) → Some a ≡ Some b → a ≡ b
 one_datagram a b e = cc
 

@@ -147,13 +147,6 @@ not_false : (b : Bool) → not b ≡ false → b ≡ true
 not_false true e = refl
 not_false false e = absurd cc
 
-pub same_nonce : (name tag drawn peer ni : List ℕ) (at : ℕ) (chunks : List Placed) (other it : Bool) → other ≡ not (bytes_eq drawn ni) → other ≡ false → Tells (SomeChunk (IsHelloOf tag name peer) chunks) it →
-    Tells (IsSoughtBy (Searching name tag drawn at) peer ni chunks) it
-same_nonce name tag drawn peer ni at chunks other it is e t = record {
-  yes = λ y. ((bytes_eq-Decides drawn ni).0 (not_false (bytes_eq drawn ni) (sym is ∙ e)), t.yes y);
-  no = λ s. t.no s.1;
-}
-
 module _ (secrets : Secrets) (setup : Setup) (past : Past) (peer : List ℕ) (n near : ℕ) (ni : List ℕ) where
   hello_there : (spot : Spot) → IsSpotOf past near (Some spot) → n < 2 ^ 64 → length ni ≡ 16 → (o : Option ReceiveCall) → IsSaid secrets setup past o 0 (HasHello spot peer ni) → TakesHelloIn secrets setup past o peer n near ni
   hello_there spot is counted sized None s = absurd s

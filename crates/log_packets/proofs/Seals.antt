@@ -116,13 +116,6 @@ module _ (secrets : Secrets) (context : Context) (bytes plain : List ℕ) (are :
     no = λ sid number other s. absurd (no_some (sid_in bytes) (sid_of bytes) none (by_secret sid number other s).there);
   }
 
-  -- where the secret isn't known
-  pub not_sealed_known : get secrets (generation_of context) ≡ None → WasSealed secrets context bytes false plain
-  not_sealed_known none = record {
-    yes = λ e. absurd (let clash : false ≡ true = e in cc);
-    no = λ sid number other s. absurd (no_some (get secrets (generation_of context)) s.secret none s.known);
-  }
-
   module _ (secret part before : List ℕ) (sid : ℕ) (keys : Keys) (known : get secrets (generation_of context) ≡ Some secret) (under : keys ≡ keys_of secret context) (found : sid_in bytes ≡ Some sid) (behind : part ≡ drop 4 bytes) where
     abbrev ours : Keys
     ours = keys_of secret context

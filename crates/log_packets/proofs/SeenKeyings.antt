@@ -106,12 +106,3 @@ module _ (all old rest : List Placed) (ids : List ℕ) (c : Placed) (so_far : So
         ];
         rest_is = later_in;
       })
-
-pub all_seen : (all old : List Placed) (ids : List ℕ) → SoFar all old ids → old ≡ [] → AreKeyingsOf all ids
-all_seen all old ids so_far gone = record {
-  there = λ near s. elim (so_far.there near s) [
-    | inl has_it ↦ has_it
-    | inr later ↦ absurd (none_is (IsKeyingWith near) (subst (SomeChunk (IsKeyingWith near)) gone later))
-  ];
-  is = so_far.is;
-}

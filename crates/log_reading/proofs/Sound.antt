@@ -8,12 +8,6 @@ use Rattle.endpoint_model.specs.declared.entry.Entry.{Entry}
 use Rattle.log_values.specs.Told.{Logs, events_in, times}
 use Rattle.log_reading.specs.Gathered.{IsSound, and_event, change_at, to_last, place_from}
 
-pub sound_same : {names names' : List (List ℕ)} {logs logs' : Logs} {order order' : List ℕ} {last : Option ℕ} {count : ℕ} → names' ≡ names → logs' ≡ logs → order' ≡ order → IsSound names logs order last count → IsSound names' logs' order' last count
-sound_same {names} {names'} {logs} {logs'} {order} {order'} {last} {count} e f g s =
-    subst (λ (ns : List (List ℕ)). IsSound ns logs' order' last count) (sym e)
-    (subst (λ (ls : Logs). IsSound names ls order' last count) (sym f)
-    (subst (λ (o : List ℕ). IsSound names logs o last count) (sym g) s))
-
 length_changed : (f : List Event → List Event) (who : ℕ) (logs : Logs) → length (change_at who f logs) ≡ length logs
 length_changed f who [] = refl
 length_changed f zero (events ∷ logs) = refl
@@ -66,9 +60,6 @@ times_more k who (next ∷ order) = let before = times_more k who order in omega
 if_more : (last : Option ℕ) (n m : ℕ) → n ≤ m → IfSome last (λ who. who < n) → IfSome last (λ who. who < m)
 if_more None n m fits less = tt
 if_more (Some who) n m fits less = omega (arith, fits, less)
-
-pub sound_skip : {names : List (List ℕ)} {logs : Logs} {order : List ℕ} {last : Option ℕ} {count : ℕ} → count < 100000 → IsSound names logs order last count → IsSound names logs order last (count + 1)
-sound_skip less s = record { few = s.few; ends = s.ends; lines = omega (arith, less); within = s.within; whole = s.whole }
 
 pub sound_log : {names names' : List (List ℕ)} {logs logs' : Logs} {order : List ℕ} {last : Option ℕ} {count : ℕ} (name : List ℕ) → names' ≡ names ++ name ∷ [] → logs' ≡ logs ++ [] ∷ [] → count < 100000 → length names < 1024 → IsSound names logs order last count → IsSound names' logs' order last (count + 1)
 sound_log {names} {names'} {logs} {logs'} {order} {last} {count} name e f less few s =

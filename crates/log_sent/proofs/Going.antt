@@ -15,19 +15,8 @@ use Rattle.log_sent.specs.Sent.{is_sent_by, is_sent_among, HasWhatGoesOut, IsSen
 pub record IsToCome (rest : List Entry) (now : List Sealed) (entries : List Entry) (old : List Sealed) : Type 0 where
   pub has : (q : Sealed) → (is_sent_among rest q || has_sealed now q) ≡ (is_sent_among entries q || has_sealed old q)
 
-pub to_come_first : (entries : List Entry) (old : List Sealed) → IsToCome entries old entries old
-to_come_first entries old = record { has = λ q. refl }
-
 pub none_to_come : (rest entries : List Entry) (now old : List Sealed) → rest ≡ [] → IsToCome rest now entries old → HasWhatGoesOut entries old now
 none_to_come rest entries now old none is = record { has = λ q. ap (λ (es : List Entry). is_sent_among es q || has_sealed now q) (sym none) ∙ is.has q }
-
--- an entry that sends nothing
-pub sends_nothing : (rest more entries : List Entry) (entry : Entry) (now old : List Sealed) → rest ≡ entry ∷ more → out_in entry ≡ None → IsToCome rest now entries old → IsToCome more now entries old
-sends_nothing rest more entries entry now old parts none is = record {
-  has = λ q.
-      ap (λ (o : Option Sending). (is_sent_by q o || is_sent_among more q) || has_sealed now q) (sym none)
-      ∙ ap (λ (es : List Entry). is_sent_among es q || has_sealed now q) (sym parts) ∙ is.has q;
-}
 
 moved : (s a b : Bool) → (a || cond s true b) ≡ ((s || a) || b)
 moved true true b = refl
