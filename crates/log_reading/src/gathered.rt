@@ -11,8 +11,8 @@ ghost use Rattle.log_reading.specs.Gathered.{and_entry, and_event, change_at, li
 use crate::turning::{entry_of, event_of, log_of};
 use audit_text::{LogEntry, LogEvent, LogHead, LogLine};
 use endpoint_model::Entry;
-use log_verdict::Finding;
 use log_values::{EndLog, Logged};
+use log_verdict::Finding;
 use rtmfp_base::Memory;
 use rtmfp_text::Name;
 use std::alloc::Global;

@@ -61,6 +61,11 @@ state_there [] who d below = absurd (omega arith)
 state_there (x ∷ ends) zero d below = refl
 state_there (x ∷ ends) (suc who) d below = state_there ends who d (omega arith)
 
+pub setup_there : (ends : List End) (who : ℕ) (d : End) → who < length ends → setup_at (map end_seen ends) who ≡ (end_seen (slice_index_or ends who d)).setup
+setup_there [] who d below = absurd (omega arith)
+setup_there (x ∷ ends) zero d below = refl
+setup_there (x ∷ ends) (suc who) d below = setup_there ends who d (omega arith)
+
 pub no_state : (ends : List End) (who : ℕ) → length ends ≤ who → state_at (map end_seen ends) who ≡ None
 no_state [] who e = refl
 no_state (x ∷ ends) zero e = absurd (omega arith)

@@ -18,3 +18,4 @@ pub mod Pairs
 pub mod Edges
 pub mod Same
 pub mod Keyed
+pub mod Beginning

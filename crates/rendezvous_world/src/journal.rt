@@ -1,11 +1,13 @@
 //! What was done in a run, line by line.
 
 ghost use Rattle.std.specs.Prelude.{◌≡◌, IfOk, is_some};
+ghost use Rattle.rendezvous_world.specs.Draws.{draws_of};
 ghost use Rattle.rendezvous_world.specs.Line.{stopped_kept};
 
+use crate::draws::draws_of;
 use crate::kept::KeptStep;
 use crate::step::Step;
-use endpoint::{CallRefusal, OpenRefusal, Outbox, RowRefusal, SeekRefusal, Stopped};
+use endpoint::{CallRefusal, Draws, OpenRefusal, Outbox, RowRefusal, SeekRefusal, Stopped};
 use rtmfp_base::{Memory, Message};
 use std::alloc::Global;
 use std::marker::Model;
@@ -132,6 +134,13 @@ impl JournalLine {
             LineAnswer::Stopped(stop) => Some(stop),
             _ => None,
         }
+    }
+
+    /// The random values that the call was given, if it was given some.
+    pub fn draws(&self) -> Draws
+        ensures { result ≡ draws_of self.now.line }
+    {
+        draws_of(u64::from(self.line))
     }
 
     pub fn out(&self) -> &Outbox

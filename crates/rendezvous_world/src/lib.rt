@@ -3,6 +3,7 @@
 //! forged.
 #![tactic(auto)]
 
+mod beginning;
 mod bringing;
 mod calls;
 mod draws;
@@ -20,6 +21,7 @@ mod step;
 mod taking;
 mod world;
 
+pub use beginning::Beginning;
 pub use endpoint::MessageOptions;
 pub use journal::{Journal, JournalLine, Refused};
 pub use step::{Addresses, Step, StepFault};

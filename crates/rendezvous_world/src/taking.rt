@@ -24,7 +24,7 @@ use rtmfp_text::{Name, Named};
 use std::alloc::Global;
 
 /// The number of the generation with which every end begins (own).
-const FIRST_GENERATION: u64 = 0;
+pub(crate) const FIRST_GENERATION: u64 = 0;
 
 /// The most ends of a world (own).
 const MOST_ENDS: usize = 1024;
