@@ -4,7 +4,7 @@ use Rattle.std.specs.Fmt.{signed_decimal}
 use Rattle.rtmfp_text.specs.Words.{text_of}
 use Rattle.rtmfp_lines.specs.declared.status.Status.{Status as RunStatus}
 use Rattle.rtmfp_lines.specs.declared.status.Status.TheVariants.{Done, Memory, BadWords, BadScript, Forged}
-use Rattle.rtmfp_lines.specs.declared.status.Status.TheVariants.{LinkFault, SinkFault, SourceFault, EntropyFault, SpawnFault, ScriptLong, ChildFailed}
+use Rattle.rtmfp_lines.specs.declared.status.Status.TheVariants.{LinkFault, SinkFault, SourceFault, EntropyFault, SpawnFault, ScriptLong, ChildFailed, NotAgreed}
 
 abbrev pub status_code : RunStatus → ℕ
 status_code Done = 0
@@ -19,6 +19,7 @@ status_code EntropyFault = 8
 status_code SpawnFault = 9
 status_code ScriptLong = 10
 status_code (ChildFailed c) = 11
+status_code (NotAgreed n) = 12
 
 -- words, a number and LF
 unfoldable pub numbered : List ℕ → ℕ → List ℕ
@@ -42,3 +43,4 @@ complaint EntropyFault = codes "rtmfp: random source fault\n"
 complaint SpawnFault = codes "rtmfp: child fault\n"
 complaint ScriptLong = codes "rtmfp: more than 1000000 lines\n"
 complaint (ChildFailed c) = ended c
+complaint (NotAgreed n) = numbered (codes "rtmfp: logs refused at line ") n

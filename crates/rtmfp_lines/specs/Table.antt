@@ -3,7 +3,7 @@
 use Rattle.std.specs.Prelude.{◌≡◌, ℕ, suc, pos, negsuc, List, [], ◌++◌, codes, decimal}
 use Rattle.rtmfp_lines.specs.declared.status.Status.{Status as RunStatus}
 use Rattle.rtmfp_lines.specs.declared.status.Status.TheVariants.{Done, Memory, BadWords, BadScript, Forged}
-use Rattle.rtmfp_lines.specs.declared.status.Status.TheVariants.{LinkFault, SinkFault, SourceFault, EntropyFault, SpawnFault, ScriptLong, ChildFailed}
+use Rattle.rtmfp_lines.specs.declared.status.Status.TheVariants.{LinkFault, SinkFault, SourceFault, EntropyFault, SpawnFault, ScriptLong, ChildFailed, NotAgreed}
 use Rattle.rtmfp_lines.specs.Status.{complaint, status_code}
 
 abbrev pub EndsAs : RunStatus → ℕ → List ℕ → Type 0
@@ -29,3 +29,5 @@ pub record StatusTable : Type 0 where
       EndsAs (ChildFailed (pos n)) 11 (said (codes "child ended with " ++ decimal n))
   pub below_zero : (n : ℕ) →
       EndsAs (ChildFailed (negsuc n)) 11 (said (codes "child ended with -" ++ decimal (suc n)))
+  pub not_agreed : (n : ℕ) →
+      EndsAs (NotAgreed n) 12 (said (codes "logs refused at line " ++ decimal n))

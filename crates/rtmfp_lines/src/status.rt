@@ -33,6 +33,8 @@ pub enum Status {
     ScriptLong,
     /// A child ended with this status, which isn't 0.
     ChildFailed(i32),
+    /// The logs are refused at this line.
+    NotAgreed(u64),
 }
 
 impl Status {
@@ -53,6 +55,7 @@ impl Status {
             Status::SpawnFault => 9,
             Status::ScriptLong => 10,
             Status::ChildFailed(_) => 11,
+            Status::NotAgreed(_) => 12,
         }
     }
 
@@ -74,6 +77,7 @@ impl Status {
             Status::SpawnFault => text.push("rtmfp: child fault\n"),
             Status::ScriptLong => text.push("rtmfp: more than 1000000 lines\n"),
             Status::ChildFailed(status) => push_ended(status, text),
+            Status::NotAgreed(line) => push_numbered("rtmfp: logs refused at line ", line, text),
         }
     }
 }

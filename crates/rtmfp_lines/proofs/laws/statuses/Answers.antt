@@ -18,4 +18,5 @@ returns c = record {
   script_long = (refl, refl);
   child_failed = λ n. (refl, refl);
   below_zero = λ n. (refl, refl);
+  not_agreed = λ n. (refl, refl);
 }
