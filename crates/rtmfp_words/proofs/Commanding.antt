@@ -9,9 +9,9 @@ use Rattle.std.proofs.lemmas.Slice.Eq.{bytes_eq-Decides}
 use Rattle.rtmfp_words.specs.CommandLine.{BeginsWith, IsFaulty, Says, SaysNode}
 use Rattle.rtmfp_words.specs.Node.{IsMeet, IsServe, Serving}
 use Rattle.rtmfp_words.specs.Reading.{head_of}
-use Rattle.rtmfp_words.specs.Words.{IsGenerate, IsOther, IsReplay, IsShow, Reads}
+use Rattle.rtmfp_words.specs.Words.{IsAudit, IsGenerate, IsOther, IsReplay, IsShow, Reads}
 use Rattle.rtmfp_words.specs.declared.command.Command.{Command}
-use Rattle.rtmfp_words.specs.declared.command.Command.TheVariants.{Show, Replay, Generate}
+use Rattle.rtmfp_words.specs.declared.command.Command.TheVariants.{Show, Replay, Generate, Audit}
 use Rattle.rtmfp_words.specs.declared.command_line.CommandLine.{CommandLine}
 use Rattle.rtmfp_words.specs.declared.command_line.CommandLine.TheVariants.{Lines, Serve, Meet}
 use Rattle.rtmfp_words.specs.declared.fault.WordsFault.{WordsFault}
@@ -38,6 +38,9 @@ generate_first words seed steps says = elim says.order [
   | inl order ↦ (says.seed_parts ++ says.steps_parts, order)
   | inr order ↦ (says.steps_parts ++ says.seed_parts, order)
 ]
+
+pub audit_first : (words : List (String Global)) → IsAudit words → BeginsWith (codes "audit") words
+audit_first words says = ([], says)
 
 abbrev first_of : List (List ℕ) → List ℕ
 first_of [] = []
@@ -74,6 +77,7 @@ no_command words other serve meet = record {
   not_show = other.not_show;
   not_replay = other.not_replay;
   not_generate = other.not_generate;
+  not_audit = other.not_audit;
   not_serve = serve;
   not_meet = meet;
 }
@@ -130,14 +134,18 @@ Finds result line = (result ≡ Ok line) ⊎ (result ≡ Err Memory)
 not_two : (words : List (String Global)) (first second : List ℕ) → (first ≡ second → ⊥) → BeginsWith first words → BeginsWith second words → ⊥
 not_two words first second apart begins also = apart (one_first words first second begins also)
 
+abbrev letter : List ℕ → ℕ
+letter [] = 0
+letter (b ∷ word) = b
+
+audit_no_serve : codes "audit" ≡ codes "serve" → ⊥
+audit_no_serve e = let first : 97 ≡ 115 = ap letter e in omega (arith, first)
+
 reads_no_serve : (words : List (String Global)) (command : Command) → Reads words (Some command) → BeginsWith (codes "serve") words → ⊥
 reads_no_serve words Show reads begins = not_two words (codes "show") (codes "serve") (λ e. cc) (show_first words reads) begins
 reads_no_serve words Replay reads begins = not_two words (codes "replay") (codes "serve") (λ e. cc) (replay_first words reads) begins
 reads_no_serve words (Generate seed steps) reads begins = not_two words (codes "replay") (codes "serve") (λ e. cc) (generate_first words seed steps reads) begins
-
-abbrev letter : List ℕ → ℕ
-letter [] = 0
-letter (b ∷ word) = b
+reads_no_serve words Audit reads begins = not_two words (codes "audit") (codes "serve") audit_no_serve (audit_first words reads) begins
 
 show_no_meet : codes "show" ≡ codes "meet" → ⊥
 show_no_meet e = let first : 115 ≡ 109 = ap letter e in omega (arith, first)
@@ -146,6 +154,7 @@ reads_no_meet : (words : List (String Global)) (command : Command) → Reads wor
 reads_no_meet words Show reads begins = not_two words (codes "show") (codes "meet") show_no_meet (show_first words reads) begins
 reads_no_meet words Replay reads begins = not_two words (codes "replay") (codes "meet") (λ e. cc) (replay_first words reads) begins
 reads_no_meet words (Generate seed steps) reads begins = not_two words (codes "replay") (codes "meet") (λ e. cc) (generate_first words seed steps reads) begins
+reads_no_meet words Audit reads begins = not_two words (codes "audit") (codes "meet") (λ e. cc) (audit_first words reads) begins
 
 same_command : (r : Option Command) (command other : Command) → r ≡ Some command → r ≡ Some other → Finds (Ok (Lines command)) (Lines other)
 same_command r command other is also =
@@ -155,12 +164,13 @@ same_command r command other is also =
 
 -- a command over lines
 pub lines_only : (words : List (String Global)) (r : Option Command) (command : Command) → r ≡ Some command → Reads words (Some command) → (IsShow words → r ≡ Some Show) → (IsReplay words → r ≡ Some Replay) →
-    ((seed steps : ℕ) → IsGenerate words seed steps → r ≡ Some (Generate seed steps)) → (line : CommandLine) → Says words line → Finds (Ok (Lines command)) line
-lines_only words r command is reads show replay generate (Lines Show) says = same_command r command Show is (show says)
-lines_only words r command is reads show replay generate (Lines Replay) says = same_command r command Replay is (replay says)
-lines_only words r command is reads show replay generate (Lines (Generate seed steps)) says = same_command r command (Generate seed steps) is (generate seed steps says)
-lines_only words r command is reads show replay generate (Serve v) says = absurd (reads_no_serve words command reads (serve_first words v says))
-lines_only words r command is reads show replay generate (Meet m) says = absurd (reads_no_meet words command reads (meet_first words m.port m.turns says))
+    ((seed steps : ℕ) → IsGenerate words seed steps → r ≡ Some (Generate seed steps)) → (IsAudit words → r ≡ Some Audit) → (line : CommandLine) → Says words line → Finds (Ok (Lines command)) line
+lines_only words r command is reads show replay generate audit (Lines Show) says = same_command r command Show is (show says)
+lines_only words r command is reads show replay generate audit (Lines Replay) says = same_command r command Replay is (replay says)
+lines_only words r command is reads show replay generate audit (Lines (Generate seed steps)) says = same_command r command (Generate seed steps) is (generate seed steps says)
+lines_only words r command is reads show replay generate audit (Lines Audit) says = same_command r command Audit is (audit says)
+lines_only words r command is reads show replay generate audit (Serve v) says = absurd (reads_no_serve words command reads (serve_first words v says))
+lines_only words r command is reads show replay generate audit (Meet m) says = absurd (reads_no_meet words command reads (meet_first words m.port m.turns says))
 
 -- words that say no command over lines
 by_node : (Goal : CommandLine → Type 0) (words : List (String Global)) → IsOther words → ((v : Serving) → IsServe words v → Goal (Serve v)) → ((m : MeetWords) → IsMeet words m.port m.turns → Goal (Meet m)) →
@@ -168,6 +178,7 @@ by_node : (Goal : CommandLine → Type 0) (words : List (String Global)) → IsO
 by_node Goal words other serve meet (Lines Show) says = absurd (other.not_show says)
 by_node Goal words other serve meet (Lines Replay) says = absurd (other.not_replay says)
 by_node Goal words other serve meet (Lines (Generate seed steps)) says = absurd (other.not_generate seed steps says)
+by_node Goal words other serve meet (Lines Audit) says = absurd (other.not_audit says)
 by_node Goal words other serve meet (Serve v) says = serve v says
 by_node Goal words other serve meet (Meet m) says = meet m says
 
@@ -176,6 +187,7 @@ pub faulty_only : (words : List (String Global)) (result : Result CommandLine Wo
 faulty_only words result faulty (Lines Show) says = absurd (faulty.not_show says)
 faulty_only words result faulty (Lines Replay) says = absurd (faulty.not_replay says)
 faulty_only words result faulty (Lines (Generate seed steps)) says = absurd (faulty.not_generate seed steps says)
+faulty_only words result faulty (Lines Audit) says = absurd (faulty.not_audit says)
 faulty_only words result faulty (Serve v) says = absurd (faulty.not_serve v says)
 faulty_only words result faulty (Meet m) says = absurd (faulty.not_meet m.port m.turns says)
 

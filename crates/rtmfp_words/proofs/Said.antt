@@ -7,11 +7,11 @@ use Rattle.std.proofs.lemmas.Slice.Eq.{bytes_eq-Decides}
 use Rattle.rtmfp_script.specs.Fields.{◌>>=◌}
 use Rattle.rtmfp_script.proofs.Splits.{some_some, bind_some, only_if-some}
 use Rattle.rtmfp_words.specs.Words.{OptionSpells, IsGenerate, Reads}
-use Rattle.rtmfp_words.specs.Reading.{head_of, is_empty, option_of, both, generate_of, replay_of, show_of, command_of}
+use Rattle.rtmfp_words.specs.Reading.{head_of, is_empty, option_of, both, generate_of, replay_of, show_of, audit_of, command_of}
 use Rattle.rtmfp_words.specs.declared.option.Setting.{Setting}
 use Rattle.rtmfp_words.specs.declared.option.Setting.TheVariants.{Seed, Steps}
 use Rattle.rtmfp_words.specs.declared.command.Command.{Command}
-use Rattle.rtmfp_words.specs.declared.command.Command.TheVariants.{Show, Replay, Generate}
+use Rattle.rtmfp_words.specs.declared.command.Command.TheVariants.{Show, Replay, Generate, Audit}
 use Rattle.rtmfp_words.proofs.Texts.{if-some, head-some, no_part}
 use Rattle.rtmfp_words.proofs.Options.{Stands, option-some, option-gives}
 
@@ -29,6 +29,7 @@ abbrev Said : List (List ℕ) → Command → Type 0
 Said parts Show = parts ≡ codes "show" ∷ []
 Said parts Replay = parts ≡ codes "replay" ∷ []
 Said parts (Generate seed steps) = (rest : List (List ℕ)) × (parts ≡ codes "replay" ∷ rest) × Generates rest seed steps
+Said parts Audit = parts ≡ codes "audit" ∷ []
 
 -- ---- what was found
 
@@ -101,6 +102,12 @@ show-some rest command h =
     let found = only_if-some (is_empty rest) Show command h in
     subst (λ (c : Command). Said (codes "show" ∷ rest) c) found.1 (ap (λ (ps : List (List ℕ)). codes "show" ∷ ps) (no_part rest found.0))
 
+audit-some : (rest : List (List ℕ)) (command : Command) → audit_of rest ≡ Some command → Said (codes "audit" ∷ rest) command
+unfolding audit_of
+audit-some rest command h =
+    let found = only_if-some (is_empty rest) Audit command h in
+    subst (λ (c : Command). Said (codes "audit" ∷ rest) c) found.1 (ap (λ (ps : List (List ℕ)). codes "audit" ∷ ps) (no_part rest found.0))
+
 said_of : (parts rest : List (List ℕ)) (word text : List ℕ) (command : Command) → parts ≡ word ∷ rest → word ≡ text → Said (text ∷ rest) command → Said parts command
 said_of parts rest word text command is same said =
     subst (λ (ps : List (List ℕ)). Said ps command) (sym (is ∙ ap (λ (w : List ℕ). w ∷ rest) same)) said
@@ -111,13 +118,17 @@ command-some parts command h =
     let next = bind_some (head_of parts) (λ p.
     (if bytes_eq p.0 (codes "show") then show_of p.1
     else if bytes_eq p.0 (codes "replay") then replay_of p.1
+    else if bytes_eq p.0 (codes "audit") then audit_of p.1
     else None)) command h in
     let is : parts ≡ next.0.0 ∷ next.0.1 = head-some parts next.0 next.1 in
     elim (if-some (bytes_eq next.0.0 (codes "show")) (show_of next.0.1) _ command next.2) [
       | inl show ↦ said_of parts next.0.1 next.0.0 (codes "show") command is ((bytes_eq-Decides next.0.0 (codes "show")).0 show.0) (show-some next.0.1 command show.1)
-      | inr other ↦ elim (if-some (bytes_eq next.0.0 (codes "replay")) (replay_of next.0.1) None command other.1) [
+      | inr other ↦ elim (if-some (bytes_eq next.0.0 (codes "replay")) (replay_of next.0.1) _ command other.1) [
         | inl replay ↦ said_of parts next.0.1 next.0.0 (codes "replay") command is ((bytes_eq-Decides next.0.0 (codes "replay")).0 replay.0) (replay-some next.0.1 command replay.1)
-        | inr none ↦ absurd (let e : None ≡ Some command = none.1 in cc)
+        | inr third ↦ elim (if-some (bytes_eq next.0.0 (codes "audit")) (audit_of next.0.1) None command third.1) [
+          | inl audit ↦ said_of parts next.0.1 next.0.0 (codes "audit") command is ((bytes_eq-Decides next.0.0 (codes "audit")).0 audit.0) (audit-some next.0.1 command audit.1)
+          | inr none ↦ absurd (let e : None ≡ Some command = none.1 in cc)
+        ]
       ]
     ]
 
@@ -130,6 +141,10 @@ show-gives parts is = ap command_of is
 pub replay-gives : (parts : List (List ℕ)) → parts ≡ codes "replay" ∷ [] → command_of parts ≡ Some Replay
 unfolding command_of head_of replay_of
 replay-gives parts is = ap command_of is
+
+pub audit-gives : (parts : List (List ℕ)) → parts ≡ codes "audit" ∷ [] → command_of parts ≡ Some Audit
+unfolding command_of head_of audit_of
+audit-gives parts is = ap command_of is
 
 two_options : (a b : Setting) (command : Command) (parts mid : List (List ℕ)) → option_of parts ≡ Some (a, mid) → option_of mid ≡ Some (b, []) → both a b ≡ Some command → generate_of parts ≡ Some command
 unfolding generate_of
@@ -191,6 +206,7 @@ ordered parts rest a b is order = elim order [
 read_said : (words : List (String Global)) (command : Command) → Said (map string_bytes words) command → Reads words (Some command)
 read_said words Show said = said
 read_said words Replay said = said
+read_said words Audit said = said
 read_said words (Generate seed steps) said = let g = said.2 in record {
   seed_parts = g.seed_parts;
   steps_parts = g.steps_parts;
@@ -209,5 +225,6 @@ reads_of words None is = record {
   not_show = λ show. none_found (map string_bytes words) Show is (show-gives (map string_bytes words) show);
   not_replay = λ replay. none_found (map string_bytes words) Replay is (replay-gives (map string_bytes words) replay);
   not_generate = λ seed steps g. none_found (map string_bytes words) (Generate seed steps) is (generate-said words seed steps g);
+  not_audit = λ audit. none_found (map string_bytes words) Audit is (audit-gives (map string_bytes words) audit);
 }
 reads_of words (Some command) is = read_said words command (command-some (map string_bytes words) command (sym is))

@@ -5,7 +5,7 @@ use Rattle.rtmfp_script.specs.Fields.{number_of, ◌>>=◌, either, only_if}
 use Rattle.rtmfp_words.specs.declared.option.Setting.{Setting}
 use Rattle.rtmfp_words.specs.declared.option.Setting.TheVariants.{Seed, Steps}
 use Rattle.rtmfp_words.specs.declared.command.Command.{Command}
-use Rattle.rtmfp_words.specs.declared.command.Command.TheVariants.{Show, Replay, Generate}
+use Rattle.rtmfp_words.specs.declared.command.Command.TheVariants.{Show, Replay, Generate, Audit}
 
 -- the first word, and the words behind it
 unfoldable pub head_of : List (List ℕ) → Option (List ℕ × List (List ℕ))
@@ -69,8 +69,12 @@ replay_of parts = if is_empty parts then Some Replay else generate_of parts
 unfoldable pub show_of : List (List ℕ) → Option Command
 show_of parts = only_if (is_empty parts) Show
 
+unfoldable pub audit_of : List (List ℕ) → Option Command
+audit_of parts = only_if (is_empty parts) Audit
+
 unfoldable pub command_of : List (List ℕ) → Option Command
 command_of parts = head_of parts >>= λ p.
     (if bytes_eq p.0 (codes "show") then show_of p.1
     else if bytes_eq p.0 (codes "replay") then replay_of p.1
+    else if bytes_eq p.0 (codes "audit") then audit_of p.1
     else None)

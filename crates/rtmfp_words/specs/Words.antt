@@ -2,7 +2,7 @@
 use Rattle.std.specs.Prelude.{◌≡◌, ◌⊎◌, ℕ, ◌^◌, ◌<◌, ◌≤◌, List, [], ◌∷◌, ◌++◌, map, codes, decimal, Option, Some, None, String, string_bytes}
 use Rattle.std.specs.declared.alloc.Global.{Global}
 use Rattle.rtmfp_words.specs.declared.command.Command.{Command}
-use Rattle.rtmfp_words.specs.declared.command.Command.TheVariants.{Show, Replay, Generate}
+use Rattle.rtmfp_words.specs.declared.command.Command.TheVariants.{Show, Replay, Generate, Audit}
 
 -- the one word `show`
 abbrev pub IsShow : List (String Global) → Type 0
@@ -11,6 +11,10 @@ IsShow words = map string_bytes words ≡ codes "show" ∷ []
 -- the one word `replay`
 abbrev pub IsReplay : List (String Global) → Type 0
 IsReplay words = map string_bytes words ≡ codes "replay" ∷ []
+
+-- the one word `audit`
+abbrev pub IsAudit : List (String Global) → Type 0
+IsAudit words = map string_bytes words ≡ codes "audit" ∷ []
 
 -- an option is its name and its value as two words, or one word with `=` between them
 abbrev pub OptionSpells : List ℕ → List ℕ → List (List ℕ) → Type 0
@@ -34,6 +38,7 @@ pub record IsOther (words : List (String Global)) : Type 0 where
   pub not_show : IsShow words → ⊥
   pub not_replay : IsReplay words → ⊥
   pub not_generate : (seed steps : ℕ) → IsGenerate words seed steps → ⊥
+  pub not_audit : IsAudit words → ⊥
 
 -- what the words say
 abbrev pub Reads : List (String Global) → Option Command → Type 0
@@ -41,3 +46,4 @@ Reads words None = IsOther words
 Reads words (Some Show) = IsShow words
 Reads words (Some Replay) = IsReplay words
 Reads words (Some (Generate seed steps)) = IsGenerate words seed steps
+Reads words (Some Audit) = IsAudit words

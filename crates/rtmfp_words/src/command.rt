@@ -1,7 +1,7 @@
 //! The commands.
 ghost use Rattle.std.specs.Prelude.{◌≡◌, ℕ, map, string_bytes, Some};
-ghost use Rattle.rtmfp_words.specs.Words.{IsShow, IsReplay, IsGenerate, Reads};
-ghost use Rattle.rtmfp_words.specs.Reading.{command_of, show_of, replay_of, generate_of, both};
+ghost use Rattle.rtmfp_words.specs.Words.{IsShow, IsReplay, IsGenerate, IsAudit, Reads};
+ghost use Rattle.rtmfp_words.specs.Reading.{command_of, show_of, replay_of, generate_of, audit_of, both};
 
 use crate::option::{Setting, read_option};
 use crate::words::{is_end, next_word};
@@ -20,20 +20,23 @@ pub enum Command {
         /// How many steps the script has, at most 100,000.
         steps: u64,
     },
+    /// `audit`: the logs of ends are read from lines, and it is written whether they agree.
+    Audit,
 }
 
 /// The command that the words after the program's name say (own).
 ///
 /// They are `show`; or `replay`; or `replay` with the options `--generate N` and `--steps K`, each
-/// once, in either order. An option is two words, or one with `=` between the name and the value. N
-/// and K are decimal numbers without leading zeros; N is below 2^64, and K is at most 100,000. All
-/// other words are faulty.
+/// once, in either order; or `audit`. An option is two words, or one with `=` between the name and
+/// the value. N and K are decimal numbers without leading zeros; N is below 2^64, and K is at most
+/// 100,000. All other words are faulty, also where one stands behind `show` or `audit`.
 pub fn read_command(words: &[String]) -> Option<Command>
     ensures reads { Reads words.now result }
     ensures show { IsShow words.now → result ≡ Some Command.Show }
     ensures replay { IsReplay words.now → result ≡ Some Command.Replay }
     ensures generate { (seed steps : ℕ) → IsGenerate words.now seed steps →
         result ≡ Some (Command.Generate seed steps) }
+    ensures audit { IsAudit words.now → result ≡ Some Command.Audit }
 {
     find_command(words)
 }
@@ -49,6 +52,9 @@ fn find_command(words: &[String]) -> Option<Command>
     if word == b"replay".as_slice() {
         return replay(rest);
     }
+    if word == b"audit".as_slice() {
+        return audit(rest);
+    }
     None
 }
 
@@ -61,6 +67,17 @@ fn show(words: &[String]) -> Option<Command>
         return None;
     }
     Some(Command::Show)
+}
+
+/// What the words behind `audit` make it.
+#[tactic(auto, unfolding(crate::specs::Reading::audit_of))]
+fn audit(words: &[String]) -> Option<Command>
+    ensures { result ≡ audit_of (map string_bytes words.now) }
+{
+    if !is_end(words) {
+        return None;
+    }
+    Some(Command::Audit)
 }
 
 /// What the words behind `replay` make it.

@@ -13,7 +13,7 @@ use std::alloc::Global;
 /// What the words of the command line ask for (own).
 #[derive(Drop)]
 pub enum CommandLine {
-    /// `show` or `replay`.
+    /// `show`, `replay` or `audit`.
     Lines(Command),
     /// `serve`: a node is run.
     Serve(ServeWords),

@@ -1,6 +1,6 @@
 use Rattle.std.proofs.Common.{◌∙◌}
 use Rattle.std.specs.Prelude.{map, string_bytes}
-use Rattle.rtmfp_words.proofs.Said.{reads_of, show-gives, replay-gives, generate-said}
+use Rattle.rtmfp_words.proofs.Said.{reads_of, show-gives, replay-gives, generate-said, audit-gives}
 use Rattle.rtmfp_words.proofs.command.read_command.Goals as goal
 
 pub returns-clause-reads : goal.returns-clause-reads
@@ -14,3 +14,6 @@ returns-clause-replay c = λ replay. c.find_command.ensures ∙ replay-gives (ma
 
 pub returns-clause-generate : goal.returns-clause-generate
 returns-clause-generate c = λ seed steps g. c.find_command.ensures ∙ generate-said c.args.words.now seed steps g
+
+pub returns-clause-audit : goal.returns-clause-audit
+returns-clause-audit c = λ audit. c.find_command.ensures ∙ audit-gives (map string_bytes c.args.words.now) audit
