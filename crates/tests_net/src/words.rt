@@ -129,6 +129,7 @@ const LINES: &str = "\
 show = show
 replay = replay
 replay --generate 7 --steps=5 = generate
+audit = audit
 serve 10.0.0.1:1 P name --turns 5 = serve
 serve --turns=5 --introduce 10.0.0.1:1 P name = serve
 meet --port 40100 --turns 200 = meet
@@ -140,7 +141,8 @@ show --turns 5 = none
 replay --turns 5 = none
 replay --port 5 --turns 5 = none
 --turns 5 --port 5 meet = none
-audit = none
+audit replay = none
+audit --turns 5 = none
 play = none
 help = none
 --help = none
@@ -252,6 +254,7 @@ fn said(alloc: Global, words: &[String]) -> &'static str {
         Ok(CommandLine::Lines(Command::Show)) => "show",
         Ok(CommandLine::Lines(Command::Replay)) => "replay",
         Ok(CommandLine::Lines(Command::Generate { .. })) => "generate",
+        Ok(CommandLine::Lines(Command::Audit)) => "audit",
         Ok(CommandLine::Serve(_)) => "serve",
         Ok(CommandLine::Meet(_)) => "meet",
         Err(fault) => fault_name(fault),

@@ -14,6 +14,9 @@ replay --steps=1 --steps 1 = none
 replay --generate 1 = none
 replay --generate=1 --steps=100001 = none
 show replay = none
+audit = audit
+audit replay = none
+audit --steps=1 = none
 ";
 
 fn words_of(alloc: Global, text: &str) -> Result<Vec<String>, AllocError> {
@@ -30,6 +33,7 @@ fn command_text(alloc: Global, command: Option<Command>) -> Result<String, Alloc
         Some(Command::Show) => String::from_str(alloc, "show"),
         Some(Command::Replay) => String::from_str(alloc, "replay"),
         Some(Command::Generate { seed, steps }) => format!(in alloc; "generate {seed} {steps}"),
+        Some(Command::Audit) => String::from_str(alloc, "audit"),
         None => String::from_str(alloc, "none"),
     }
 }
