@@ -68,7 +68,7 @@ fn apply(
         Verdict::ResponderHello { greeting, cookie } => {
             take_hello(end, place, greeting, cookie, from, out)
         }
-        Verdict::CookieChange { found, new } => change_cookie(end, place, *found, new, out),
+        Verdict::CookieChange { found, new } => change_cookie(end, *found, new, out),
         Verdict::InitiatorKeying { fields, hearing } => {
             initiator_keyed(end, place, fields, hearing, from, draws, out)
         }
@@ -100,7 +100,7 @@ fn answer_hello(
     out.make_room(1)?;
     let blank = blank(end.alloc)?;
     let group = end.group_at(place);
-    let answer = end.startup.apply_hello(tag, from, end.moment, group.get());
+    let answer = end.startup.apply_hello(tag, from, end.moment, group);
     out.add_some(end.seal_answer(blank, &answer));
     Ok(())
 }
@@ -172,10 +172,10 @@ fn greet(
 {
     out.make_room(2)?;
     let blank = blank(end.alloc)?;
-    let group = end.groups.at(&end.startup, place);
+    let group = end.groups.at(&end.startup, place).copy();
     match end
         .startup
-        .apply_responder_hello(greeting, cookie, from, end.moment, group.get())
+        .apply_responder_hello(greeting, cookie, from, end.moment, &group)
     {
         Ok(told) => {
             let (fact, answer) = told;
@@ -187,11 +187,10 @@ fn greet(
     }
 }
 
-/// Takes a change to this cookie, which came at a place and is of the attempt that was found. Its
-/// keying goes out again under its own secret, which is mostly that of the place.
+/// Takes a change to this cookie, which is of the attempt that was found. Its keying goes out again
+/// under its own secret.
 fn change_cookie(
     end: &mut EndState,
-    place: Place,
     found: Found,
     new: &[u8],
     out: &mut Outbox,
@@ -208,10 +207,7 @@ fn change_cookie(
 {
     out.make_room(1)?;
     let blank = blank(end.alloc)?;
-    let group = end.groups.at(&end.startup, place);
-    let answer = end
-        .startup
-        .apply_cookie_change(found, new, end.moment, group.get());
+    let answer = end.startup.apply_cookie_change(found, new, end.moment);
     out.add_some(end.seal_answer(blank, &answer));
     Ok(())
 }

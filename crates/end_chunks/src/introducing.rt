@@ -153,7 +153,7 @@ fn redirect_at(
     match row {
         Some(row) => {
             let group = end.group_at(place);
-            Some(redirect_answer(tag, row.addresses(), from, group.get()))
+            Some(redirect_answer(tag, row.addresses(), from, group))
         }
         None => None,
     }

@@ -217,10 +217,10 @@ fn judge_change<'a>(
     ensures refused { IfErr result (λ cause. cookie_change_cause end.now.startup (sid_at place)
         old.now new.now (group_at end.now place).generation ≡ Some cause) }
 {
-    let group = end.group_at(place);
+    let generation = end.group_at(place).number();
     match end
         .startup
-        .judge_cookie_change(sid_at(place), old, new, group.get())
+        .judge_cookie_change(sid_at(place), old, new, generation)
     {
         Ok(found) => Ok(Verdict::CookieChange { found, new }),
         Err(cause) => Err(cause),
@@ -308,7 +308,7 @@ fn judge_initiator<'a>(
     let group = end.group_at(place);
     match end
         .startup
-        .judge_initiator_keying(&fields, from, end.moment, end.full(), group.get())
+        .judge_initiator_keying(&fields, from, end.moment, end.full(), group)
     {
         Ok(hearing) => Ok(Verdict::InitiatorKeying { fields, hearing }),
         Err(cause) => Err(cause),
@@ -344,7 +344,7 @@ fn judge_responder<'a>(
     let group = end.group_at(place);
     match end
         .startup
-        .judge_opening(sid_at(place), &fields, group.get())
+        .judge_opening(sid_at(place), &fields, group)
     {
         Ok(peer) => Ok(Verdict::ResponderKeying { fields, peer }),
         Err(cause) => Err(cause),

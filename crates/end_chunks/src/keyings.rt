@@ -45,8 +45,7 @@ pub(crate) fn initiator_keyed(
     out.make_room(3)?;
     end.sessions.reserve()?;
     let blank = blank(end.alloc)?;
-    let hashed = end.groups.at(&end.startup, place);
-    let group = hashed.get();
+    let group = end.groups.at(&end.startup, place).copy();
     match end.startup.apply_initiator_keying(
         fields,
         hearing,
@@ -54,7 +53,7 @@ pub(crate) fn initiator_keyed(
         end.moment,
         near,
         draws.nonce,
-        group,
+        &group,
     ) {
         Ok(Keyed::Change(answer)) => {
             out.add_some(end.seal_answer(blank, &answer));
@@ -77,7 +76,7 @@ pub(crate) fn initiator_keyed(
                 &born,
                 &end.print,
                 from,
-                group,
+                &group,
                 end.moment,
             );
             out.add_some(fact_entry(ended));
@@ -108,16 +107,15 @@ pub(crate) fn responder_keyed(
     out.make_room(2)?;
     end.sessions.reserve()?;
     let blank = blank(end.alloc)?;
-    // The secret of its attempt, which isn't there any more then.
-    let hashed = end.groups.of_attempt(&end.startup, near);
-    let group = hashed.get();
+    // That of its attempt, which isn't there any more then.
+    let group = end.groups.of_attempt(&end.startup, near).copy();
     let fact = end.startup.apply_responder_keying(near, peer, fields);
     keep_opened(
         &mut end.sessions,
         &fact,
         &end.print,
         from,
-        group,
+        &group,
         end.moment,
     );
     out.add(Entry::Fact(fact));

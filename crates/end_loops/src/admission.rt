@@ -30,7 +30,7 @@ fn open_in_startup(end: &EndState, place: Place, sid: u32, part: &mut [u8]) -> R
     ensures same { OnErr result (part.new ≡ part.old) }
 {
     let group = end.group_at(place);
-    match open_in_place(group.get().startup(), sid, part) {
+    match open_in_place(group.startup(), sid, part) {
         Ok(_) => Ok(()),
         Err(_) => Err(Cause::BadTag),
     }

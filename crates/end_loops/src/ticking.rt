@@ -73,7 +73,7 @@ fn attempt_due(end: &mut EndState, sends: usize, out: &mut Outbox) -> Result<(),
 {
     let mut blanks = blanks(end.alloc, sends)?;
     out.make_room(sends.max(1))?;
-    match end.startup.due_under(end.moment, &end.groups.current) {
+    match end.startup.due(end.moment) {
         Some(Due::Ended(fact)) => out.add(Entry::Fact(fact)),
         Some(Due::Unsought(near)) => out.add(Entry::Unsought {
             near,

@@ -1,4 +1,4 @@
--- The group's secrets that an end knows, hashed, and the one of a place.
+-- Which of the group's secrets goes at a place, of those that an end keeps hashed.
 use Rattle.std.specs.Prelude.{ℕ}
 use Rattle.std.specs.FinMap.{get}
 use Rattle.crypto_profile.specs.declared.group.GroupSecret.{GroupSecret}
@@ -7,15 +7,8 @@ use Rattle.endpoint_model.specs.declared.place.Place.{Place}
 use Rattle.endpoint_model.specs.declared.place.Place.TheVariants.{Startup, Attempt, Session}
 use Rattle.endpoint_model.specs.Admission.{attempt_group, known_group}
 use Rattle.end_state.specs.declared.groups.Groups.{Groups}
-use Rattle.end_state.specs.declared.groups.Hashed.{Hashed}
-use Rattle.end_state.specs.declared.groups.Hashed.TheVariants.{Kept, Made}
 
--- the secret that was hashed
-abbrev pub hashed_of : Hashed → GroupSecret
-hashed_of (Kept group) = group.now
-hashed_of (Made group) = group
-
--- that of a place, outside of sessions
+-- the one of a place, outside of sessions
 abbrev pub group_there : Groups → StartupState → Place → GroupSecret
 group_there groups startup (Startup generation) =
     known_group generation groups.next groups.current

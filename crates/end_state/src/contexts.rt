@@ -40,7 +40,7 @@ impl EndState {
     {
         Place::Attempt {
             near,
-            generation: self.groups.of_attempt(&self.startup, near).get().number(),
+            generation: self.groups.of_attempt(&self.startup, near).number(),
         }
     }
 
@@ -168,7 +168,7 @@ impl EndState {
         ensures { result ≡ context_in_startup self.now place generation part.now }
     {
         let group = self.group_at(place);
-        match open_refusal(group.get().startup(), sid, part) {
+        match open_refusal(group.startup(), sid, part) {
             None => Some(Context::Startup { generation }),
             Some(_) => None,
         }

@@ -1,6 +1,6 @@
 //! What an end keeps.
 
-use crate::groups::{Groups, Hashed};
+use crate::groups::Groups;
 use crate::settings::Settings;
 use crypto_profile::Generation;
 use endpoint_model::{Config, Place};
@@ -61,7 +61,6 @@ impl EndState {
     ghost use Rattle.endpoint_model.specs.Introducing.{introducing, with_redirect};
     ghost use Rattle.endpoint_model.specs.State.{fresh, at_moment};
     ghost use Rattle.endpoint_model.specs.Admission.{group_at};
-    ghost use Rattle.end_state.specs.Groups.{hashed_of};
 
     /// An end that holds nothing yet, in this generation with this secret of the group. It takes no
     /// memory.
@@ -105,8 +104,8 @@ impl EndState {
     }
 
     /// The group's secret that goes at a place, outside of sessions.
-    pub fn group_at(&self, place: Place) -> Hashed<'_>
-        ensures { hashed_of result ≡ group_at self.now place }
+    pub fn group_at(&self, place: Place) -> &Generation
+        ensures { result.now ≡ group_at self.now place }
     {
         self.groups.at(&self.startup, place)
     }

@@ -19,7 +19,7 @@ mod taking;
 
 pub use contexts::{PLAIN_AT, session_id};
 pub use end_state::EndState;
-pub use groups::{Groups, Hashed};
+pub use groups::Groups;
 pub use introducing::RowAddresses;
 pub use outbox::{Outbox, fact_entry};
 pub use sealing::blank;

@@ -20,7 +20,7 @@ pub invariant_of-end : goal.invariant_of-end
 invariant_of-end c =
     let i = c.end.inside in
     let greeting = c.args.greeting.now in
-    let g = c.get.result.now in
+    let g = c.copy-group.result in
     let chosen = c.requires.greeted.0 in
     let is : IsFound i.startup greeting.found chosen = subst (λ (s : State). IsFound s.startup greeting.found chosen) (sym c.end.view_is) c.requires.greeted.1.1.found in
     kept_end i.settings i.print i.startup c.apply_responder_hello.new.self (after_answer i.startup greeting.print chosen c.args.from.now c.args.cookie.now i.moment g) c.end.invariant
@@ -30,7 +30,7 @@ pub returns-in-Ok-clause-ok : goal.returns-in-Ok-clause-ok
 returns-in-Ok-clause-ok c =
     let i = c.end.inside in
     let greeting = c.args.greeting.now in
-    let g = c.get.result.now in
+    let g = c.copy-group.result in
     let chosen = c.requires.greeted.0 in
     let is : IsFound i.startup greeting.found chosen = subst (λ (s : State). IsFound s.startup greeting.found chosen) (sym c.end.view_is) c.requires.greeted.1.1.found in
     let v : State = state_of i.settings i.moment i.sealed i.groups i.startup i.sessions.rows in
@@ -47,6 +47,6 @@ returns-in-Ok-clause-ok c =
     c.seal_answer.ensures c.add_some-in-Ok.ensures.entries c.add_some-in-Ok.ensures.free c.add_some-in-Ok.ensures.room in
     subst (λ (s : State). Done (greeting_did s (group_at s c.args.place) greeting.print (found_in s.startup greeting.found) c.args.from.now c.args.cookie.now) c.seal_answer.new.self c.args.out.now c.add_some-in-Ok.new.self) c.end.view_is
     (hello_so v t g (group_at v c.args.place) greeting.print chosen (found_in i.startup greeting.found) c.args.from.now c.args.cookie.now c.in-Ok.told.0 c.in-Ok.told.1 c.seal_answer.new.self c.args.out.now c.add_some-in-Ok.new.self
-    (c.get.ensures ∙ c.at-group.ensures ∙ there_is i.settings i.moment i.sealed i.groups i.startup i.sessions.rows c.args.place)
+    (c.copy-group.ensures ∙ c.at.ensures ∙ there_is i.settings i.moment i.sealed i.groups i.startup i.sessions.rows c.args.place)
     (found_is i.startup greeting.found chosen is) (c.in-Ok.ensures.fact chosen is) (c.in-Ok.ensures.answer chosen is) put
     (added_first entries (sent_answer t c.in-Ok.told.1) c.seal_answer.new.self c.args.out.now c.add_some.new.self c.add_some-in-Ok.new.self added sent))

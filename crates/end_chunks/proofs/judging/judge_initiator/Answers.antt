@@ -10,7 +10,7 @@ pub returns-in-Ok-judge_initiator_keying-clause-none :
     goal.returns-in-Ok-judge_initiator_keying-clause-none
 returns-in-Ok-judge_initiator_keying-clause-none c =
     let read : InitiatorKeying = initiator_of c.in-Ok.fields in
-    let under = c.get.ensures ∙ c.group_at-group.ensures in
+    let under = c.group_at-group.ensures in
     judged_none c.args.end.now c.args.place c.args.walk.now c.args.from.now c.args.payload.now read c.in-Ok-judge_initiator_keying.hearing
     (ap (takes c.args.place) (sym c.requires.kind) ∙ sym c.takes.ensures ∙ c.if-not-takes.false) c.if-walk.false (sym c.read_initiator_keying.ensures.fields ∙ ap initiator_read c.in-Ok.is)
     (sym (c.judge_initiator_keying.ensures ∙ (λ i. judged_initiator (c.end.view_is i).startup (c.in-Ok.ensures.payload i) c.args.from.now (c.end.view_is i).moment (c.full.ensures i) (under i) read))
@@ -20,7 +20,7 @@ pub returns-in-Err-judge_initiator_keying-clause-refused :
     goal.returns-in-Err-judge_initiator_keying-clause-refused
 returns-in-Err-judge_initiator_keying-clause-refused c =
     let read : InitiatorKeying = initiator_of c.in-Ok.fields in
-    let under = c.get.ensures ∙ c.group_at-group.ensures in
+    let under = c.group_at-group.ensures in
     judged_some c.args.end.now c.args.place c.args.walk.now c.args.from.now c.args.payload.now read c.in-Err-judge_initiator_keying.cause
     (ap (takes c.args.place) (sym c.requires.kind) ∙ sym c.takes.ensures ∙ c.if-not-takes.false) c.if-walk.false (sym c.read_initiator_keying.ensures.fields ∙ ap initiator_read c.in-Ok.is)
     (sym (c.judge_initiator_keying.ensures ∙ (λ i. judged_initiator (c.end.view_is i).startup (c.in-Ok.ensures.payload i) c.args.from.now (c.end.view_is i).moment (c.full.ensures i) (under i) read))

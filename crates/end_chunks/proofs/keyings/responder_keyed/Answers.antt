@@ -23,7 +23,7 @@ returns-clause-ok c =
     let kept : IsEnd c.end.inside.settings c.end.inside.print c.apply_responder_keying-fact.new.self =
     kept_opening c.end.inside.settings c.end.inside.print c.end.inside.startup c.apply_responder_keying-fact.new.self
     c.args.near c.apply_responder_keying-fact.result c.end.invariant h.1 in
-    let g : GroupSecret = c.get-group.result.now in
+    let g : GroupSecret = c.copy-group.result in
     let put : u ≡ with_startup v (after_opening c.end.inside.startup c.args.near c.apply_responder_keying-fact.result) =
     startup_put c.end.inside.settings c.end.inside.moment c.end.inside.sealed c.end.inside.groups c.end.inside.startup c.apply_responder_keying-fact.new.self
     (after_opening c.end.inside.startup c.args.near c.apply_responder_keying-fact.result) c.end.inside.sessions.rows c.reserve.new.self.rows c.reserve.ensures.rows h.1 in
@@ -35,6 +35,6 @@ returns-clause-ok c =
     let sent = given_done (sent_in_session t c.args.near c.args.from.now (chunk_bytes (Ping []))) c.seal_in_session.new.self c.seal_in_session.result c.add.new.self c.add_some.new.self
     c.seal_in_session.ensures c.add_some.ensures.entries c.add_some.ensures.free c.add_some.ensures.room in
     subst (λ (s : State). Done (responder_keyed s c.args.near c.args.from.now c.args.fields.now.payload.now) c.seal_in_session.new.self c.args.out.now c.add_some.new.self) c.end.view_is
-    (opened_so v t c.args.near c.args.from.now c.args.fields.now.payload.now c.apply_responder_keying-fact.result g c.seal_in_session.new.self c.args.out.now c.add_some.new.self h.0 (c.get-group.ensures ∙ c.of_attempt-hashed.ensures)
+    (opened_so v t c.args.near c.args.from.now c.args.fields.now.payload.now c.apply_responder_keying-fact.result g c.seal_in_session.new.self c.args.out.now c.add_some.new.self h.0 (c.copy-group.ensures ∙ c.of_attempt.ensures)
     (opens ∙ ap (λ (s : State). with_opened s c.apply_responder_keying-fact.result c.args.from.now g) put)
     (added_first (FactEntry c.apply_responder_keying-fact.result ∷ []) (sent_in_session t c.args.near c.args.from.now (chunk_bytes (Ping []))) c.seal_in_session.new.self c.args.out.now c.add.new.self c.add_some.new.self added sent))
