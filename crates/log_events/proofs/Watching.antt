@@ -27,6 +27,7 @@ use Rattle.log_contexts.specs.Kept.{KeptContexts}
 use Rattle.log_contexts.specs.Contexts.{AreContextsOf}
 use Rattle.log_contexts.proofs.Told.{zero_is_none}
 use Rattle.log_outs.specs.Sessions.{ClosesOwn}
+use Rattle.log_verdict.specs.Checks.{kept_with}
 use Rattle.log_events.specs.declared.watch.EndWatch.{EndWatch}
 use Rattle.log_events.specs.Watch.{IsWatchOf}
 
@@ -71,7 +72,7 @@ module _ (own : List ℕ) (past : Past) (before : ClosesOwn past) where
 -- ---- the watch
 
 pub watch_first : (secrets : Secrets) (setup : Setup) (d : Digested) (g : Known) (s : List Stamp) (n : NonceSet) (c : KeptContexts) → IsDigestOf 0 nothing_done d → AreGenerationsOf setup nothing_done g → AreNumbersOf nothing_done s → AreNonces [] n →
-    AreContextsOf secrets setup nothing_done c → IsWatchOf secrets setup 0 nothing_done (record { digest = d; generations = g; numbers = s; nonces = n; contexts = c })
+    AreContextsOf secrets setup nothing_done c → IsWatchOf secrets setup 0 nothing_done (record { digest = d; generations = g; numbers = s; nonces = n; contexts = c; kept = 0 })
 watch_first secrets setup d g s n c digest generations numbers nonces contexts = record {
   digest = digest;
   generations = generations;
@@ -80,11 +81,12 @@ watch_first secrets setup d g s n c digest generations numbers nonces contexts =
   contexts = contexts;
   closing = λ near thing at closing. absurd closing;
   zero = refl;
+  kept_is = refl;
 }
 
 module _ (secrets : Secrets) (setup : Setup) (last : ℕ) (past : Past) (w : EndWatch) (is : IsWatchOf secrets setup last past w) where
   pub watch_begun : (now : ℕ) (e : Event) (d : Digested) (c : KeptContexts) → IsDigestOf now (with_begun now e past) d → AreContextsOf secrets setup (with_begun now e past) c →
-      IsWatchOf secrets setup now (with_begun now e past) (record { digest = d; generations = w.generations; numbers = w.numbers; nonces = w.nonces; contexts = c })
+      IsWatchOf secrets setup now (with_begun now e past) (record { digest = d; generations = w.generations; numbers = w.numbers; nonces = w.nonces; contexts = c; kept = w.kept })
   watch_begun now e d c digest contexts = record {
     digest = digest;
     generations = they_tell.begins setup past w.generations now e is.generations;
@@ -93,6 +95,7 @@ module _ (secrets : Secrets) (setup : Setup) (last : ℕ) (past : Past) (w : End
     contexts = contexts;
     closing = closes_begun [] past is.closing now e;
     zero = is.zero;
+    kept_is = is.kept_is;
   }
 
   module _ (call : Call) (rest : List Entry) (entry : Entry) (of : last_call past ≡ Some call) (line : Line secrets setup last call past rest entry) where
@@ -102,10 +105,10 @@ module _ (secrets : Secrets) (setup : Setup) (last : ℕ) (past : Past) (w : End
     pub has_number : HasNumber entry
     has_number = (lawful_may_come secrets setup last call past rest entry of line).1
 
-    pub watch_more : (d : Digested) (g : Known) (s : List Stamp) (n : NonceSet) (c : KeptContexts) → IsDigestOf last (with_entry last entry past) d → AreGenerationsOf setup (with_entry last entry past) g → AreNumbersOf (with_entry last entry past) s →
-        AreNonces (nonces_of (facts_of (with_entry last entry past))) n → AreContextsOf secrets setup (with_entry last entry past) c →
-        IsWatchOf secrets setup last (with_entry last entry past) (record { digest = d; generations = g; numbers = s; nonces = n; contexts = c })
-    watch_more d g s n c digest generations numbers nonces contexts = record {
+    pub watch_more : (d : Digested) (g : Known) (s : List Stamp) (n : NonceSet) (c : KeptContexts) (kept : ℕ) → IsDigestOf last (with_entry last entry past) d → AreGenerationsOf setup (with_entry last entry past) g → AreNumbersOf (with_entry last entry past) s →
+        AreNonces (nonces_of (facts_of (with_entry last entry past))) n → AreContextsOf secrets setup (with_entry last entry past) c → kept ≡ kept_with (facts_of (with_entry last entry past)) →
+        IsWatchOf secrets setup last (with_entry last entry past) (record { digest = d; generations = g; numbers = s; nonces = n; contexts = c; kept = kept })
+    watch_more d g s n c kept digest generations numbers nonces contexts kept_is = record {
       digest = digest;
       generations = generations;
       numbers = numbers;
@@ -113,6 +116,7 @@ module _ (secrets : Secrets) (setup : Setup) (last : ℕ) (past : Past) (w : End
       contexts = contexts;
       closing = closes_more (own_of setup) past is.closing last entry may_come;
       zero = zero_is_none.adds secrets setup last call past rest entry last last w.digest is.digest line is.zero;
+      kept_is = kept_is;
     }
 
 -- ---- a call with a datagram draws nothing for a search

@@ -11,6 +11,7 @@ use Rattle.log_digest.specs.Numbers.{AreNumbersOf}
 use Rattle.log_contexts.specs.Contexts.{AreContextsOf}
 use Rattle.log_outs.specs.Sessions.{ClosesOwn}
 use Rattle.log_facts.specs.Coming.{IsTaken}
+use Rattle.log_verdict.specs.Checks.{kept_with}
 use Rattle.log_events.specs.Underway.{IsUnderway}
 use Rattle.log_events.specs.declared.watch.EndWatch.{EndWatch}
 
@@ -24,6 +25,7 @@ pub record IsWatchOf (secrets : Secrets) (setup : Setup) (last : ℕ) (past : Pa
   pub contexts : AreContextsOf secrets setup past w.contexts
   pub closing : ClosesOwn past
   pub zero : is_in_use 0 past ≡ false
+  pub kept_is : w.kept ≡ kept_with (facts_of past)
 
 -- The event began at this moment, and what is kept is that; and the answer tells at each of its
 -- entries whether the session under its datagram's session ID takes it.

@@ -1,6 +1,6 @@
 //! All that a checker keeps of one end.
 
-ghost use Rattle.std.specs.Prelude.{◌≡◌, ◌∷◌, ℕ, List, None, Some, OnOk, true};
+ghost use Rattle.std.specs.Prelude.{◌≡◌, ◌+◌, ◌≤◌, ◌∷◌, ℕ, List, None, Some, OnOk, cond, true};
 ghost use Rattle.endpoint_model.specs.Event.{Setup, Call, Event, moment_at, open_in, own_of, receive_in, seek_in};
 ghost use Rattle.endpoint_model.specs.declared.entry.Entry.{Entry};
 ghost use Rattle.glare_core.specs.declared.facts.Fact.{Fact};
@@ -9,16 +9,18 @@ ghost use Rattle.endpoint_laws.specs.Past.{Past, OfEvent, datagram_in, facts_of,
 ghost use Rattle.endpoint_laws.specs.Contexts.{Secrets};
 ghost use Rattle.endpoint_laws.specs.Lawful.{Line, nonces_of};
 ghost use Rattle.log_digest.specs.Changes.{drawn_in};
+ghost use Rattle.log_digest.specs.Digest.{held_before};
 ghost use Rattle.log_digest.specs.Nonces.{AreNonces};
 ghost use Rattle.log_values.specs.Events.{call_of};
 ghost use Rattle.log_contexts.specs.Changes.{begun_id};
 ghost use Rattle.log_contexts.specs.Contexts.{AreKeyingsOf, BeginsIn, HearsThere, OpensInNone, OpensThere};
 ghost use Rattle.log_arrivals.specs.Calls.{IsArrivedIn};
 ghost use Rattle.log_outs.specs.Outs.{IsSenderOf};
+ghost use Rattle.log_verdict.specs.Checks.{is_kept};
 ghost use Rattle.log_events.specs.Watch.{HasBegun, IsWatchOf};
 
 use endpoint_model::Entry;
-use glare_core::Fact;
+use glare_core::{Fact, Held, peer_of};
 use log_arrivals::{Arrived, Given, in_session_call};
 use log_contexts::Contexts;
 use log_digest::{Digest, Drawn, Generations, Nonces, Numbers};
@@ -42,6 +44,8 @@ pub struct EndWatch {
     pub nonces: Nonces,
     /// The generations and tags of its session IDs.
     pub contexts: Contexts,
+    /// With how many peers the end keeps a session.
+    pub kept: u64,
 }
 
 /// What a call draws for a search, where it is a seek.
@@ -101,6 +105,41 @@ fn state_in(nonces: &mut Nonces, entry: &Entry) -> Result<(), Memory>
     }
 }
 
+/// Whether a session is kept.
+fn is_kept(thing: Option<Held>) -> bool
+    ensures { result ≡ is_kept thing }
+{
+    matches!(
+        &thing,
+        Some(Held::KeptAsResponder(_) | Held::KeptAsInitiator(_))
+    )
+}
+
+/// Whether a session is kept with the peer of an entry, if it is a fact.
+fn keeps(digest: &Digest, entry: &Entry) -> bool
+    ensures { result ≡ is_kept (held_before (fact_in entry.now) digest.now.roll) }
+{
+    match entry {
+        Entry::Fact(fact) => is_kept(digest.held(&peer_of(fact))),
+        _ => false,
+    }
+}
+
+/// With how many of so many peers a session is kept, by with how many it was, where of one of them
+/// is known whether it was before and whether it is after.
+fn kept_after(kept: u64, before: bool, after: bool, peers: usize) -> u64
+    ensures { (next : ℕ) → next + cond before 1 0 ≡ kept + cond after 1 0 → next ≤ peers →
+        result ≡ next }
+{
+    if before && !after {
+        kept.saturating_sub(1)
+    } else if after && !before && kept < peers as u64 {
+        kept + 1
+    } else {
+        kept
+    }
+}
+
 impl EndWatch {
     /// That of an end without events that begins in this generation. It takes no memory.
     pub fn new(first: u64, alloc: Global) -> EndWatch
@@ -113,6 +152,7 @@ impl EndWatch {
             numbers: Numbers::new(alloc),
             nonces: Nonces::new(alloc),
             contexts: Contexts::new(alloc),
+            kept: 0,
         }
     }
 
@@ -212,6 +252,7 @@ impl EndWatch {
             OnOk result
             (IsWatchOf secrets setup last (with_entry last entry.now past) self.new) }
     {
+        let before = keeps(&self.digest, entry);
         let Ok(()) = self.digest.add(entry) else {
             return Err(Memory);
         };
@@ -225,6 +266,8 @@ impl EndWatch {
             return Err(Memory);
         };
         self.generations.add(entry);
+        let after = keeps(&self.digest, entry);
+        self.kept = kept_after(self.kept, before, after, self.digest.peers());
         Ok(())
     }
 }

@@ -1,5 +1,5 @@
 -- What ends are given first.
-use Rattle.std.proofs.Common.{ℕ, zero, suc, List, [], ◌∷◌, ◌≡◌, ◌<◌, ◌+◌, length, get_or, refl, sym, ap, arith, inl, inr}
+use Rattle.std.proofs.Common.{ℕ, zero, suc, List, [], ◌∷◌, ◌≡◌, ◌<◌, length, refl, sym, ap, arith, inl, inr}
 use Rattle.glare_core.specs.Steps.{Among}
 use Rattle.endpoint_model.specs.Event.{Setup, own_of}
 use Rattle.endpoint_laws.specs.Contexts.{Secrets}

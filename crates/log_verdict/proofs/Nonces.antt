@@ -1,8 +1,7 @@
 -- The nonces that the entries of events state, one after another.
-use Rattle.std.proofs.Common.{ℕ, List, [], ◌∷◌, ◌++◌, ◌≡◌, refl, sym, ap, subst, ◌∙◌, Option, Some, None, inl, inr, append_assoc}
+use Rattle.std.proofs.Common.{ℕ, List, [], ◌∷◌, ◌++◌, ◌≡◌, refl, sym, ap, subst, ◌∙◌, Option, Some, None, append_assoc}
 use Rattle.glare_core.specs.declared.facts.Fact.{Fact}
 use Rattle.glare_core.specs.declared.facts.Fact.TheVariants.{Started, Born, Opened, Confirmed, Ended}
-use Rattle.glare_core.specs.Steps.{Among}
 use Rattle.glare_core.specs.Told.{AllDifferent}
 use Rattle.endpoint_model.specs.declared.entry.Entry.{Entry}
 use Rattle.endpoint_model.specs.Event.{Setup, Call}
@@ -10,8 +9,8 @@ use Rattle.endpoint_model.specs.Views.{fact_in}
 use Rattle.endpoint_laws.specs.Past.{Past, fact_and, facts_of, onto, with_entry}
 use Rattle.endpoint_laws.specs.Contexts.{Secrets}
 use Rattle.endpoint_laws.specs.Lawful.{nonces_of, EntriesLawful}
-use Rattle.endpoint_laws.proofs.DrawnOnce.{different_both, different_left, different_right, apart, nonces_onto}
-use Rattle.log_verdict.specs.Checks.{AreNew, nonces_at, EntriesPass}
+use Rattle.endpoint_laws.proofs.DrawnOnce.{different_both, different_right, apart, nonces_onto}
+use Rattle.log_verdict.specs.Checks.{nonces_at, EntriesPass}
 
 -- one fact's on top of those before
 nonces_on : (o : Option Fact) (facts : List Fact) (nonces older : List (List ℕ)) → nonces ≡ nonces_of facts ++ older → nonces_of (fact_and o []) ++ nonces ≡ nonces_of (fact_and o facts) ++ older

@@ -1,5 +1,5 @@
 -- Logs of which each event passes are lawful, and the other way round.
-use Rattle.std.proofs.Common.{ℕ, List, [], ◌∷◌, ◌++◌, ◌≡◌, ◌==◌, Bool, true, false, if◌then◌else◌, refl, sym, subst, inl, inr}
+use Rattle.std.proofs.Common.{ℕ, List, [], ◌∷◌, ◌++◌, ◌==◌, Bool, true, false, if◌then◌else◌, refl, sym, subst, inl, inr}
 use Rattle.endpoint_model.specs.declared.entry.Entry.{Entry}
 use Rattle.endpoint_model.specs.Event.{Setup, Call, Event, moment_at}
 use Rattle.endpoint_model.proofs.Members.{tested}

@@ -1,14 +1,14 @@
 -- Short audits, check by check.
-use Rattle.std.proofs.Common.{ℕ, List, [], ◌∷◌, ◌≡◌, ◌∙◌, refl, sym, ap, subst, true, false, is_some, Option, Some, None, inl, inr, arith}
-use Rattle.std.specs.FinMap.{empty, get, contains_key, get-empty}
+use Rattle.std.proofs.Common.{ℕ, List, [], ◌∷◌, ◌≡◌, ◌∙◌, refl, sym, subst, Option, Some, None, inl, inr}
+use Rattle.std.specs.FinMap.{empty, get, get-empty}
 use Rattle.std.specs.Ordering.{nat_cmp}
-use Rattle.std.proofs.lemmas.Bool.{cases_Bool}
 use Rattle.rtmfp_base.proofs.Maps.{get_inserted, get_beside}
 use Rattle.glare_core.specs.Steps.{Among}
 use Rattle.endpoint_model.specs.Event.{own_of}
 use Rattle.endpoint_laws.specs.Contexts.{Secrets}
+use Rattle.log_packets.specs.Secrets.{added_to, with_secret}
 use Rattle.log_verdict.specs.declared.verdict.AuditFault.TheVariants.{Secrets as ForSecrets, NotFresh}
-use Rattle.log_verdict.specs.Told.{secrets_in, with_secret}
+use Rattle.log_verdict.specs.Told.{secrets_in}
 use Rattle.log_verdict.specs.Checks.{found, AllPass, FailsFirst}
 use Rattle.log_verdict.specs.Edges.{end, learns, quiet}
 
@@ -26,19 +26,18 @@ put_first secrets generation secret none = rw none (get_inserted secrets generat
 
 -- what counts goes on counting
 pub kept_first : (secrets : Secrets) (generation : ℕ) (secret : List ℕ) (number : ℕ) (first : List ℕ) → get secrets number ≡ Some first → get (with_secret generation secret secrets) number ≡ Some first
-kept_first secrets generation secret number first there = elim (cases_Bool (contains_key secrets generation)) [
-  | inl known ↦ rw known there
-  | inr new ↦ rw new (get_beside secrets generation secret number (apart new) ∙ there)
-]
+kept_first secrets generation secret number first there = go (get secrets generation) refl
   where
-    apart : contains_key secrets generation ≡ false → number ≡ generation → ⊥
-    apart new same = let known : contains_key secrets generation ≡ true = ap is_some (subst (λ (k : ℕ). get secrets k ≡ Some first) same there) in absurd cc
+    go : (o : Option (List ℕ)) → get secrets generation ≡ o → get (added_to o generation secret secrets) number ≡ Some first
+    go None new = get_beside secrets generation secret number (λ same. let known = subst (λ (k : ℕ). get secrets k ≡ Some first) same there in cc) ∙ there
+    go (Some known) old = there
 
 none_beside : (secrets : Secrets) (generation : ℕ) (secret : List ℕ) (number : ℕ) → (number ≡ generation → ⊥) → get secrets number ≡ None → get (with_secret generation secret secrets) number ≡ None
-none_beside secrets generation secret number other none = elim (cases_Bool (contains_key secrets generation)) [
-  | inl known ↦ rw known none
-  | inr new ↦ rw new (get_beside secrets generation secret number other ∙ none)
-]
+none_beside secrets generation secret number other none = go (get secrets generation)
+  where
+    go : (o : Option (List ℕ)) → get (added_to o generation secret secrets) number ≡ None
+    go None = get_beside secrets generation secret number other ∙ none
+    go (Some known) = none
 
 pub one : (generation : ℕ) (secret : List ℕ) → get (with_secret generation secret no_secrets) generation ≡ Some secret
 one generation secret = put_first no_secrets generation secret (none_there generation)

@@ -1,12 +1,12 @@
 -- All checks pass exactly where the history is audited; then it is agreed.
-use Rattle.std.proofs.Common.{ℕ, List, [], ◌∷◌, ◌++◌, ◌≡◌, ◌<◌, length, refl, sym, subst, inl, inr}
+use Rattle.std.proofs.Common.{ℕ, List, [], ◌∷◌, refl, sym, subst, inl, inr}
 use Rattle.glare_core.specs.Told.{AllDifferent}
 use Rattle.endpoint_model.specs.Event.{Setup, moment_at}
 use Rattle.endpoint_model.proofs.Members.{tested}
 use Rattle.endpoint_laws.specs.Past.{facts_of, past_of_log, with_begun, WasLearnt}
 use Rattle.endpoint_laws.specs.Contexts.{Secrets}
 use Rattle.endpoint_laws.specs.Lawful.{nonces_of}
-use Rattle.endpoint_laws.specs.History.{Happened, History, log_of, past_at, AreLawful, IsHonest, nonces_in, TakesPart, IsFresh}
+use Rattle.endpoint_laws.specs.History.{Happened, History, past_at, AreLawful, IsHonest, nonces_in, TakesPart}
 use Rattle.endpoint_laws.proofs.DrawnOnce.{different_right}
 use Rattle.endpoint_laws.proofs.AgreedLaw.{every_history_is_agreed}
 use Rattle.log_verdict.specs.Told.{end_of, secrets_in}

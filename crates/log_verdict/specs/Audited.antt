@@ -2,7 +2,7 @@
 use Rattle.std.specs.Prelude.{ℕ, ◌≡◌, ◌<◌, List, length}
 use Rattle.glare_core.specs.Told.{AllDifferent}
 use Rattle.endpoint_model.specs.Event.{Setup, own_of}
-use Rattle.endpoint_laws.specs.Contexts.{Secrets, Knows}
+use Rattle.endpoint_laws.specs.Contexts.{Knows}
 use Rattle.endpoint_laws.specs.History.{History, past_at, AreLawful, IsHonest, nonces_in}
 use Rattle.log_verdict.specs.Told.{end_of, secrets_in}
 

@@ -7,7 +7,7 @@ use Rattle.glare_core.specs.declared.facts.Held.TheVariants.{Opening, HalfOpen, 
 use Rattle.glare_core.specs.Standing.{held, peers_in}
 use Rattle.glare_core.specs.Steps.{Among}
 use Rattle.endpoint_model.specs.declared.entry.Entry.{Entry}
-use Rattle.endpoint_model.specs.Event.{Setup, own_of, Call, Event, learn_in, moment_at}
+use Rattle.endpoint_model.specs.Event.{Setup, own_of, Call, learn_in, moment_at}
 use Rattle.endpoint_model.specs.Views.{fact_in, learnt_in}
 use Rattle.endpoint_laws.specs.Past.{Past, fact_and, last_moment, with_begun, with_entry}
 use Rattle.endpoint_laws.specs.Contexts.{Secrets}

@@ -1,6 +1,6 @@
 -- What logs tell: their ends, and the secrets of their group.
-use Rattle.std.specs.Prelude.{ℕ, List, [], ◌∷◌, get_or, false, Option, Some, None, if◌then◌else◌}
-use Rattle.std.specs.FinMap.{empty, insert, contains_key}
+use Rattle.std.specs.Prelude.{ℕ, List, [], ◌∷◌, get_or, false, Option, Some, None}
+use Rattle.std.specs.FinMap.{empty}
 use Rattle.endpoint_model.specs.Event.{Setup, learn_in}
 use Rattle.endpoint_model.specs.declared.entry.Entry.{Entry}
 use Rattle.endpoint_model.specs.Views.{learnt_in}
@@ -8,6 +8,7 @@ use Rattle.endpoint_laws.specs.Contexts.{Secrets}
 use Rattle.endpoint_laws.specs.History.{History}
 use Rattle.log_values.specs.declared.log.EndLog.{EndLog}
 use Rattle.log_values.specs.Events.{setup_of}
+use Rattle.log_packets.specs.Secrets.{with_secret}
 
 -- what the ends were given first, in the order of their logs
 abbrev pub setups_of : List EndLog → List Setup
@@ -29,12 +30,7 @@ end_of setups who = get_or setups who no_setup
 
 -- ---- the secrets
 
--- a secret for a number that has none yet: of two for one number the first one counts
-abbrev pub with_secret : ℕ → List ℕ → Secrets → Secrets
-with_secret generation secret secrets =
-    if contains_key secrets generation then secrets else insert secrets generation secret
-
--- those that ends are given first, on top of others
+-- those that ends are given first, on top of others: of two for one number the first one counts
 abbrev pub with_firsts : List Setup → Secrets → Secrets
 with_firsts [] secrets = secrets
 with_firsts (setup ∷ setups) secrets =

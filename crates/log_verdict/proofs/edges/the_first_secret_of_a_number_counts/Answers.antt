@@ -1,6 +1,6 @@
-use Rattle.std.proofs.Common.{[], ◌∷◌, ◌∙◌, arith}
-use Rattle.log_verdict.specs.Told.{with_secret}
-use Rattle.log_verdict.proofs.Rows.{no_secrets, one, two, beside, neither, kept_first}
+use Rattle.std.proofs.Common.{[], ◌∷◌, arith}
+use Rattle.log_packets.specs.Secrets.{with_secret}
+use Rattle.log_verdict.proofs.Rows.{no_secrets, two, beside, neither, kept_first}
 use Rattle.log_verdict.proofs.edges.the_first_secret_of_a_number_counts.Goals as goal
 
 pub returns-clause-first : goal.returns-clause-first
