@@ -1,0 +1,4 @@
+pub mod Entering
+pub mod Beginning
+pub mod Histories
+pub mod Counting
