@@ -342,10 +342,7 @@ fn judge_responder<'a>(
         return Err(Cause::WrongPlace);
     }
     let group = end.group_at(place);
-    match end
-        .startup
-        .judge_opening(sid_at(place), &fields, group)
-    {
+    match end.startup.judge_opening(sid_at(place), &fields, group) {
         Ok(peer) => Ok(Verdict::ResponderKeying { fields, peer }),
         Err(cause) => Err(cause),
     }
