@@ -4,3 +4,4 @@ pub mod Outside
 pub mod Reading
 pub mod Status
 pub mod Table
+pub mod Taken

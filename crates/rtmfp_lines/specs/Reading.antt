@@ -1,5 +1,5 @@
 -- Reading one line from a source, in whatever pieces it gives.
-use Rattle.std.specs.Prelude.{◌≡◌, ◌≢◌, ℕ, ◌+◌, ◌<◌, ◌≤◌, ◌⊎◌, List, [], ◌∷◌, ◌++◌, length, take, drop, slice_index, Option, Some, None}
+use Rattle.std.specs.Prelude.{◌≡◌, ◌≢◌, ℕ, ◌+◌, ◌<◌, ◌≤◌, ◌⊎◌, List, [], ◌∷◌, ◌++◌, length, take, drop, slice_index, Option, Some, None, IfSome}
 use Rattle.rtmfp_host.specs.Taking.{Consumes, IsAtEnd}
 use Rattle.rtmfp_lines.specs.declared.lines.Found.{Found}
 use Rattle.rtmfp_lines.specs.declared.lines.Found.TheVariants as found
@@ -87,3 +87,8 @@ LineStands limit left next.SinkFailed bytes = IsPart limit bytes
 abbrev pub ReadsLine : ℕ → Option (List ℕ) → Option (List ℕ) → Next → List ℕ → List ℕ → Type 0
 ReadsLine limit before after result old new = HasRead before after old new ×
     LineStands limit after result new
+
+-- the first line of these bytes and of what is left behind them is of this kind
+abbrev pub NextLine : (List ℕ → Type 0) → Option (List ℕ) → List ℕ → Type 0
+NextLine P left bytes = IfSome left (λ rest.
+    (line : List ℕ) × (more : List (List ℕ)) × (lines_of (bytes ++ rest) ≡ line ∷ more) × P line)
