@@ -1,5 +1,5 @@
 -- How an audit ends, once all is read, judged and passed on.
-use Rattle.std.proofs.Common.{◌≡◌, ℕ, inl, inr, List, [], ◌∷◌, length, take, refl, sym, ◌∙◌, append-nil, subst, Option, Some, None, IfSome}
+use Rattle.std.proofs.Common.{◌≡◌, ℕ, inl, inr, List, [], ◌∷◌, length, take, refl, sym, ◌∙◌, append-nil, subst}
 use Rattle.std.proofs.Math.Seq.{take-length}
 use Rattle.rtmfp_host.specs.Faults.{Rose}
 use Rattle.rtmfp_host.specs.Seen.{SinkSeen, SourceSeen}
@@ -8,15 +8,12 @@ use Rattle.rtmfp_lines.specs.declared.status.Status.{Status as RunStatus}
 use Rattle.rtmfp_lines.specs.declared.status.Status.TheVariants as status
 use Rattle.rtmfp_lines.specs.Outside.{NothingFailed, Outside, SinkFailed, outside}
 use Rattle.rtmfp_lines.specs.Lines.{lines_of}
+use Rattle.rtmfp_lines.proofs.Handled.{told_map}
 use Rattle.rtmfp_lines.proofs.Streams.{appends_more, appends_still}
 use Rattle.log_reading.specs.Gathered.{Read}
 use Rattle.rtmfp_audit.specs.Lines.{AllRead, SomeRead, StopsAt}
 use Rattle.rtmfp_audit.specs.Audits.{AuditEnds, CutShort, EndsWhere, IsCalm, IsSilent, Judged, Told, WasJudged}
 use Rattle.rtmfp_audit.specs.Turning.{Finishes, PassesOn, Reads, Writes}
-
-told_map : (o : Option (List ℕ)) (P Q : List ℕ → Type 0) → ((text : List ℕ) → P text → Q text) → IfSome o P → IfSome o Q
-told_map None P Q h p = tt
-told_map (Some text) P Q h p = h text p
 
 all_some : (text : List ℕ) (read : Read) (after : SourceSeen) → AllRead text read after → SomeRead text after
 all_some text read after all = record { lines = lines_of text; more = []; split = sym (append-nil (lines_of text)); read = read; says = all.says; took = all.took }

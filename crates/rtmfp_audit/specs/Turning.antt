@@ -1,12 +1,12 @@
 -- The parts of an audit: a line read, all lines read, the text written, and the end.
-use Rattle.std.specs.Prelude.{ℕ, ◌≡◌, ◌+◌, ◌≤◌, ◌⊎◌, List, ◌∷◌, ◌++◌, [], length, take, Some, IfSome}
+use Rattle.std.specs.Prelude.{ℕ, ◌≡◌, ◌+◌, ◌≤◌, ◌⊎◌, List, ◌∷◌, ◌++◌, [], length, take, Some}
 use Rattle.rtmfp_host.specs.Faults.{Rose}
 use Rattle.rtmfp_host.specs.Seen.{SinkSeen}
 use Rattle.rtmfp_host.specs.Taking.{IsAtEnd}
 use Rattle.rtmfp_host.specs.Writing.{Appends}
 use Rattle.rtmfp_lines.specs.Lines.{NoLf, lines_of}
 use Rattle.rtmfp_lines.specs.Outside.{Outside, NothingFailed, Settled, SinkFailed, SourceFailed}
-use Rattle.rtmfp_lines.specs.Reading.{Asks, HasRead, IsPart}
+use Rattle.rtmfp_lines.specs.Reading.{Asks, HasRead, IsPart, NextLine}
 use Rattle.rtmfp_lines.specs.declared.status.Status.{Status as RunStatus}
 use Rattle.rtmfp_lines.specs.declared.status.Status.TheVariants as status
 use Rattle.audit_text.specs.Grammar.{IsLineOf, line_limit}
@@ -35,11 +35,6 @@ pub record Moves (before after : Outside) (old bytes : List ℕ) : Type 0 where
   pub asks : Asks line_limit before.source after.source old bytes
   pub silent : IsSilent before after
 
--- the first of the bytes that are not handled is a line of this kind
-abbrev pub NextLine : (List ℕ → Type 0) → Outside → List ℕ → Type 0
-NextLine P after bytes = IfSome after.source.left (λ rest.
-    (line : List ℕ) × (more : List (List ℕ)) × (lines_of (bytes ++ rest) ≡ line ∷ more) × P line)
-
 -- the next line is read, and taken
 abbrev pub Turned : Turn → Read → Read → Outside → Outside → List ℕ → List ℕ → Type 0
 Turned Went read made before after old new = NothingFailed before after × (line : List ℕ) ×
@@ -50,7 +45,7 @@ Turned (Ended status.Done) read made before after old new = NothingFailed before
     IsAtEnd after.source.left × ReadsOn (lines_of bytes) read made
 Turned (Ended (status.BadScript number)) read made before after old new =
     NothingFailed before after × (bytes : List ℕ) × Moves before after old bytes ×
-    (number ≡ read.count + 1) × NextLine (IsBadLine read) after bytes
+    (number ≡ read.count + 1) × NextLine (IsBadLine read) after.source.left bytes
 Turned (Ended status.Memory) read made before after old new = NothingFailed before after ×
     (bytes : List ℕ) × Moves before after old bytes
 Turned (Ended status.SinkFault) read made before after old new = SinkFailed before after ×
