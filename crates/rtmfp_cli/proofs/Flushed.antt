@@ -1,5 +1,5 @@
 -- Passing on the last bytes changes nothing of what was done.
-use Rattle.std.proofs.Common.{◌≡◌, ℕ, inl, inr, List, [], ◌∷◌, ◌++◌, refl, sym, ◌∙◌, append-nil, subst, Option, Some, None, IfSome}
+use Rattle.std.proofs.Common.{◌≡◌, ℕ, inl, inr, List, [], ◌∷◌, ◌++◌, refl, sym, ◌∙◌, append-nil, subst}
 use Rattle.rtmfp_host.specs.Faults.{Rose}
 use Rattle.rtmfp_host.specs.Writing.{Appends}
 use Rattle.rtmfp_lines.specs.declared.status.Status.{Status as RunStatus}
@@ -7,15 +7,12 @@ use Rattle.rtmfp_lines.specs.declared.status.Status.TheVariants as status
 use Rattle.rtmfp_host.specs.Seen.{SinkSeen}
 use Rattle.rtmfp_lines.specs.Outside.{NothingFailed, Outside, Settled, SinkFailed, outside}
 use Rattle.rtmfp_lines.specs.Lines.{lines_of}
+use Rattle.rtmfp_lines.proofs.Handled.{told_map}
 use Rattle.rtmfp_lines.proofs.Streams.{appends_still}
 use Rattle.rtmfp_cli.specs.declared.doing.Doing.{Doing}
 use Rattle.rtmfp_cli.specs.Doing.{IsBadLine, IsForgedLine}
 use Rattle.rtmfp_cli.specs.Script.{HasDone, HasTaken, AllDone, SomeDone, StopsOn, TooMany, CutShort, EndsWhere, IsWhole, ScriptEnds}
 use Rattle.rtmfp_cli.specs.Run.{Finishes, PassesOn, Stays}
-
-told_map : (o : Option (List ℕ)) (P Q : List ℕ → Type 0) → ((script : List ℕ) → P script → Q script) → IfSome o P → IfSome o Q
-told_map None P Q h p = tt
-told_map (Some script) P Q h p = h script p
 
 -- the lines are done, and their text is written, as before
 flushed : (doing : Doing) (start mid : Outside) (sink : SinkSeen) (lines : List (List ℕ)) → Appends mid.sink.written sink.written [] → HasDone doing start mid lines → HasDone doing start (outside mid.source sink) lines

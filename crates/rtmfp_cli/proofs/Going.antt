@@ -1,140 +1,34 @@
 -- What a run has done, line by line, and how it ends.
-use Rattle.std.proofs.Common.{◌≡◌, ℕ, ◌+◌, ◌≤◌, ◌⊎◌, inl, inr, List, [], ◌∷◌, ◌++◌, length, take, refl, sym, ap, ◌∙◌, arith, append_assoc, append-nil, subst, lit≤, Option, Some, None, IfSome}
-use Rattle.std.specs.List.{AllByRecursion}
+use Rattle.std.proofs.Common.{◌≡◌, ℕ, ◌+◌, ◌≤◌, ◌⊎◌, inl, inr, List, [], ◌∷◌, ◌++◌, length, take, refl, sym, ap, ◌∙◌, arith, append_assoc, append-nil, subst, lit≤, Some}
 use Rattle.std.proofs.lemmas.List.{length-append}
 use Rattle.rtmfp_host.specs.Faults.{Rose}
-use Rattle.rtmfp_host.specs.Taking.{Consumes, IsAtEnd}
+use Rattle.rtmfp_host.specs.Taking.{IsAtEnd}
 use Rattle.rtmfp_host.specs.Writing.{Appends}
 use Rattle.rtmfp_lines.specs.declared.status.Status.{Status as RunStatus}
 use Rattle.rtmfp_lines.specs.declared.status.Status.TheVariants as status
 use Rattle.rtmfp_cli.specs.declared.script_run.Turn.TheVariants.{Ended}
-use Rattle.rtmfp_host.specs.Seen.{SourceSeen}
 use Rattle.rtmfp_lines.specs.Outside.{NothingFailed, Outside, SinkFailed, SourceFailed}
-use Rattle.rtmfp_lines.specs.Lines.{NoLf, lines_of, whole_lines}
-use Rattle.rtmfp_lines.specs.Reading.{IsPart}
+use Rattle.rtmfp_lines.specs.Lines.{lines_of}
+use Rattle.rtmfp_lines.specs.Reading.{IsPart, NextLine}
 use Rattle.rtmfp_cli.specs.declared.doing.Doing.{Doing}
 use Rattle.rtmfp_cli.specs.Doing.{Does, Holds, IsBadLine, IsForgedLine, limit_of}
-use Rattle.rtmfp_cli.specs.Script.{Runs, HasDone, HasTaken, WasNeeded, AreWithin, AllDone, SomeDone, StopsOn, TooMany, TakenDone, CutShort, IsPartOfNext, Told, EndsWhere, max_lines}
-use Rattle.rtmfp_cli.specs.Turning.{Takes, DoesOne, NextLine, Turned, Closed}
-use Rattle.rtmfp_lines.proofs.LinesLaws.{with_ends, NoneHasLf, lines_of-with_ends, whole_lines-with_ends, with_ends-more, none_has_lf-more}
-use Rattle.rtmfp_lines.proofs.Streams.{consumes_none, consumes_more, appends_none, appends_more, appends_still}
+use Rattle.rtmfp_cli.specs.Script.{Runs, HasDone, HasTaken, AllDone, SomeDone, StopsOn, TooMany, TakenDone, CutShort, IsPartOfNext, Told, EndsWhere, max_lines}
+use Rattle.rtmfp_cli.specs.Turning.{Takes, DoesOne, Turned, Closed}
+use Rattle.rtmfp_lines.proofs.Fronts.{next_of}
+use Rattle.rtmfp_lines.proofs.Handled.{Handled, Known, handled_none, handled_on, handled_more, known, known_all, part_lines, told_from}
+use Rattle.rtmfp_lines.proofs.Streams.{appends_none, appends_more, appends_still}
 use Rattle.rtmfp_cli.proofs.Holding.{does_hold, runs_hold}
-use Rattle.rtmfp_cli.proofs.Turns.{last_line}
 
--- ---- what was needed of the source
+-- these lines were handled, of what was taken by now, and these bytes stand behind them
+abbrev pub Ahead : Doing → Outside → Outside → List (List ℕ) → List ℕ → Type 0
+Ahead first start now handled pending = Handled (limit_of first) max_lines start.source now.source handled pending
 
-abbrev pub AreShort : ℕ → List (List ℕ) → Type 0
-AreShort limit lines = AllByRecursion (λ line. length line ≤ limit) lines
-
--- what was taken without the last read is lines that were done, and a part of one that may follow
-pub record Front (limit : ℕ) (asked left : Option (List ℕ)) (handled : List (List ℕ)) (taken : List ℕ) : Type 0 where
-  pub whole : List (List ℕ)
-  pub later : List (List ℕ)
-  pub part : List ℕ
-  pub got : List ℕ
-  pub done : handled ≡ whole ++ later
-  pub is_part : IsPart limit part
-  pub few : length whole + length (lines_of part) ≤ max_lines
-  pub split : taken ≡ (with_ends whole ++ part) ++ got
-  pub consumed : Consumes asked left got
-
-abbrev pub Waits : ℕ → SourceSeen → List (List ℕ) → List ℕ → Type 0
-Waits limit now handled taken = (taken ≡ []) ⊎ Front limit now.asked now.left handled taken
-
-waits_still : (limit : ℕ) (before after : SourceSeen) (handled : List (List ℕ)) (taken : List ℕ) → after.left ≡ before.left → after.asked ≡ before.asked → Waits limit before handled taken → Waits limit after handled taken
-waits_still limit before after handled taken left asked waits =
-    elim waits [
-      | inl none ↦ inl none
-      | inr front ↦ (
-          let P : Option (List ℕ) → Type 0 = λ o. Front limit o before.left handled taken in
-          let Q : Option (List ℕ) → Type 0 = λ o. Front limit after.asked o handled taken in
-          inr (subst Q (sym left) (subst P (sym asked) front)))
-    ]
-
-waits_more : (limit : ℕ) (now : SourceSeen) (handled more : List (List ℕ)) (taken : List ℕ) → Waits limit now handled taken → Waits limit now (handled ++ more) taken
-waits_more limit now handled more taken waits =
-    elim waits [
-      | inl none ↦ inl none
-      | inr front ↦ inr (record {
-        whole = front.whole;
-        later = front.later ++ more;
-        part = front.part;
-        got = front.got;
-        done = ap (λ ls. ls ++ more) front.done ∙ append_assoc front.whole front.later more;
-        is_part = front.is_part;
-        few = front.few;
-        split = front.split;
-        consumed = front.consumed;
-      })
-    ]
-
-all_front : (P : List ℕ → Type 0) (xs ys : List (List ℕ)) → AllByRecursion P (xs ++ ys) → AllByRecursion P xs
-all_front P [] ys all = tt
-all_front P (x ∷ xs) ys all = (all.0, all_front P xs ys all.1)
-
-all_append : (P : List ℕ → Type 0) (xs ys : List (List ℕ)) → AllByRecursion P xs → AllByRecursion P ys → AllByRecursion P (xs ++ ys)
-all_append P [] ys p q = q
-all_append P (x ∷ xs) ys p q = (p.0, all_append P xs ys p.1 q)
-
--- a part of a line is one line at most
-pub part_lines : (limit : ℕ) (part : List ℕ) → IsPart limit part → length (lines_of part) ≤ 1
-part_lines limit [] is = omega arith
-part_lines limit (b ∷ part) is = omega (arith, ap (λ (ls : List (List ℕ)). length ls) (last_line (b ∷ part) is.1 (λ e. cc)))
-
--- and none where no byte may stand
-pub no_lines : (part : List ℕ) → IsPart 0 part → length (lines_of part) ≤ 0
-no_lines [] is = omega arith
-no_lines (b ∷ part) is = absurd (omega (arith, is.0))
-
-part_short : (limit : ℕ) (part : List ℕ) → IsPart limit part → AreShort limit (lines_of part)
-part_short limit [] is = tt
-part_short limit (b ∷ part) is = subst (AreShort limit) (sym (last_line (b ∷ part) is.1 (λ e. cc))) (is.0, tt)
-
-within_of : (first : Doing) (whole : List (List ℕ)) (part : List ℕ) → NoneHasLf whole → AreShort (limit_of first) whole → IsPart (limit_of first) part → length whole + length (lines_of part) ≤ max_lines → AreWithin first (with_ends whole ++ part)
-within_of first whole part free short is few =
-    let lines = lines_of-with_ends whole part free in
-    record {
-      short = subst (AreShort (limit_of first)) (sym lines) (all_append (λ line. length line ≤ limit_of first) whole (lines_of part) short (part_short (limit_of first) part is));
-      few = omega (arith, ap (λ (ls : List (List ℕ)). length ls) lines, length-append whole (lines_of part), few);
-    }
-
-asked_is : (asked : Option (List ℕ)) (rest got : List ℕ) → Consumes asked (Some rest) got → asked ≡ Some (got ++ rest)
-asked_is None rest got c = absurd (cc)
-asked_is (Some left) rest got c = let same : rest ≡ c.0 = cc (c.2) in ap Some (c.1 ∙ ap (λ xs. got ++ xs) (sym same))
-
-needed : (first : Doing) (handled more : List (List ℕ)) (after : SourceSeen) (taken rest : List ℕ) → after.left ≡ Some rest → NoneHasLf handled → AreShort (limit_of first) handled → Waits (limit_of first) after handled taken →
-    WasNeeded first (handled ++ more) taken rest after.asked
-needed first handled more after taken rest left free short waits =
-    elim waits [
-      | inl none ↦ inl none
-      | inr front ↦ (
-          let whole_free : NoneHasLf front.whole = all_front NoLf front.whole front.later (subst NoneHasLf front.done free) in
-          let whole_short : AreShort (limit_of first) front.whole = all_front (λ line. length line ≤ limit_of first) front.whole front.later (subst (AreShort (limit_of first)) front.done short) in
-          let P : Option (List ℕ) → Type 0 = λ o. Consumes after.asked o front.got in
-          inr (
-            with_ends front.whole ++ front.part,
-            front.got,
-            front.later ++ more,
-            front.split,
-            asked_is after.asked rest front.got (subst P left front.consumed),
-            ap (λ ls. ls ++ more) (front.done ∙ ap (λ ls. ls ++ front.later) (sym (whole_lines-with_ends front.whole front.part whole_free front.is_part.1))) ∙ append_assoc (whole_lines (with_ends front.whole ++ front.part)) front.later more,
-            within_of first front.whole front.part whole_free whole_short front.is_part front.few,
-          ))
-    ]
-
--- ---- line by line
-
--- the lines that were handled so far, of what was taken from the source, and what they left
+-- the lines that were handled so far, and what they left
 pub record Going (first doing : Doing) (start now : Outside) (n : ℕ) (pending : List ℕ) : Type 0 where
   pub handled : List (List ℕ)
-  pub taken : List ℕ
   pub text : List ℕ
-  pub consumed : Consumes start.source.left now.source.left taken
-  pub split : taken ≡ with_ends handled ++ pending
-  pub free : NoneHasLf handled
-  pub short : AreShort (limit_of first) handled
+  pub took : Ahead first start now handled pending
   pub same : limit_of doing ≡ limit_of first
-  pub waits : Waits (limit_of first) now.source handled taken
   pub count : length handled ≡ n
   pub ran : Runs 1 first handled doing text
   pub holds : Holds doing
@@ -144,14 +38,9 @@ pub record Going (first doing : Doing) (start now : Outside) (n : ℕ) (pending 
 pub going_none : (first : Doing) (start : Outside) → Holds first → Going first first start start 0 []
 going_none first start holds = record {
   handled = [];
-  taken = [];
   text = [];
-  consumed = consumes_none start.source.left;
-  split = refl;
-  free = tt;
-  short = tt;
+  took = handled_none (limit_of first) max_lines start.source;
   same = refl;
-  waits = inl refl;
   count = refl;
   ran = (refl, refl);
   holds = holds;
@@ -180,61 +69,31 @@ runs_append n m first doing left [] more text later e ran then =
 runs_append n m first doing left (line ∷ lines) more text later e ran then =
     (ran.0, ran.1, ran.2 ++ later, ran.3, runs_append (n + 1) m ran.0 doing left lines more ran.2 later (omega arith) ran.4 then, ap (λ xs. xs ++ later) ran.5 ∙ append_assoc ran.1 ran.2 later)
 
--- what was taken by now, after more was read
-pub record Ahead (limit : ℕ) (start after : Outside) (handled : List (List ℕ)) (bytes : List ℕ) : Type 0 where
-  pub taken : List ℕ
-  pub consumed : Consumes start.source.left after.source.left taken
-  pub split : taken ≡ with_ends handled ++ bytes
-  pub waits : Waits limit after.source handled taken
-
+-- more was read
 ahead : (limit : ℕ) (first doing : Doing) (start now after : Outside) (n : ℕ) (old bytes : List ℕ) (going : Going first doing start now n old) → limit ≤ limit_of first → ((part : List ℕ) → IsPart limit part → n + length (lines_of part) ≤ max_lines) →
-    Takes limit now after old bytes → Ahead (limit_of first) start after going.handled bytes
+    Takes limit now after old bytes → Ahead first start after going.handled bytes
 ahead limit first doing start now after n old bytes going le few takes =
-    elim takes.asks [
-      | inl still ↦ (
-          let P : Option (List ℕ) → Type 0 = λ o. Consumes start.source.left o going.taken in
-          record {
-            taken = going.taken;
-            consumed = subst P (sym still.left) going.consumed;
-            split = going.split ∙ ap (λ xs. with_ends going.handled ++ xs) (sym still.bytes);
-            waits = waits_still (limit_of first) now.source after.source going.handled going.taken still.left still.asked going.waits;
-          })
-      | inr last ↦ (
-          let split : going.taken ++ takes.got ≡ with_ends going.handled ++ bytes =
-          ap (λ xs. xs ++ takes.got) going.split
-          ∙ append_assoc (with_ends going.handled) old takes.got
-          ∙ ap (λ xs. with_ends going.handled ++ xs) (sym takes.joined) in
-          record {
-            taken = going.taken ++ takes.got;
-            consumed = consumes_more start.source.left now.source.left after.source.left going.taken takes.got going.consumed takes.consumed;
-            split = split;
-            waits = inr (record {
-              whole = going.handled;
-              later = [];
-              part = last.part;
-              got = last.got;
-              done = sym (append-nil going.handled);
-              is_part = (let fits : length last.part ≤ limit = last.is_part.0 in omega arith, last.is_part.1);
-              few = omega (arith, few last.part last.is_part, going.count);
-              split = split ∙ ap (λ xs. with_ends going.handled ++ xs) last.joined ∙ sym (append_assoc (with_ends going.handled) last.part last.got);
-              consumed = last.consumed;
-            });
-          })
-    ]
+    handled_on (limit_of first) max_lines limit start.source now.source after.source going.handled old bytes going.took le (λ part is. (let fits : n + length (lines_of part) ≤ max_lines = few part is in omega (arith, fits, going.count)))
+    (record { got = takes.got; consumed = takes.consumed; joined = takes.joined }) takes.asks
 
 -- where a line may follow
 pub may_follow : (n limit : ℕ) → n + 1 ≤ max_lines → (part : List ℕ) → IsPart limit part → n + length (lines_of part) ≤ max_lines
 may_follow n limit fits part is = omega (arith, part_lines limit part is, fits)
 
+-- and none where no byte may stand
+no_lines : (part : List ℕ) → IsPart 0 part → length (lines_of part) ≤ 0
+no_lines [] is = omega arith
+no_lines (b ∷ part) is = absurd (omega (arith, is.0))
+
 -- where none may
 pub none_may_follow : (part : List ℕ) → IsPart 0 part → max_lines + length (lines_of part) ≤ max_lines
 none_may_follow part is = omega (arith, no_lines part is)
 
-ahead_by : (first doing : Doing) (start now after : Outside) (n : ℕ) (old bytes : List ℕ) (going : Going first doing start now n old) → n + 1 ≤ max_lines → Takes (limit_of doing) now after old bytes → Ahead (limit_of first) start after going.handled bytes
+ahead_by : (first doing : Doing) (start now after : Outside) (n : ℕ) (old bytes : List ℕ) (going : Going first doing start now n old) → n + 1 ≤ max_lines → Takes (limit_of doing) now after old bytes → Ahead first start after going.handled bytes
 ahead_by first doing start now after n old bytes going fits takes =
     ahead (limit_of doing) first doing start now after n old bytes going (omega (arith, going.same)) (may_follow n (limit_of doing) fits) takes
 
-ahead_closed : (first doing : Doing) (start now after : Outside) (old bytes : List ℕ) (going : Going first doing start now max_lines old) → Takes 0 now after old bytes → Ahead (limit_of first) start after going.handled bytes
+ahead_closed : (first doing : Doing) (start now after : Outside) (old bytes : List ℕ) (going : Going first doing start now max_lines old) → Takes 0 now after old bytes → Ahead first start after going.handled bytes
 ahead_closed first doing start now after old bytes going takes = ahead 0 first doing start now after max_lines old bytes going (omega arith) none_may_follow takes
 
 pub going_more : (first doing left : Doing) (start now after : Outside) (n : ℕ) (old new : List ℕ) → Going first doing start now n old → n + 1 ≤ max_lines → limit_of left ≡ limit_of doing → DoesOne doing left (n + 1) now after old new →
@@ -243,14 +102,9 @@ going_more first doing left start now after n old new going fits limit one =
     let next = ahead_by first doing start now after n old (one.line ++ 10 ∷ new) going fits one.takes in
     record {
       handled = going.handled ++ one.line ∷ [];
-      taken = next.taken;
       text = going.text ++ one.text;
-      consumed = next.consumed;
-      split = next.split ∙ sym (with_ends-more going.handled one.line new);
-      free = none_has_lf-more going.handled one.line going.free one.no_lf;
-      short = all_append (λ line. length line ≤ limit_of first) going.handled (one.line ∷ []) going.short (omega (arith, one.fits, going.same), tt);
+      took = handled_more (limit_of first) max_lines start.source after.source going.handled one.line new next one.no_lf (omega (arith, one.fits, going.same));
       same = limit ∙ going.same;
-      waits = waits_more (limit_of first) after.source going.handled (one.line ∷ []) next.taken next.waits;
       count = omega (arith, length-append going.handled (one.line ∷ []), going.count);
       ran = runs_append 1 (n + 1) first doing left going.handled (one.line ∷ []) going.text one.text (omega (arith, going.count)) going.ran (left, one.text, [], one.does, (refl, refl), sym (append-nil one.text));
       holds = does_hold doing (n + 1) one.line left one.text going.holds one.does;
@@ -258,72 +112,31 @@ going_more first doing left start now after n old new going fits limit one =
       calm = still_calm start now after going.calm one.calm;
     }
 
--- a source that tells its bytes
-told_from : (o : Option (List ℕ)) (P : List ℕ → Type 0) → ((script : List ℕ) → o ≡ Some script → P script) → IfSome o P
-told_from None P h = tt
-told_from (Some script) P h = h script refl
-
 -- what is known of the script once bytes of it were read
-pub record Script (script : List ℕ) (after : Outside) (handled : List (List ℕ)) (bytes taken : List ℕ) : Type 0 where
-  pub rest : List ℕ
-  pub whole : script ≡ taken ++ rest
-  pub left : after.source.left ≡ Some rest
-  pub lines : lines_of script ≡ handled ++ lines_of (bytes ++ rest)
+known_of : (first : Doing) (script : List ℕ) (start after : Outside) (handled : List (List ℕ)) (bytes : List ℕ) → start.source.left ≡ Some script → Ahead first start after handled bytes → Known (limit_of first) max_lines script after.source handled bytes
+known_of first script start after handled bytes e ahead = known (limit_of first) max_lines start.source after.source handled bytes script e ahead
 
-script_of : (limit : ℕ) (script : List ℕ) (start after : Outside) (handled : List (List ℕ)) (bytes : List ℕ) → start.source.left ≡ Some script → NoneHasLf handled → (ahead : Ahead limit start after handled bytes) → Script script after handled bytes ahead.taken
-script_of limit script start after handled bytes e free ahead =
-    let P : Option (List ℕ) → Type 0 = λ o. Consumes o after.source.left ahead.taken in
-    let found = subst P e ahead.consumed in
-    record {
-      rest = found.0;
-      whole = found.1;
-      left = found.2;
-      lines =
-          ap lines_of (found.1 ∙ ap (λ xs. xs ++ found.0) ahead.split ∙ append_assoc (with_ends handled) bytes found.0)
-          ∙ lines_of-with_ends handled (bytes ++ found.0) free;
-    }
-
--- what was taken of it, where these lines were done, and perhaps the last one
-has_taken : (first doing : Doing) (start now after : Outside) (n : ℕ) (old bytes script : List ℕ) (more lines : List (List ℕ)) (going : Going first doing start now n old) (ahead : Ahead (limit_of first) start after going.handled bytes) →
-    Script script after going.handled bytes ahead.taken → lines ≡ going.handled ++ more → HasTaken first script lines after.source
-has_taken first doing start now after n old bytes script more lines going ahead known e =
-    let P : List (List ℕ) → Type 0 = λ ls. WasNeeded first ls ahead.taken known.rest after.source.asked in
-    record {
-      taken = ahead.taken;
-      rest = known.rest;
-      split = known.whole;
-      left = known.left;
-      needed = subst P (sym e) (needed first going.handled more after.source ahead.taken known.rest known.left going.free going.short ahead.waits);
-    }
-
--- the next line, where the source tells what is left
-next_of : (P : List ℕ → Type 0) (after : Outside) (bytes rest : List ℕ) → after.source.left ≡ Some rest → NextLine P after bytes →
-    (line : List ℕ) × (more : List (List ℕ)) × (lines_of (bytes ++ rest) ≡ line ∷ more) × P line
-next_of P after bytes rest e next =
-    let Q : Option (List ℕ) → Type 0 = λ o. IfSome o (λ rest. (line : List ℕ) × (more : List (List ℕ)) × (lines_of (bytes ++ rest) ≡ line ∷ more) × P line) in
-    subst Q e next
-
-at_end : (after : Outside) (rest : List ℕ) → after.source.left ≡ Some rest → IsAtEnd after.source.left → rest ≡ []
-at_end after rest e end = subst IsAtEnd e end
+-- what was taken of it for these lines, and perhaps for the last one
+has_taken : (first : Doing) (script : List ℕ) (after : Outside) (handled : List (List ℕ)) (bytes : List ℕ) (more lines : List (List ℕ)) → Known (limit_of first) max_lines script after.source handled bytes → lines ≡ handled ++ more → HasTaken first script lines after.source
+has_taken first script after handled bytes more lines it e = let P : List (List ℕ) → Type 0 = λ ls. HasTaken first script ls after.source in subst P (sym e) (it.took more)
 
 done_so_far : (first doing : Doing) (start now after : Outside) (n : ℕ) (old : List ℕ) (going : Going first doing start now n old) → Appends now.sink.written after.sink.written [] → HasDone first start after going.handled
 done_so_far first doing start now after n old going none =
     record { left = doing; text = going.text; ran = going.ran; holds = going.holds; written = appends_still start.sink.written now.sink.written after.sink.written going.text going.written none }
 
 -- the script ends behind these bytes
-all_done : (first doing left : Doing) (start now after : Outside) (n : ℕ) (old bytes text : List ℕ) (going : Going first doing start now n old) → Ahead (limit_of first) start after going.handled bytes → IsAtEnd after.source.left →
+all_done : (first doing left : Doing) (start now after : Outside) (n : ℕ) (old bytes text : List ℕ) (going : Going first doing start now n old) → Ahead first start after going.handled bytes → IsAtEnd after.source.left →
     Runs (n + 1) doing (lines_of bytes) left text → Appends now.sink.written after.sink.written text → n + length (lines_of bytes) ≤ max_lines → Told start (λ script. AllDone first script start after)
 all_done first doing left start now after n old bytes text going ahead end ran written fits =
     told_from start.source.left (λ script. AllDone first script start after) (λ script e.
-    let known = script_of (limit_of first) script start after going.handled bytes e going.free ahead in
-    let none = at_end after known.rest known.left end in
-    let lines : lines_of script ≡ going.handled ++ lines_of bytes =
-    known.lines ∙ ap (λ xs. going.handled ++ lines_of (bytes ++ xs)) none ∙ ap (λ xs. going.handled ++ lines_of xs) (append-nil bytes) in
+    let it = known_of first script start after going.handled bytes e ahead in
+    let all = known_all (limit_of first) max_lines script after.source going.handled bytes it end in
+    let lines : lines_of script ≡ going.handled ++ lines_of bytes = all.1 in
     let P : List (List ℕ) → Type 0 = λ ls. HasDone first start after ls in
     record {
-      read = known.left ∙ ap Some none;
+      read = all.0;
       count = omega (arith, ap (λ (ls : List (List ℕ)). length ls) lines, length-append going.handled (lines_of bytes), going.count, fits);
-      took = has_taken first doing start now after n old bytes script (lines_of bytes) (lines_of script) going ahead known lines;
+      took = has_taken first script after going.handled bytes (lines_of bytes) (lines_of script) it lines;
       has = subst P (sym lines) record {
         left = left;
         text = going.text ++ text;
@@ -333,63 +146,58 @@ all_done first doing left start now after n old bytes text going ahead end ran w
       };
     })
 
-some_done : (first doing : Doing) (start now after : Outside) (n : ℕ) (old bytes : List ℕ) (going : Going first doing start now n old) → Ahead (limit_of first) start after going.handled bytes → Appends now.sink.written after.sink.written [] →
+some_done : (first doing : Doing) (start now after : Outside) (n : ℕ) (old bytes : List ℕ) (going : Going first doing start now n old) → Ahead first start after going.handled bytes → Appends now.sink.written after.sink.written [] →
     Told start (λ script. SomeDone first script start after)
 some_done first doing start now after n old bytes going ahead none =
     told_from start.source.left (λ script. SomeDone first script start after) (λ script e.
-    let known = script_of (limit_of first) script start after going.handled bytes e going.free ahead in
+    let it = known_of first script start after going.handled bytes e ahead in
     record {
       lines = going.handled;
-      more = lines_of (bytes ++ known.rest);
-      split = known.lines;
-      took = has_taken first doing start now after n old bytes script [] going.handled going ahead known (sym (append-nil going.handled));
+      more = lines_of (bytes ++ it.rest);
+      split = it.lines_are;
+      took = has_taken first script after going.handled bytes [] going.handled it (sym (append-nil going.handled));
       has = done_so_far first doing start now after n old going none;
     })
 
-stops_on : (Kind : Doing → ℕ → List ℕ → Type 0) (first doing : Doing) (start now after : Outside) (n : ℕ) (old bytes : List ℕ) (going : Going first doing start now n old) → Ahead (limit_of first) start after going.handled bytes →
-    Appends now.sink.written after.sink.written [] → NextLine (Kind doing (n + 1)) after bytes → n + 1 ≤ max_lines → Told start (λ script. StopsOn Kind first script (n + 1) start after)
+stops_on : (Kind : Doing → ℕ → List ℕ → Type 0) (first doing : Doing) (start now after : Outside) (n : ℕ) (old bytes : List ℕ) (going : Going first doing start now n old) → Ahead first start after going.handled bytes →
+    Appends now.sink.written after.sink.written [] → NextLine (Kind doing (n + 1)) after.source.left bytes → n + 1 ≤ max_lines → Told start (λ script. StopsOn Kind first script (n + 1) start after)
 stops_on Kind first doing start now after n old bytes going ahead none next fits =
     told_from start.source.left (λ script. StopsOn Kind first script (n + 1) start after) (λ script e.
-    let known = script_of (limit_of first) script start after going.handled bytes e going.free ahead in
-    let line = next_of (Kind doing (n + 1)) after bytes known.rest known.left next in
+    let it = known_of first script start after going.handled bytes e ahead in
+    let line = next_of (Kind doing (n + 1)) after.source.left bytes it.rest it.left next in
     record {
       lines = going.handled;
       line = line.0;
-      stops = record { more = line.1; split = known.lines ∙ ap (λ ls. going.handled ++ ls) line.2; number = omega (arith, going.count) };
+      stops = record { more = line.1; split = it.lines_are ∙ ap (λ ls. going.handled ++ ls) line.2; number = omega (arith, going.count) };
       within = fits;
-      took = has_taken first doing start now after n old bytes script [] going.handled going ahead known (sym (append-nil going.handled));
+      took = has_taken first script after going.handled bytes [] going.handled it (sym (append-nil going.handled));
       has = record { left = doing; text = going.text; ran = going.ran; holds = going.holds; written = appends_still start.sink.written now.sink.written after.sink.written going.text going.written none };
       kind = line.3;
     })
 
-too_many : (first doing : Doing) (start now after : Outside) (old bytes : List ℕ) (going : Going first doing start now max_lines old) → Ahead (limit_of first) start after going.handled bytes → Appends now.sink.written after.sink.written [] →
-    NextLine (λ line. Unit {0}) after bytes → Told start (λ script. TooMany first script start after)
+too_many : (first doing : Doing) (start now after : Outside) (old bytes : List ℕ) (going : Going first doing start now max_lines old) → Ahead first start after going.handled bytes → Appends now.sink.written after.sink.written [] →
+    NextLine (λ line. Unit {0}) after.source.left bytes → Told start (λ script. TooMany first script start after)
 too_many first doing start now after old bytes going ahead none next =
     told_from start.source.left (λ script. TooMany first script start after) (λ script e.
-    let known = script_of (limit_of first) script start after going.handled bytes e going.free ahead in
-    let line = next_of (λ line. Unit {0}) after bytes known.rest known.left next in
+    let it = known_of first script start after going.handled bytes e ahead in
+    let line = next_of (λ line. Unit {0}) after.source.left bytes it.rest it.left next in
     record {
       lines = going.handled;
       line = line.0;
-      stops = record { more = line.1; split = known.lines ∙ ap (λ ls. going.handled ++ ls) line.2; number = ap (λ k. k + 1) going.count };
-      took = has_taken first doing start now after max_lines old bytes script [] going.handled going ahead known (sym (append-nil going.handled));
+      stops = record { more = line.1; split = it.lines_are ∙ ap (λ ls. going.handled ++ ls) line.2; number = ap (λ k. k + 1) going.count };
+      took = has_taken first script after going.handled bytes [] going.handled it (sym (append-nil going.handled));
       has = done_so_far first doing start now after max_lines old going none;
     })
 
-taken_done : (first doing : Doing) (start now after : Outside) (n : ℕ) (old bytes : List ℕ) (going : Going first doing start now n old) → Ahead (limit_of first) start after going.handled bytes → Appends now.sink.written after.sink.written [] →
+taken_done : (first doing : Doing) (start now after : Outside) (n : ℕ) (old bytes : List ℕ) (going : Going first doing start now n old) → Ahead first start after going.handled bytes → Appends now.sink.written after.sink.written [] →
     IsPart (limit_of first) bytes → n + length (lines_of bytes) ≤ max_lines → Told start (λ script. TakenDone first script start after)
 taken_done first doing start now after n old bytes going ahead none part few =
     told_from start.source.left (λ script. TakenDone first script start after) (λ script e.
-    let known = script_of (limit_of first) script start after going.handled bytes e going.free ahead in
-    let P : List (List ℕ) → Type 0 = λ ls. HasDone first start after ls in
-    let whole : whole_lines ahead.taken ≡ going.handled = ap whole_lines ahead.split ∙ whole_lines-with_ends going.handled bytes going.free part.1 in
+    let it = known_of first script start after going.handled bytes e ahead in
     record {
-      taken = ahead.taken;
-      rest = known.rest;
-      split = known.whole;
-      left = known.left;
-      within = subst (AreWithin first) (sym ahead.split) (within_of first going.handled bytes going.free going.short part (omega (arith, few, going.count)));
-      has = subst P (sym whole) (done_so_far first doing start now after n old going none);
+      lines = going.handled;
+      took = it.whole part (omega (arith, few, going.count));
+      has = done_so_far first doing start now after n old going none;
     })
 
 part_of : (doing : Doing) (n m : ℕ) (more : List (List ℕ)) (part : List ℕ) → n ≡ m → IsPartOfNext doing n more part → IsPartOfNext doing m more part
@@ -397,27 +205,27 @@ part_of doing n m more part e next = let P : ℕ → Type 0 = λ k. IsPartOfNext
 
 -- what was written of the next line
 abbrev pub PartWritten : Doing → ℕ → Outside → List ℕ → List ℕ → Type 0
-PartWritten doing n after bytes part = (part ≡ []) ⊎ ((left : Doing) × (text : List ℕ) × (k : ℕ) × (part ≡ take k text) × NextLine (λ line. Does doing n line left text) after bytes)
+PartWritten doing n after bytes part = (part ≡ []) ⊎ ((left : Doing) × (text : List ℕ) × (k : ℕ) × (part ≡ take k text) × NextLine (λ line. Does doing n line left text) after.source.left bytes)
 
-cut_short : (first doing : Doing) (start now after : Outside) (n : ℕ) (old bytes part : List ℕ) (going : Going first doing start now n old) → Ahead (limit_of first) start after going.handled bytes → PartWritten doing (n + 1) after bytes part →
+cut_short : (first doing : Doing) (start now after : Outside) (n : ℕ) (old bytes part : List ℕ) (going : Going first doing start now n old) → Ahead first start after going.handled bytes → PartWritten doing (n + 1) after bytes part →
     Appends now.sink.written after.sink.written part → Told start (λ script. CutShort first script start after)
 cut_short first doing start now after n old bytes part going ahead next written =
     told_from start.source.left (λ script. CutShort first script start after) (λ script e.
-    let known = script_of (limit_of first) script start after going.handled bytes e going.free ahead in
+    let it = known_of first script start after going.handled bytes e ahead in
     record {
       lines = going.handled;
-      more = lines_of (bytes ++ known.rest);
-      split = known.lines;
-      took = has_taken first doing start now after n old bytes script [] going.handled going ahead known (sym (append-nil going.handled));
+      more = lines_of (bytes ++ it.rest);
+      split = it.lines_are;
+      took = has_taken first script after going.handled bytes [] going.handled it (sym (append-nil going.handled));
       left = doing;
       text = going.text;
       ran = going.ran;
       holds = going.holds;
       part = part;
-      next = part_of doing (n + 1) (length going.handled + 1) (lines_of (bytes ++ known.rest)) part (omega (arith, going.count)) (elim next [
+      next = part_of doing (n + 1) (length going.handled + 1) (lines_of (bytes ++ it.rest)) part (omega (arith, going.count)) (elim next [
         | inl none ↦ inl none
         | inr some ↦ (
-            let line = next_of (λ line. Does doing (n + 1) line some.0 some.1) after bytes known.rest known.left some.4 in
+            let line = next_of (λ line. Does doing (n + 1) line some.0 some.1) after.source.left bytes it.rest it.left some.4 in
             inr (line.0, line.1, some.0, some.1, some.2, line.2, line.3, some.3))
       ]);
       written = appends_more start.sink.written now.sink.written after.sink.written going.text part going.written written;

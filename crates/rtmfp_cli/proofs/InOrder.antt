@@ -103,9 +103,9 @@ lines_of_more (b ∷ taken) rest =
 
 taken_part : (doing : Doing) (script : List ℕ) (before after : Outside) → TakenDone doing script before after → WritesAPart doing (lines_of script) before after
 taken_part doing script before after taken left text ran =
-    let begin = lines_of_more taken.taken taken.rest in
-    let split = ap lines_of taken.split ∙ begin.1 in
-    let so = known doing taken.has.left left (lines_of script) (whole_lines taken.taken) begin.0 taken.has.text text split taken.has.ran ran in
+    let begin = lines_of_more taken.took.taken taken.took.rest in
+    let split = ap lines_of taken.took.split ∙ begin.1 ∙ ap (λ ls. ls ++ begin.0) (sym taken.took.whole) in
+    let so = known doing taken.has.left left (lines_of script) taken.lines begin.0 taken.has.text text split taken.has.ran ran in
     (taken.has.text, so.rest, so.texts, taken.has.written)
 
 -- ---- the lines before a line

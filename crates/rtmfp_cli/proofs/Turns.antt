@@ -1,6 +1,6 @@
 -- What one turn of a run does, by what stands in front.
-use Rattle.std.proofs.Common.{◌≡◌, ◌≢◌, ℕ, ◌+◌, ◌<◌, inl, inr, List, [], ◌∷◌, ◌++◌, length, take, drop, refl, sym, ap, ◌∙◌, arith, append_assoc, append-nil, subst, Option, Some, None, IfSome}
-use Rattle.std.proofs.lemmas.List.{length-append, length-take-le, take-append-drop}
+use Rattle.std.proofs.Common.{◌≡◌, ◌≢◌, ℕ, ◌+◌, ◌<◌, inl, inr, List, [], ◌∷◌, ◌++◌, length, take, drop, refl, sym, ap, ◌∙◌, arith, append-nil, subst, Option, Some, None, IfSome}
+use Rattle.std.proofs.lemmas.List.{length-append}
 use Rattle.rtmfp_host.specs.Faults.{Rose}
 use Rattle.rtmfp_host.specs.Taking.{IsAtEnd}
 use Rattle.rtmfp_host.specs.Writing.{Appends}
@@ -21,7 +21,8 @@ use Rattle.rtmfp_play.specs.Play.{IsBadPlay}
 use Rattle.rtmfp_show.specs.ShowLine.{IsNoPacket, show_limit}
 use Rattle.rtmfp_cli.specs.Script.{Runs}
 use Rattle.rtmfp_cli.specs.Turning.{Takes, DoesRest, DoesNone, DoesPart, StopsReading, Turned, Printed}
-use Rattle.rtmfp_lines.proofs.LinesLaws.{FirstLine, line_there, lines_of-lf, lines_of-last, first_line}
+use Rattle.rtmfp_lines.proofs.Fronts.{last_line, next_last, next_long, next_whole}
+use Rattle.rtmfp_lines.proofs.LinesLaws.{line_there}
 use Rattle.rtmfp_lines.proofs.Streams.{appends_more}
 
 -- the outside before a turn and after it has read, by what was read
@@ -49,17 +50,6 @@ fails : (before mid : Outside) (sink : SinkSeen) → NothingFailed before mid �
 fails before mid sink still rose = let P : ℕ → Type 0 = λ n. Rose n sink.faults in record { rose = subst P still.sink rose; source = still.source }
 
 -- a line and its LF stand in front
-whole_line : (limit len : ℕ) (bytes rest : List ℕ) → StartsWithLine limit bytes len → lines_of (bytes ++ rest) ≡ take len bytes ∷ lines_of (drop (len + 1) bytes ++ rest)
-whole_line limit len bytes rest starts =
-    ap (λ xs. lines_of (xs ++ rest)) starts.joined
-    ∙ ap lines_of (append_assoc (take len bytes) (10 ∷ drop (len + 1) bytes) rest)
-    ∙ lines_of-lf (take len bytes) (drop (len + 1) bytes ++ rest) starts.no_lf
-
-next_whole : (P : List ℕ → Type 0) (left : Option (List ℕ)) (limit len : ℕ) (bytes : List ℕ) → StartsWithLine limit bytes len → P (take len bytes) →
-    IfSome left (λ rest. (line : List ℕ) × (more : List (List ℕ)) × (lines_of (bytes ++ rest) ≡ line ∷ more) × P line)
-next_whole P None limit len bytes starts p = tt
-next_whole P (Some rest) limit len bytes starts p = (take len bytes, lines_of (drop (len + 1) bytes ++ rest), whole_line limit len bytes rest starts, p)
-
 pub line_turned : (turn : Turn) (doing left : Doing) (n limit len : ℕ) (before mid : Outside) (sink : SinkSeen) (old bytes : List ℕ) → Between (limit_of doing) before mid old bytes → NothingFailed before mid →
     limit ≡ limit_of doing → StartsWithLine limit bytes len → Printed turn doing left n (take len bytes) mid.sink sink → Turned turn doing left n before (outside mid.source sink) old (drop (len + 1) bytes)
 line_turned Went doing left n limit len before mid sink old bytes between still e starts printed =
@@ -98,16 +88,6 @@ line_turned (Ended status.SinkFault) doing left n limit len before mid sink old 
     }
 line_turned (Ended status.SourceFault) doing left n limit len before mid sink old bytes between still e starts printed = absurd printed
 line_turned (Ended _) doing left n limit len before mid sink old bytes between still e starts printed = printed
-
--- a last line without LF is all that is there
-pub last_line : (bytes : List ℕ) → NoLf bytes → bytes ≢ [] → lines_of bytes ≡ bytes ∷ []
-last_line [] free some = absurd (some refl)
-last_line (b ∷ bytes) free some = lines_of-last b bytes free
-
-next_last : (P : List ℕ → Type 0) (left : Option (List ℕ)) (bytes : List ℕ) → NoLf bytes → bytes ≢ [] → IsAtEnd left → P bytes →
-    IfSome left (λ rest. (line : List ℕ) × (more : List (List ℕ)) × (lines_of (bytes ++ rest) ≡ line ∷ more) × P line)
-next_last P None bytes free some end p = tt
-next_last P (Some rest) bytes free some end p = (bytes, [], ap (λ xs. lines_of (bytes ++ xs)) end ∙ ap lines_of (append-nil bytes) ∙ last_line bytes free some, p)
 
 one_done : (doing left : Doing) (n : ℕ) (line text : List ℕ) (lines : List (List ℕ)) → lines ≡ line ∷ [] → Does doing n line left text → Runs n doing lines left text
 one_done doing left n line text lines e does =
@@ -190,24 +170,10 @@ long_is_bad : (doing : Doing) (n : ℕ) (front tail : List ℕ) → limit_of doi
 long_is_bad Showing n front tail long = too_long_to_show front tail long
 long_is_bad (Playing w) n front tail long = too_long_to_play w front tail long
 
-first_of : (front rest : List ℕ) → NoLf front → 0 < length front → FirstLine front (front ++ rest)
-first_of [] rest free some = absurd (omega arith)
-first_of (b ∷ front) rest free some = first_line b front rest free
-
-next_long : (doing : Doing) (n : ℕ) (left : Option (List ℕ)) (bytes : List ℕ) → IsTooLong (limit_of doing) bytes →
-    IfSome left (λ rest. (line : List ℕ) × (more : List (List ℕ)) × (lines_of (bytes ++ rest) ≡ line ∷ more) × IsBadLine doing n line)
-next_long doing n None bytes long = tt
-next_long doing n (Some rest) bytes long =
-    let front = take (limit_of doing + 1) bytes in
-    let size : length front ≡ limit_of doing + 1 = length-take-le (limit_of doing + 1) bytes (omega (arith, long.0)) in
-    let first = first_of front (drop (limit_of doing + 1) bytes ++ rest) long.1 (omega (arith, size)) in
-    let whole = ap (λ xs. xs ++ rest) (sym (take-append-drop (limit_of doing + 1) bytes)) ∙ append_assoc front (drop (limit_of doing + 1) bytes) rest in
-    (front ++ first.tail, first.more, ap lines_of whole ∙ first.lines, long_is_bad doing n front first.tail (omega (arith, size)))
-
 pub long_turned : (doing left : Doing) (n : ℕ) (before after : Outside) (old bytes new : List ℕ) → Between (limit_of doing) before after old bytes → NothingFailed before after → IsTooLong (limit_of doing) bytes →
     Turned (Ended (status.BadScript n)) doing left n before after old new
 long_turned doing left n before after old bytes new between still long =
-    (refl, (still, (bytes, none_written (limit_of doing) before after after.sink old bytes between refl, next_long doing n after.source.left bytes long)))
+    (refl, (still, (bytes, none_written (limit_of doing) before after after.sink old bytes between refl, next_long (IsBadLine doing n) after.source.left (limit_of doing) bytes long (long_is_bad doing n))))
 
 pub nothing_turned : (doing : Doing) (n : ℕ) (before after : Outside) (old bytes : List ℕ) → Between (limit_of doing) before after old bytes → SinkFailed before after → DoesPart doing n before after old
 nothing_turned doing n before after old bytes between failed =

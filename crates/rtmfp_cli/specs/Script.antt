@@ -1,13 +1,13 @@
 -- How a run over the lines of a source ends, and what it has written then.
-use Rattle.std.specs.Prelude.{◌≡◌, ℕ, ◌+◌, ◌≤◌, ◌⊎◌, List, [], ◌∷◌, ◌++◌, length, take, Option, Some, IfSome}
-use Rattle.std.specs.List.{AllByRecursion}
+use Rattle.std.specs.Prelude.{◌≡◌, ℕ, ◌+◌, ◌≤◌, ◌⊎◌, List, [], ◌∷◌, ◌++◌, length, take, Some, IfSome}
 use Rattle.rtmfp_host.specs.Writing.{Appends}
 use Rattle.rtmfp_cli.specs.declared.doing.Doing.{Doing}
 use Rattle.rtmfp_lines.specs.declared.status.Status.{Status}
 use Rattle.rtmfp_lines.specs.declared.status.Status.TheVariants as status
 use Rattle.rtmfp_host.specs.Seen.{SourceSeen}
 use Rattle.rtmfp_lines.specs.Outside.{Outside, Settled, SinkFailed, SourceFailed}
-use Rattle.rtmfp_lines.specs.Lines.{lines_of, whole_lines}
+use Rattle.rtmfp_lines.specs.Lines.{lines_of}
+use Rattle.rtmfp_lines.specs.Taken.{HasTaken as Taken, HasTakenWhole}
 use Rattle.rtmfp_cli.specs.Doing.{Does, Holds, IsBadLine, IsForgedLine, limit_of}
 
 -- the most lines that a source may have
@@ -33,28 +33,9 @@ pub record HasDone (doing : Doing) (before after : Outside) (lines : List (List 
 
 -- ---- what was read
 
--- no line of these bytes, whole or begun, is over its limit, and there are no more than there may
--- be
-pub record AreWithin (doing : Doing) (bytes : List ℕ) : Type 0 where
-  pub short : AllByRecursion (λ line. length line ≤ limit_of doing) (lines_of bytes)
-  pub few : length (lines_of bytes) ≤ max_lines
-
--- Nothing was taken, or the last read was needed: in what was taken without it each whole line was
--- done, no line is over its limit, and there is none too many.
-abbrev pub WasNeeded : Doing → List (List ℕ) → (taken rest : List ℕ) → Option (List ℕ) → Type 0
-WasNeeded doing lines taken rest asked = (taken ≡ []) ⊎
-    ((front : List ℕ) × (got : List ℕ) × (later : List (List ℕ))
-    × (taken ≡ front ++ got) × (asked ≡ Some (got ++ rest)) × (lines ≡ whole_lines front ++ later) ×
-    AreWithin doing front)
-
 -- what was taken from the source of a script, of which these lines were done
-pub record HasTaken (doing : Doing) (script : List ℕ) (lines : List (List ℕ)) (after : SourceSeen)
-    : Type 0 where
-  pub taken : List ℕ
-  pub rest : List ℕ
-  pub split : script ≡ taken ++ rest
-  pub left : after.left ≡ Some rest
-  pub needed : WasNeeded doing lines taken rest after.asked
+abbrev pub HasTaken : Doing → List ℕ → List (List ℕ) → SourceSeen → Type 0
+HasTaken doing script lines after = Taken (limit_of doing) max_lines script lines after
 
 -- ---- how a run ends
 
@@ -98,15 +79,11 @@ pub record TooMany (doing : Doing) (script : List ℕ) (before after : Outside) 
   pub took : HasTaken doing script lines after.source
   pub has : HasDone doing before after lines
 
--- The whole lines of what was taken from the source were done, and in it no line is over its limit,
--- and there is none too many: so another read was needed.
+-- the whole lines of what was taken from the source were done, and more was needed
 pub record TakenDone (doing : Doing) (script : List ℕ) (before after : Outside) : Type 0 where
-  pub taken : List ℕ
-  pub rest : List ℕ
-  pub split : script ≡ taken ++ rest
-  pub left : after.source.left ≡ Some rest
-  pub within : AreWithin doing taken
-  pub has : HasDone doing before after (whole_lines taken)
+  pub lines : List (List ℕ)
+  pub took : HasTakenWhole (limit_of doing) max_lines script lines after.source
+  pub has : HasDone doing before after lines
 
 -- nothing, or the first bytes of the text of line n, the next one
 abbrev pub IsPartOfNext : Doing → ℕ → List (List ℕ) → List ℕ → Type 0

@@ -1,5 +1,5 @@
 -- What one turn of a run does: one line is read and done.
-use Rattle.std.specs.Prelude.{◌≡◌, ℕ, ◌≤◌, ◌⊎◌, List, [], ◌∷◌, ◌++◌, length, take, IfSome}
+use Rattle.std.specs.Prelude.{◌≡◌, ℕ, ◌≤◌, ◌⊎◌, List, [], ◌∷◌, ◌++◌, length, take}
 use Rattle.rtmfp_host.specs.Faults.{Rose}
 use Rattle.rtmfp_host.specs.Seen.{SinkSeen}
 use Rattle.rtmfp_host.specs.Taking.{Consumes, IsAtEnd}
@@ -11,7 +11,7 @@ use Rattle.rtmfp_cli.specs.declared.script_run.Turn.{Turn}
 use Rattle.rtmfp_cli.specs.declared.script_run.Turn.TheVariants.{Went, Ended}
 use Rattle.rtmfp_lines.specs.Outside.{NothingFailed, Outside, SinkFailed, SourceFailed}
 use Rattle.rtmfp_lines.specs.Lines.{NoLf, lines_of}
-use Rattle.rtmfp_lines.specs.Reading.{Asks, IsPart}
+use Rattle.rtmfp_lines.specs.Reading.{Asks, IsPart, NextLine}
 use Rattle.rtmfp_cli.specs.Doing.{Does, IsBadLine, IsForgedLine, limit_of}
 use Rattle.rtmfp_cli.specs.Script.{Runs}
 
@@ -53,16 +53,11 @@ pub record DoesNone (limit : ℕ) (before after : Outside) (old bytes : List ℕ
   pub takes : Takes limit before after old bytes
   pub written : Appends before.sink.written after.sink.written []
 
--- the first of the bytes that are not handled is a line of this kind
-abbrev pub NextLine : (List ℕ → Type 0) → Outside → List ℕ → Type 0
-NextLine P after bytes = IfSome after.source.left (λ rest.
-    (line : List ℕ) × (more : List (List ℕ)) × (lines_of (bytes ++ rest) ≡ line ∷ more) × P line)
-
 -- nothing more is done, and the next line is of this kind
 abbrev pub StopsBefore : (List ℕ → Type 0) → ℕ → Outside → Outside → List ℕ → Type 0
 StopsBefore P limit before after old =
     NothingFailed before after × ((bytes : List ℕ) × DoesNone limit before after old bytes ×
-    NextLine P after bytes)
+    NextLine P after.source.left bytes)
 
 -- nothing more is done, and the source failed where more was needed
 abbrev pub StopsReading : ℕ → Outside → Outside → List ℕ → Type 0
@@ -76,7 +71,7 @@ pub record DoesPart (doing : Doing) (n : ℕ) (before after : Outside) (old : Li
   pub part : List ℕ
   pub takes : Takes (limit_of doing) before after old bytes
   pub next : (part ≡ []) ⊎ ((left : Doing) × (text : List ℕ) × (k : ℕ) × (part ≡ take k text) ×
-      NextLine (λ line. Does doing n line left text) after bytes)
+      NextLine (λ line. Does doing n line left text) after.source.left bytes)
   pub written : Appends before.sink.written after.sink.written part
   pub failed : SinkFailed before after
 
