@@ -2,6 +2,7 @@
 use Rattle.std.proofs.Common.{◌≡◌, ℕ, inl, inr, List, false, refl, sym, ap, ◌∙◌, subst, None}
 use Rattle.std.specs.Prelude.{String, Result, Ok, Err}
 use Rattle.std.specs.declared.alloc.Global.{Global}
+use Rattle.rtmfp_audit.specs.Audits.{AuditEnds}
 use Rattle.rtmfp_lines.specs.declared.status.Status.{Status as RunStatus}
 use Rattle.rtmfp_lines.specs.declared.status.Status.TheVariants as status
 use Rattle.rtmfp_lines.specs.Outside.{Outside, outside}
@@ -14,8 +15,8 @@ use Rattle.rtmfp_node.specs.declared.served.Served.{Served}
 use Rattle.rtmfp_node.specs.declared.served.Served.TheVariants as served
 use Rattle.rtmfp_node.specs.Outside.{Counted}
 use Rattle.rtmfp_words.specs.Node.{IsMeet, IsServe, Serving}
-use Rattle.rtmfp_words.specs.Words.{IsReplay, IsShow}
-use Rattle.rtmfp_words.specs.declared.command.Command.TheVariants.{Show, Replay, Generate}
+use Rattle.rtmfp_words.specs.Words.{IsAudit, IsReplay, IsShow}
+use Rattle.rtmfp_words.specs.declared.command.Command.TheVariants.{Show, Replay, Generate, Audit}
 use Rattle.rtmfp_words.specs.declared.command_line.CommandLine.{CommandLine}
 use Rattle.rtmfp_words.specs.declared.command_line.CommandLine.TheVariants.{Lines, Serve, Meet}
 use Rattle.rtmfp_words.specs.declared.fault.WordsFault.{WordsFault}
@@ -43,6 +44,7 @@ pub fits_of : (words : List (String Global)) (line : CommandLine) → Says words
 fits_of words (Lines Show) says = tt
 fits_of words (Lines Replay) says = tt
 fits_of words (Lines (Generate seed steps)) says = says.few_steps
+fits_of words (Lines Audit) says = tt
 fits_of words (Serve v) says = says.name
 fits_of words (Meet m) says = tt
 
@@ -92,6 +94,7 @@ bad_so : (words : List (String Global)) (line : CommandLine) (before after : Obj
 bad_so words (Lines Show) before after says ends = absurd ends
 bad_so words (Lines Replay) before after says ends = absurd ends
 bad_so words (Lines (Generate seed steps)) before after says ends = absurd ends
+bad_so words (Lines Audit) before after says ends = absurd ends
 bad_so words (Serve v) before after says ends = absurd (served_well ends.how ends.is)
 bad_so words (Meet m) before after says ends = absurd (of_meet status.BadWords m.port m.turns _ _ ends)
 
@@ -116,6 +119,15 @@ generated_risen status.Memory seed steps before after ends = tt
 generated_risen (status.BadScript n) seed steps before after ends = tt
 generated_risen (status.Forged n) seed steps before after ends = tt
 generated_risen _ seed steps before after ends = absurd ends
+
+audit_risen : (s : RunStatus) (before after : Objects) → AuditEnds s (outside before.source before.sink) (outside after.source after.sink) → HasRisen s before after
+audit_risen status.SinkFault before after ends = ends.0.rose
+audit_risen status.SourceFault before after ends = ends.0.rose
+audit_risen status.Done before after ends = tt
+audit_risen status.Memory before after ends = tt
+audit_risen (status.BadScript n) before after ends = tt
+audit_risen (status.NotAgreed n) before after ends = tt
+audit_risen _ before after ends = absurd ends
 
 met_risen : (s : RunStatus) (port turns : ℕ) (before after : Objects) → MeetEnds port turns s (sides before.spawner before.sink) (sides after.spawner after.sink) → HasRisen s before after
 met_risen status.SinkFault port turns before after ends = ends.fails.1
@@ -143,6 +155,7 @@ pub risen : (line : CommandLine) (s : RunStatus) (before after : Objects) → Co
 risen (Lines Show) s before after ends = script_risen s showing before after ends
 risen (Lines Replay) s before after ends = script_risen s playing before after ends
 risen (Lines (Generate seed steps)) s before after ends = generated_risen s seed steps before after ends
+risen (Lines Audit) s before after ends = audit_risen s before after ends
 risen (Serve v) s before after ends = served_risen v s before after ends
 risen (Meet m) s before after ends = met_risen s m.port m.turns before after ends
 
@@ -155,6 +168,10 @@ script_child _ doing before after ends = refl
 generated_child : (s : RunStatus) (seed steps : ℕ) (before after : SinkSeen) → GeneratedEnds seed steps s before after → failed_with s ≡ None
 generated_child (status.ChildFailed c) seed steps before after ends = absurd ends
 generated_child _ seed steps before after ends = refl
+
+audit_child : (s : RunStatus) (before after : Outside) → AuditEnds s before after → failed_with s ≡ None
+audit_child (status.ChildFailed c) before after ends = absurd ends
+audit_child _ before after ends = refl
 
 served_child : (how : Served) → failed_with (status_of how) ≡ None
 served_child served.Done = refl
@@ -170,23 +187,27 @@ child_told (Lines Replay) s before after none same ends =
     ap (λ p. p.status) (same refl) ∙ none ∙ sym (script_child s playing (outside before.source before.sink) (outside after.source after.sink) ends)
 child_told (Lines (Generate seed steps)) s before after none same ends =
     ap (λ p. p.status) (same refl) ∙ none ∙ sym (generated_child s seed steps before.sink after.sink ends)
+child_told (Lines Audit) s before after none same ends =
+    ap (λ p. p.status) (same refl) ∙ none ∙ sym (audit_child s (outside before.source before.sink) (outside after.source after.sink) ends)
 child_told (Serve v) s before after none same ends =
     ap (λ p. p.status) (same refl) ∙ none ∙ sym (ap failed_with ends.is ∙ served_child ends.how)
 child_told (Meet m) s before after none same ends = ends.first
 
 -- ---- what a command doesn't need
 
-pub reads_none : (words : List (String Global)) (line : CommandLine) → Says words line → (IsShow words → ⊥) → (IsReplay words → ⊥) → reads_lines line ≡ false
-reads_none words (Lines Show) says show replay = absurd (show says)
-reads_none words (Lines Replay) says show replay = absurd (replay says)
-reads_none words (Lines (Generate seed steps)) says show replay = refl
-reads_none words (Serve v) says show replay = refl
-reads_none words (Meet m) says show replay = refl
+pub reads_none : (words : List (String Global)) (line : CommandLine) → Says words line → (IsShow words → ⊥) → (IsReplay words → ⊥) → (IsAudit words → ⊥) → reads_lines line ≡ false
+reads_none words (Lines Show) says show replay audit = absurd (show says)
+reads_none words (Lines Replay) says show replay audit = absurd (replay says)
+reads_none words (Lines (Generate seed steps)) says show replay audit = refl
+reads_none words (Lines Audit) says show replay audit = absurd (audit says)
+reads_none words (Serve v) says show replay audit = refl
+reads_none words (Meet m) says show replay audit = refl
 
 pub starts_none : (words : List (String Global)) (line : CommandLine) → Says words line → ((port turns : ℕ) → IsMeet words port turns → ⊥) → starts_nodes line ≡ false
 starts_none words (Lines Show) says meet = refl
 starts_none words (Lines Replay) says meet = refl
 starts_none words (Lines (Generate seed steps)) says meet = refl
+starts_none words (Lines Audit) says meet = refl
 starts_none words (Serve v) says meet = refl
 starts_none words (Meet m) says meet = absurd (meet m.port m.turns says)
 
@@ -194,5 +215,6 @@ pub serves_none : (words : List (String Global)) (line : CommandLine) → Says w
 serves_none words (Lines Show) says serve = refl
 serves_none words (Lines Replay) says serve = refl
 serves_none words (Lines (Generate seed steps)) says serve = refl
+serves_none words (Lines Audit) says serve = refl
 serves_none words (Serve v) says serve = absurd (serve v says)
 serves_none words (Meet m) says serve = refl

@@ -1,6 +1,7 @@
 -- What each command does, and what it leaves of the six objects that it is given.
 use Rattle.std.specs.Prelude.{◌≡◌, ◌⊎◌, ℕ, ◌≤◌, Bool, true, false, List, Option, String}
 use Rattle.std.specs.declared.alloc.Global.{Global}
+use Rattle.rtmfp_audit.specs.Audits.{AuditEnds}
 use Rattle.rtmfp_host.specs.Drawing.{EntropySeen}
 use Rattle.rtmfp_host.specs.Faults.{Rose}
 use Rattle.rtmfp_host.specs.Linking.{LinkSeen}
@@ -18,8 +19,8 @@ use Rattle.rtmfp_node.specs.Whole.{Ends}
 use Rattle.rtmfp_play.specs.Generated.{GeneratedEnds}
 use Rattle.rtmfp_words.specs.CommandLine.{NamesNode}
 use Rattle.rtmfp_words.specs.Node.{IsMeet, IsNodeName, IsServe, Serving}
-use Rattle.rtmfp_words.specs.Words.{IsReplay, IsShow}
-use Rattle.rtmfp_words.specs.declared.command.Command.TheVariants.{Show, Replay, Generate}
+use Rattle.rtmfp_words.specs.Words.{IsAudit, IsReplay, IsShow}
+use Rattle.rtmfp_words.specs.declared.command.Command.TheVariants.{Show, Replay, Generate, Audit}
 use Rattle.rtmfp_words.specs.declared.command_line.CommandLine.{CommandLine}
 use Rattle.rtmfp_words.specs.declared.command_line.CommandLine.TheVariants.{Lines, Serve, Meet}
 use Rattle.rtmfp_cli.specs.Doing.{playing, showing}
@@ -82,6 +83,8 @@ CommandEnds (Lines Replay) result before after = ScriptEnds playing result
     (outside before.source before.sink) (outside after.source after.sink)
 CommandEnds (Lines (Generate seed steps)) result before after =
     GeneratedEnds seed steps result before.sink after.sink
+CommandEnds (Lines Audit) result before after = AuditEnds result
+    (outside before.source before.sink) (outside after.source after.sink)
 CommandEnds (Serve v) result before after = NodeEnds v result (around before) (around after)
 CommandEnds (Meet m) result before after = MeetEnds m.port m.turns result
     (sides before.spawner before.sink) (sides after.spawner after.sink)
@@ -91,6 +94,7 @@ abbrev pub Fits : CommandLine → Type 0
 Fits (Lines Show) = Unit {0}
 Fits (Lines Replay) = Unit {0}
 Fits (Lines (Generate seed steps)) = steps ≤ 100000
+Fits (Lines Audit) = Unit {0}
 Fits (Serve v) = IsNodeName v.name
 Fits (Meet m) = Unit {0}
 
@@ -106,6 +110,7 @@ abbrev pub reads_lines : CommandLine → Bool
 reads_lines (Lines Show) = true
 reads_lines (Lines Replay) = true
 reads_lines (Lines (Generate seed steps)) = false
+reads_lines (Lines Audit) = true
 reads_lines (Serve v) = false
 reads_lines (Meet m) = false
 
@@ -121,7 +126,7 @@ abbrev pub NeedsNoNetwork : List (String Global) → Type 0
 NeedsNoNetwork words = (v : Serving) → IsServe words v → ⊥
 
 abbrev pub NeedsNoSource : List (String Global) → Type 0
-NeedsNoSource words = (IsShow words → ⊥) × (IsReplay words → ⊥)
+NeedsNoSource words = (IsShow words → ⊥) × (IsReplay words → ⊥) × (IsAudit words → ⊥)
 
 abbrev pub NeedsNoSpawner : List (String Global) → Type 0
 NeedsNoSpawner words = (port turns : ℕ) → IsMeet words port turns → ⊥

@@ -3,8 +3,9 @@ ghost use Rattle.std.specs.Prelude.{◌≡◌, ℕ, None, false};
 ghost use Rattle.rtmfp_words.specs.CommandLine.{IsFaulty};
 ghost use Rattle.rtmfp_node.specs.Outside.{outside as node_outside};
 ghost use Rattle.rtmfp_words.specs.Node.{IsMeet, IsNodeName, IsServe, Serving};
-ghost use Rattle.rtmfp_words.specs.Words.{IsGenerate, IsReplay, IsShow};
+ghost use Rattle.rtmfp_words.specs.Words.{IsAudit, IsGenerate, IsReplay, IsShow};
 ghost use Rattle.rtmfp_cli.specs.Commands.{CommandEnds, Fits, HasRisen, IsRefused, NeedsNoNetwork, NeedsNoSource, NeedsNoSpawner, NodeEnds, ServeEnds, objects, reads_lines, serves, starts_nodes, status_of};
+ghost use Rattle.rtmfp_audit.specs.Audits.{AuditEnds};
 ghost use Rattle.rtmfp_cli.specs.Doing.{Holds, IsNext, playing, showing};
 ghost use Rattle.rtmfp_meet.specs.Meeting.{MeetEnds, failed_with, sides};
 ghost use Rattle.rtmfp_play.specs.Generated.{GeneratedEnds};
@@ -14,6 +15,7 @@ ghost use Rattle.rtmfp_cli.specs.Script.{ScriptEnds};
 
 use crate::doing::Doing;
 use crate::script_run::run_script;
+use rtmfp_audit::run_audit;
 use rtmfp_host::{Entropy, Link, Moments, Sink, Source, Spawner, Wrote};
 use rtmfp_lines::Status;
 use rtmfp_meet::meet;
@@ -28,8 +30,9 @@ use std::alloc::Global;
 ///
 /// `show` reads one packet a line in hexadecimal, and writes its text. `replay` reads one step of a
 /// script a line, does it, and writes its report. `replay --generate N --steps K` makes a script of
-/// its own, and writes one line that sums it up. `serve` runs a node on the network, and writes its
-/// report. `meet` starts three nodes and writes what they wrote.
+/// its own, and writes one line that sums it up. `audit` reads the logs of ends, one line each for
+/// an end, an event or an entry, and writes whether they agree. `serve` runs a node on the network,
+/// and writes its report. `meet` starts three nodes and writes what they wrote.
 pub fn run<L: Link, C: Moments, E: Entropy, S: Source, K: Sink, P: Spawner>(
     alloc: Global,
     words: &[String],
@@ -51,6 +54,9 @@ pub fn run<L: Link, C: Moments, E: Entropy, S: Source, K: Sink, P: Spawner>(
         (outside (S.seen source.new) (K.seen sink.new)) }
     ensures generate { (seed steps : ℕ) → IsGenerate words.now seed steps →
         GeneratedEnds seed steps result (K.seen sink.old) (K.seen sink.new) }
+    ensures audit { IsAudit words.now → AuditEnds result
+        (outside (S.seen source.old) (K.seen sink.old))
+        (outside (S.seen source.new) (K.seen sink.new)) }
     ensures serve { (v : Serving) → IsServe words.now v → ServeEnds v result
         (node_outside (L.seen link.old) (C.seen clock.old) (E.seen entropy.old) (K.seen sink.old))
         (node_outside (L.seen link.new) (C.seen clock.new) (E.seen entropy.new) (K.seen sink.new)) }
@@ -117,6 +123,7 @@ fn run_command<L: Link, C: Moments, E: Entropy, S: Source, K: Sink, P: Spawner>(
             over_lines(alloc, Doing::Playing(playing), source, sink)
         }
         CommandLine::Lines(Command::Generate { seed, steps }) => generate(alloc, seed, steps, sink),
+        CommandLine::Lines(Command::Audit) => run_audit(alloc, source, sink),
         CommandLine::Serve(words) => serve_node(alloc, &words, link, clock, entropy, sink),
         CommandLine::Meet(words) => meet(alloc, words, sink, spawner),
     }
