@@ -1,9 +1,14 @@
 -- What an audit keeps of all ends together.
-use Rattle.std.specs.Prelude.{◌∷◌}
+use Rattle.std.specs.Prelude.{ℕ, ◌∷◌}
+use Rattle.endpoint_model.specs.Event.{Event}
 use Rattle.endpoint_laws.specs.History.{Happened, History, nonces_in}
 use Rattle.log_digest.specs.Nonces.{AreNonces}
 use Rattle.log_sent.specs.Sent.{IsSentOf}
 use Rattle.log_audit.specs.declared.auditing.Together.{Together}
+
+-- an event of the end with this number
+abbrev pub happened : ℕ → Event → Happened
+happened who event = record { who = who; event = event }
 
 -- It is that of a history.
 pub record IsTogetherOf (history : History) (t : Together) : Type 0 where

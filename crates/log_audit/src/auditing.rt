@@ -13,7 +13,7 @@ ghost use Rattle.log_verdict.specs.Audited.{IsAudited};
 ghost use Rattle.log_judging.specs.Judged.{IsJudged};
 ghost use Rattle.log_audit.specs.Ends.{AreEndsOf, IsEndOf};
 ghost use Rattle.log_audit.specs.Found.{AreJudged, IsYes};
-ghost use Rattle.log_audit.specs.Together.{IsBeforeSent, IsTogetherOf};
+ghost use Rattle.log_audit.specs.Together.{IsBeforeSent, IsTogetherOf, happened};
 
 use crate::calls::is_call;
 use crate::ends::{KeptEnd, enter_all, kept_by};
@@ -64,14 +64,13 @@ fn judge_at(
     ensures judged { (setups : List Setup) (who : ℕ) (earlier : History) →
         end_of setups who ≡ setup_of log.now → IsEndOf secrets.now setups earlier who end.old →
         IsTogetherOf earlier all.old → number ≡ length earlier + 1 → IfOk result
-        (IsJudged secrets.now (end_of setups) (record { who = who; event = event_of event.now })
-        earlier) }
+        (IsJudged secrets.now (end_of setups) (happened who (event_of event.now)) earlier) }
     ensures goes_on { (setups : List Setup) (who : ℕ) (earlier : History) →
         end_of setups who ≡ setup_of log.now → IsEndOf secrets.now setups earlier who end.old →
         IsTogetherOf earlier all.old → number ≡ length earlier + 1 →
-        IfOk result (λ found. found ≡ None → IsEndOf secrets.now setups
-        (record { who = who; event = event_of event.now } ∷ earlier) who end.new ×
-        IsBeforeSent (record { who = who; event = event_of event.now }) earlier all.new) }
+        IfOk result (λ found. found ≡ None →
+        IsEndOf secrets.now setups (happened who (event_of event.now) ∷ earlier) who end.new ×
+        IsBeforeSent (happened who (event_of event.now)) earlier all.new) }
 {
     let party = Party {
         cert: log.cert.bytes(),
@@ -110,13 +109,13 @@ fn judge_next(
         AreEndsOf secrets.now (setups_of logs.now) earlier ends.old.items →
         IsTogetherOf earlier all.old → number ≡ length earlier + 1 →
         IfOk result (IsJudged secrets.now (end_of (setups_of logs.now))
-        (record { who = who; event = event_of event.now }) earlier) }
+        (happened who (event_of event.now)) earlier) }
     ensures goes_on { (earlier : History) →
         AreEndsOf secrets.now (setups_of logs.now) earlier ends.old.items →
         IsTogetherOf earlier all.old → number ≡ length earlier + 1 →
         IfOk result (λ found. found ≡ None → AreEndsOf secrets.now (setups_of logs.now)
-        (record { who = who; event = event_of event.now } ∷ earlier) ends.new.items ×
-        IsBeforeSent (record { who = who; event = event_of event.now }) earlier all.new) }
+        (happened who (event_of event.now) ∷ earlier) ends.new.items ×
+        IsBeforeSent (happened who (event_of event.now)) earlier all.new) }
 {
     judge_at(
         secrets,
