@@ -49,9 +49,10 @@ fn beginning_at(ends: &[End], end: usize) -> Option<Beginning>
     if end >= ends.len() {
         return None;
     }
-    let cert = ends[end].cert;
+    let given = &ends[end];
+    let cert = given.cert;
     Some(Beginning {
-        config: ends[end].config,
+        config: given.config,
         cert,
         generation: FIRST_GENERATION,
         secret: counted_secret(FIRST_GENERATION),
