@@ -1,11 +1,12 @@
 //! A plain Rust program that prints what `rtmfp replay --generate N --steps K` prints: the bar for its speed.
 //! With `--flows` it makes another run instead, of two ends that call on flows, with `--calls` one of six ends that also
-//! call each other, hang up and move, with `--names` one of six ends that also search for each other by three names, with
-//! `--successions` one of six ends whose group also changes its secret, with
-//! `--places` one of six ends that meet through address translators, and with `--transfer` one of K megabytes that go over,
-//! of whose datagrams each N-th is lost. With `--script` it prints the script of the run, and with `--report` the report of
-//! it. Without a seed it reads a script from its input, and prints the report of each line;
-//! with `--datagrams` alone it prints the bytes of each datagram that was sent instead, one a line, in hexadecimal.
+//! call each other, hang up and move, with `--meetings` one of three that begin and end sessions in short time, with `--names`
+//! one of six ends that also search for each other by three names, with `--successions` one of six ends whose group also
+//! changes its secret, with `--places` one of six ends that meet through address translators, and with `--transfer` one of K
+//! megabytes that go over, of whose datagrams each N-th is lost. With `--script` it prints the script of the run, with
+//! `--report` the report of it, and with `--journal` the text of its ends' logs. Without a seed it reads a script from its
+//! input, and prints the report of each line; with `--datagrams` alone it prints the bytes of each datagram that was sent
+//! instead, one a line, in hexadecimal, and with `--journal` alone the text of the logs.
 #[path = "replay/crypto.rs"]
 mod crypto;
 #[path = "replay/end.rs"]
@@ -14,6 +15,8 @@ mod end;
 mod flow;
 #[path = "replay/flows.rs"]
 mod flows;
+#[path = "replay/journal.rs"]
+mod journal;
 #[path = "replay/places.rs"]
 mod places;
 #[path = "replay/random.rs"]
@@ -28,7 +31,9 @@ mod wire;
 use crypto::{Context, Print};
 use end::{Draws, End, Entry, Fact, Group, Refusal};
 use flow::Options;
+use journal::Logs;
 use places::{Arrival, Lost, Places, Rule};
+use std::cell::RefCell;
 use std::collections::{HashMap, HashSet};
 use std::io::{self, BufRead, BufWriter, Write};
 use std::process::ExitCode;
@@ -36,6 +41,8 @@ use std::rc::Rc;
 use wire::{Address, Host};
 
 const ENDS: usize = 8;
+/// The most bytes of a datagram that is injected.
+const INJECTED: usize = 2_048;
 
 pub enum Step {
     End { name: String, max_peers: usize, max_sessions: usize, cert: String },
@@ -46,6 +53,9 @@ pub enum Step {
     Cancel { end: usize, n: u64 },
     Close { end: usize, near: u32 },
     Deliver { number: usize, end: usize, from: Address },
+    Bent { number: usize, place: usize, end: usize, from: Address },
+    Inject { end: usize, from: Address, bytes: Vec<u8> },
+    Forge { end: usize, from: Address, plain: Vec<u8> },
     Tick { end: usize },
     Flow { end: usize, near: u32, priority: u8, metadata: Vec<u8>, answers: Option<u64> },
     Queue { end: usize, near: u32, flow: u64, options: Options, message: Vec<u8> },
@@ -66,7 +76,8 @@ pub struct JournalLine {
     /// The end that was called, or that sent what was lost, where there is one.
     pub end: Option<usize>,
     pub lost: Option<Lost>,
-    pub datagram: Option<Rc<[u8]>>,
+    /// What was brought, and from where.
+    pub brought: Option<(Address, Rc<[u8]>)>,
     pub refused: Option<Refusal>,
     pub entries: Vec<Entry>,
 }
@@ -126,7 +137,7 @@ impl World {
 
     fn step(&mut self, line: u64, step: Step) -> Result<(), StepFault> {
         let draws = Draws { nonce: numbers(0, line), tag: numbers(2, line), token: numbers(1, line), word: line as u32 };
-        let (mut datagram, mut lost, mut refused, mut entries) = (None, None, None, Vec::new());
+        let (mut brought, mut lost, mut refused, mut entries) = (None, None, None, Vec::new());
         let end = match &step {
             Step::End { name, max_peers, max_sessions, cert } => {
                 let end = End::new(name.clone(), *max_peers, *max_sessions, cert.clone().into_bytes(), self.groups[0].clone());
@@ -216,7 +227,8 @@ impl World {
                 let Sent { by, to, .. } = self.sent[*number - 1];
                 match self.places.carry(by, to).ok_or(StepFault::BadStep)? {
                     Ok(Arrival { end, from }) => {
-                        datagram = Some(self.bring(*number, end, from, &draws, &mut entries)?);
+                        let bytes = self.sent[*number - 1].datagram.clone();
+                        brought = Some(self.bring(bytes, end, from, &draws, &mut entries)?);
                         Some(end)
                     }
                     Err(why) => {
@@ -226,7 +238,29 @@ impl World {
                 }
             }
             Step::Deliver { number, end, from } => {
-                datagram = Some(self.bring(*number, *end, *from, &draws, &mut entries)?);
+                let bytes = self.sent[*number - 1].datagram.clone();
+                brought = Some(self.bring(bytes, *end, *from, &draws, &mut entries)?);
+                Some(*end)
+            }
+            Step::Bent { number, place, end, from } => {
+                let mut bytes = self.sent[*number - 1].datagram.to_vec();
+                *bytes.get_mut(*place).ok_or(StepFault::BadStep)? ^= 1;
+                brought = Some(self.bring(bytes.into(), *end, *from, &draws, &mut entries)?);
+                Some(*end)
+            }
+            Step::Inject { end, from, bytes } => {
+                if bytes.len() > INJECTED {
+                    return Err(StepFault::BadStep);
+                }
+                brought = Some(self.bring(bytes.clone().into(), *end, *from, &draws, &mut entries)?);
+                Some(*end)
+            }
+            Step::Forge { end, from, plain } => {
+                if plain.len() > wire::PACKET {
+                    return Err(StepFault::BadStep);
+                }
+                let bytes = self.ends[*end].forged(plain).into();
+                brought = Some(self.bring(bytes, *end, *from, &draws, &mut entries)?);
                 Some(*end)
             }
         };
@@ -238,7 +272,7 @@ impl World {
                 }
             }
         }
-        self.journal.push(JournalLine { line, step, end, lost, datagram, refused, entries });
+        self.journal.push(JournalLine { line, step, end, lost, brought, refused, entries });
         Ok(())
     }
 
@@ -250,16 +284,17 @@ impl World {
         self.groups[generation as usize].clone()
     }
 
-    /// Brings a datagram to an end, and gives its bytes.
-    fn bring(&mut self, number: usize, end: usize, from: Address, draws: &Draws, out: &mut Vec<Entry>) -> Result<Rc<[u8]>, StepFault> {
-        let bytes = self.sent[number - 1].datagram.clone();
+    /// Brings a datagram to an end, and gives what was brought.
+    fn bring(
+        &mut self, bytes: Rc<[u8]>, end: usize, from: Address, draws: &Draws, out: &mut Vec<Entry>,
+    ) -> Result<(Address, Rc<[u8]>), StepFault> {
         let unsealed = self.ends[end].unseal(&bytes);
         // What opens in a context in which it wasn't sent is forged.
         if unsealed.as_ref().is_ok_and(|unsealed| !self.was_sent(&bytes, &unsealed.context)) {
             return Err(StepFault::Forged);
         }
         self.ends[end].receive(from, self.moment, unsealed, draws, out);
-        Ok(bytes)
+        Ok((from, bytes))
     }
 
     fn was_sent(&self, datagram: &[u8], context: &Rc<Context>) -> bool {
@@ -311,11 +346,15 @@ impl World {
     }
 }
 
-/// A generation of the group's secret, which is the generation's number.
-fn group(generation: u64) -> Rc<Group> {
+/// The group's secret in a generation: the generation's number.
+pub fn group_secret(generation: u64) -> [u8; 32] {
     let mut secret = [0; 32];
     secret[24..].copy_from_slice(&generation.to_be_bytes());
-    Rc::new(Group::new(generation, secret))
+    secret
+}
+
+fn group(generation: u64) -> Rc<Group> {
+    Rc::new(Group::new(generation, group_secret(generation)))
 }
 
 /// Where an end of the generated run is.
@@ -323,7 +362,8 @@ fn address_of(end: usize) -> Address {
     Address { host: Host::V4([10, 0, 0, end as u8 + 1]), port: 1935 }
 }
 
-fn numbers(first: u64, second: u64) -> [u8; 16] {
+/// A random value of a line, by which one it is and the line's number.
+pub fn numbers(first: u64, second: u64) -> [u8; 16] {
     (u128::from(first) << 64 | u128::from(second)).to_be_bytes()
 }
 
@@ -345,8 +385,9 @@ fn run(seed: u64, steps: u64) -> Result<World, (StepFault, u64)> {
 }
 
 /// The run of a seed; with `--flows` one that calls on flows; with `--calls` one of ends that also call each other, hang
-/// up and move; with `--names` one of ends that also search for each other; with `--successions` one of ends that also
-/// change the group's secret; with `--places` one of ends that meet through translators; with `--transfer` so many megabytes that go over, of whose datagrams each so many-th is lost, as the
+/// up and move; with `--meetings` one of ends that begin and end sessions; with `--names` one of ends that also search for
+/// each other; with `--successions` one of ends that also change the group's secret; with `--places` one of ends that meet
+/// through translators; with `--transfer` so many megabytes that go over, of whose datagrams each so many-th is lost, as the
 /// seed says.
 fn generated(seed: u64, steps: u64, flags: &HashSet<String>) -> Result<World, (StepFault, u64)> {
     if flags.contains("--flows") {
@@ -354,6 +395,9 @@ fn generated(seed: u64, steps: u64, flags: &HashSet<String>) -> Result<World, (S
     }
     if flags.contains("--calls") {
         return random::calls(seed, steps);
+    }
+    if flags.contains("--meetings") {
+        return random::meetings(seed, steps);
     }
     if flags.contains("--names") {
         return random::names(seed, steps);
@@ -382,38 +426,62 @@ fn print_datagrams(world: &World) -> io::Result<()> {
     out.flush()
 }
 
-/// Does a script line by line, and prints what each did, or what was sent.
-fn run_script(prints_datagrams: bool) -> io::Result<Result<(), (StepFault, u64)>> {
+/// Does a script line by line, and prints what each did.
+fn run_script() -> io::Result<Result<(), (StepFault, u64)>> {
     let mut out = BufWriter::with_capacity(1 << 16, io::stdout().lock());
+    let mut sent = 0;
+    let (_, done) = each_line(|world, done| report::write_line(&mut out, world, done, &mut sent), |_| true)?;
+    out.flush().map(|()| done)
+}
+
+/// Does a script line by line, and prints what was sent where none was refused.
+fn run_datagrams() -> io::Result<Result<(), (StepFault, u64)>> {
+    let (world, done) = each_line(|_, _| Ok(()), |_| true)?;
+    if done.is_ok() {
+        print_datagrams(&world)?;
+    }
+    Ok(done)
+}
+
+/// Does a script line by line, and prints its ends' logs. An end that comes after an event is refused.
+fn run_journal() -> io::Result<Result<(), (StepFault, u64)>> {
+    let mut out = BufWriter::with_capacity(1 << 16, io::stdout().lock());
+    let logs = RefCell::new(Logs::new());
+    let write = |world: &World, done: &JournalLine| logs.borrow_mut().write_line(&mut out, world, done);
+    let (world, done) = each_line(write, |step| !logs.borrow().are_begun() || !matches!(step, Step::End { .. }))?;
+    logs.borrow_mut().begin(&mut out, &world)?;
+    out.flush().map(|()| done)
+}
+
+/// Does a script line by line: where a step may be, it is made, and what it did is told.
+fn each_line(
+    mut tell: impl FnMut(&World, &JournalLine) -> io::Result<()>, may_be: impl Fn(&Step) -> bool,
+) -> io::Result<(World, Result<(), (StepFault, u64)>)> {
     let mut input = io::stdin().lock();
-    let (mut world, mut line, mut number, mut sent) = (World::new(), String::new(), 0, 0);
+    let (mut world, mut line, mut number) = (World::new(), String::new(), 0);
     while input.read_line(&mut line)? > 0 {
         number += 1;
-        match script::read_line(&world, line.trim_end_matches('\n')) {
-            Err(()) => return out.flush().map(|()| Err((StepFault::BadStep, number))),
+        match script::read_line(&world, line.strip_suffix('\n').unwrap_or(&line)) {
             Ok(None) => {}
-            Ok(Some(step)) => match world.step(number, step) {
-                Err(fault) => return out.flush().map(|()| Err((fault, number))),
-                Ok(()) if prints_datagrams => {}
-                Ok(()) => {
-                    if let Some(done) = world.journal.last() {
-                        report::write_line(&mut out, &world, done, &mut sent)?;
-                    }
+            Ok(Some(step)) if may_be(&step) => {
+                if let Err(fault) = world.step(number, step) {
+                    return Ok((world, Err((fault, number))));
                 }
-            },
+                if let Some(done) = world.journal.last() {
+                    tell(&world, done)?;
+                }
+            }
+            _ => return Ok((world, Err((StepFault::BadStep, number)))),
         }
         line.clear();
     }
-    if prints_datagrams {
-        drop(out);
-        return print_datagrams(&world).map(Ok);
-    }
-    out.flush().map(Ok)
+    Ok((world, Ok(())))
 }
 
 enum Task {
     Script,
     Datagrams,
+    Journal,
     Generate { seed: u64, steps: u64, flags: HashSet<String> },
 }
 
@@ -427,7 +495,8 @@ fn task() -> Option<Task> {
         match word.as_str() {
             "--generate" => seed = Some(words.next()?.parse().ok()?),
             "--steps" => steps = Some(words.next()?.parse().ok().filter(|n| *n <= 100_000)?),
-            "--script" | "--report" | "--flows" | "--calls" | "--names" | "--successions" | "--places" | "--transfer" => _ = flags.insert(word),
+            "--journal" if seed.is_none() && steps.is_none() && flags.is_empty() && words.peek().is_none() => return Some(Task::Journal),
+            "--script" | "--report" | "--journal" | "--flows" | "--calls" | "--meetings" | "--names" | "--successions" | "--places" | "--transfer" => _ = flags.insert(word),
             "--datagrams" if seed.is_none() && steps.is_none() => return words.next().is_none().then_some(Task::Datagrams),
             _ => return None,
         }
@@ -441,13 +510,16 @@ fn main() -> ExitCode {
             eprintln!("replay: bad command line");
             return ExitCode::from(2);
         }
-        Some(Task::Datagrams) => run_script(true).expect("a script is read, and what was sent is written"),
-        Some(Task::Script) => run_script(false).expect("a script is read, and its report written"),
+        Some(Task::Datagrams) => run_datagrams().expect("a script is read, and what was sent is written"),
+        Some(Task::Journal) => run_journal().expect("a script is read, and its logs are written"),
+        Some(Task::Script) => run_script().expect("a script is read, and its report written"),
         Some(Task::Generate { seed, steps, flags }) => generated(seed, steps, &flags).map(|world| {
             if flags.contains("--script") {
                 report::print_script(&world);
             } else if flags.contains("--report") {
                 report::print_report(&world);
+            } else if flags.contains("--journal") {
+                journal::print(&world);
             } else {
                 println!("{}", world.summary(steps));
             }

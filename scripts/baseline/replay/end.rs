@@ -74,8 +74,8 @@ pub enum Fact {
     Started { peer: Print, n: u64, near: u32, ni: Nonce },
     Born(Joined),
     Opened(Joined),
-    Confirmed { near: u32 },
-    Ended { near: u32, why: Why },
+    Confirmed { peer: Print, near: u32 },
+    Ended { peer: Print, near: u32, why: Why },
 }
 
 pub enum Cause {
@@ -369,9 +369,9 @@ enum Test {
 pub struct End {
     pub name: String,
     pub print: Print,
-    cert: Vec<u8>,
-    max_peers: usize,
-    max_sessions: usize,
+    pub cert: Vec<u8>,
+    pub max_peers: usize,
+    pub max_sessions: usize,
     /// The current generation, and the next one where it is known.
     group: Rc<Group>,
     next: Option<Rc<Group>>,
@@ -420,6 +420,11 @@ impl End {
     /// The session IDs of its sessions, those that are closing among them.
     pub fn nears(&self) -> Vec<u32> {
         self.sessions.keys().copied().collect()
+    }
+
+    /// The datagram of a packet that nobody sent, sealed for the startup.
+    pub fn forged(&self, plain: &[u8]) -> Vec<u8> {
+        self.group.startup.1.seal(0, [0xff; 16], plain)
     }
 
     // ---- calls
@@ -689,7 +694,7 @@ impl End {
             session.taken = moment;
             if matches!(session.state, State::HalfOpen { .. }) {
                 session.state = State::Open;
-                out.push(Entry::Fact(Fact::Confirmed { near }));
+                out.push(Entry::Fact(Fact::Confirmed { peer: session.joined.peer, near }));
             }
         }
         let mut walk = Walk::default();
@@ -1007,7 +1012,7 @@ impl End {
             Held::Attempt(old) => self.end_attempt(old, Why::Glare, out),
             Held::Session(old) => {
                 self.sessions.remove(&old);
-                out.push(Entry::Fact(Fact::Ended { near: old, why: Why::Override }));
+                out.push(Entry::Fact(Fact::Ended { peer, near: old, why: Why::Override }));
             }
         }
         let joined = Joined { peer, n: keying.n, near, far: keying.near, ni: keying.ni, nr: draws.nonce, k: self.started };
@@ -1089,7 +1094,7 @@ impl End {
         match self.attempts.remove(&near).map(|attempt| attempt.aim) {
             Some(Aim::AtPeer { peer, .. }) => {
                 self.hold(peer, Held::Nothing);
-                out.push(Entry::Fact(Fact::Ended { near, why }));
+                out.push(Entry::Fact(Fact::Ended { peer, near, why }));
             }
             Some(Aim::ByName(_)) => out.push(Entry::Unsought { near, why }),
             None => {}
@@ -1105,7 +1110,7 @@ impl End {
     fn end_session(&mut self, near: u32, why: Why, out: &mut Vec<Entry>) {
         let peer = self.sessions[&near].joined.peer;
         self.hold(peer, Held::Nothing);
-        out.push(Entry::Fact(Fact::Ended { near, why }));
+        out.push(Entry::Fact(Fact::Ended { peer, near, why }));
     }
 
     /// A closing is over.

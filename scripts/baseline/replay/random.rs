@@ -21,6 +21,9 @@ const RULES: [(Rule, Rule); 4] = [
 ];
 /// How many ends call each other: they can keep twelve sessions and more.
 const CALLERS: usize = 6;
+const MEETING: usize = 3;
+/// Times after which something ends, and shorter ones.
+const LONG: [u64; 8] = [20, 1_000, 5_000, 18_999, 19_000, 20_000, 95_000, 120_000];
 
 struct Script {
     world: World,
@@ -68,6 +71,16 @@ pub fn successions(seed: u64, steps: u64) -> Result<World, (StepFault, u64)> {
     let mut script = Script::new(seed, CALLERS);
     script.disorder = script.draw(30);
     let done = script.meet_by_name().and_then(|()| (0..steps).try_for_each(|_| script.succeed()));
+    done.map_err(|fault| (fault, script.line))?;
+    Ok(script.world)
+}
+
+/// A world of three ends that do little else than begin and end sessions, after a script of so many lines behind those of
+/// the ends: they call and search for each other, hang up, change the group's secret, and time goes on in long steps.
+pub fn meetings(seed: u64, steps: u64) -> Result<World, (StepFault, u64)> {
+    let mut script = Script::new(seed, MEETING);
+    script.disorder = script.draw(30);
+    let done = script.meet_by_name().and_then(|()| (0..steps).try_for_each(|_| script.go_by()));
     done.map_err(|fault| (fault, script.line))?;
     Ok(script.world)
 }
@@ -325,6 +338,41 @@ impl Script {
             8..=40 => self.bring_some(),
             41..=46 => self.step(Step::Tick { end }),
             _ => self.call(),
+        }
+    }
+
+    /// A step of ends that begin and end sessions, of which half bring a datagram.
+    fn go_by(&mut self) -> Result<(), StepFault> {
+        let (end, peer) = (self.end(), self.end());
+        match self.draw(PARTS) {
+            0..=12 => self.step(Step::Open { end, peer, list: vec![address_of(peer)] }),
+            13..=16 => {
+                let name = NAMES[self.draw(MEETING as u64) as usize].as_bytes().to_vec();
+                self.step(Step::Seek { end, name, list: vec![address_of(peer)] })
+            }
+            17..=18 => {
+                let begun = self.world.ends[end].begun();
+                let place = self.draw(begun.len() as u64 + 1) as usize;
+                self.step(Step::Unseek { end, near: begun.get(place).copied().unwrap_or(7) })
+            }
+            19..=20 => {
+                let n = 1 + self.draw(8);
+                self.step(Step::Cancel { end, n })
+            }
+            21..=24 => {
+                let near = self.near(end);
+                self.step(Step::Close { end, near })
+            }
+            25..=28 => {
+                let moment = self.world.moment + LONG[self.draw(LONG.len() as u64) as usize];
+                self.step(Step::At { moment })
+            }
+            29..=40 => self.step(Step::Tick { end }),
+            41 => self.step(Step::Learn { end }),
+            42 => self.step(Step::Advance { end }),
+            43 => self.flow(),
+            44 => self.queue(),
+            _ => self.bring_some(),
         }
     }
 

@@ -7,7 +7,7 @@ use crate::wire::{Address, Host};
 use crate::{JournalLine, Step, World};
 use std::io::{self, BufWriter, Write};
 
-struct At(Address);
+pub struct At(pub Address);
 
 impl std::fmt::Display for At {
     fn fmt(&self, f: &mut std::fmt::Formatter) -> std::fmt::Result {
@@ -35,6 +35,13 @@ pub fn print_script(world: &World) {
             Step::Cancel { end, n } => writeln!(out, "cancel {} {n}", name(end)),
             Step::Close { end, near } => writeln!(out, "close {} {near}", name(end)),
             Step::Deliver { number, end, from } => writeln!(out, "deliver {number} {} {}", name(end), At(*from)),
+            Step::Bent { number, place, end, from } => writeln!(out, "bent {number} {place} {} {}", name(end), At(*from)),
+            Step::Inject { end, from, bytes } => write!(out, "inject {} {} ", name(end), At(*from))
+                .and_then(|()| write_hex(&mut out, bytes))
+                .and_then(|()| writeln!(out)),
+            Step::Forge { end, from, plain } => write!(out, "forge {} {} ", name(end), At(*from))
+                .and_then(|()| write_hex(&mut out, plain))
+                .and_then(|()| writeln!(out)),
             Step::Tick { end } => writeln!(out, "tick {}", name(end)),
             Step::Introduce { end } => writeln!(out, "introduce {}", name(end)),
             Step::Learn { end } => writeln!(out, "learn {}", name(end)),
@@ -145,7 +152,7 @@ fn limit(value: Option<impl std::fmt::Display>) -> String {
 }
 
 /// The digits of some bytes, or a hyphen for none.
-fn write_hex(out: &mut impl Write, bytes: &[u8]) -> io::Result<()> {
+pub fn write_hex(out: &mut impl Write, bytes: &[u8]) -> io::Result<()> {
     const DIGITS: &[u8; 16] = b"0123456789abcdef";
     if bytes.is_empty() {
         return write!(out, "-");
@@ -189,12 +196,12 @@ fn write_fact(out: &mut impl Write, world: &World, fact: &Fact) -> io::Result<()
         }
         Fact::Born(j) => write_joined(out, world, "born", j),
         Fact::Opened(j) => write_joined(out, world, "opened", j),
-        Fact::Confirmed { near } => writeln!(out, "confirmed near={near}"),
-        Fact::Ended { near, why } => writeln!(out, "ended near={near} {}", why_text(*why)),
+        Fact::Confirmed { near, .. } => writeln!(out, "confirmed near={near}"),
+        Fact::Ended { near, why, .. } => writeln!(out, "ended near={near} {}", why_text(*why)),
     }
 }
 
-fn why_text(why: Why) -> &'static str {
+pub fn why_text(why: Why) -> &'static str {
     match why {
         Why::Cancelled => "cancelled",
         Why::Expired => "expired",

@@ -1,4 +1,4 @@
-//! Scripts that are read, line by line: all lines but `bent`, `inject` and `forge`.
+//! Scripts that are read, line by line.
 use crate::flow::Options;
 use crate::places::Rule;
 use crate::wire::{Address, Host};
@@ -26,11 +26,11 @@ fn step(world: &World, word: &str, rest: &str) -> Option<Step> {
         "at" => Step::At { moment: number(words.next()?)? },
         "open" => {
             let (end, peer) = (end(words.next())?, end(words.next())?);
-            Step::Open { end, peer, list: words.by_ref().map(address).collect::<Option<_>>()? }
+            Step::Open { end, peer, list: addresses(&mut words)? }
         }
         "seek" => {
             let (end, name) = (end(words.next())?, bytes(words.next()?).filter(|name| is_service(name))?);
-            Step::Seek { end, name, list: words.by_ref().map(address).collect::<Option<_>>()? }
+            Step::Seek { end, name, list: addresses(&mut words)? }
         }
         "unseek" => Step::Unseek { end: end(words.next())?, near: number(words.next()?)? },
         "cancel" => Step::Cancel { end: end(words.next())?, n: number(words.next()?)? },
@@ -39,6 +39,13 @@ fn step(world: &World, word: &str, rest: &str) -> Option<Step> {
             let number = number(words.next()?).filter(|number| world.was_numbered(*number))?;
             Step::Deliver { number, end: end(words.next())?, from: address(words.next()?)? }
         }
+        "bent" => {
+            let number = number(words.next()?).filter(|number| world.was_numbered(*number))?;
+            let place = crate::script::number(words.next()?)?;
+            Step::Bent { number, place, end: end(words.next())?, from: address(words.next()?)? }
+        }
+        "inject" => Step::Inject { end: end(words.next())?, from: address(words.next()?)?, bytes: bytes(words.next()?)? },
+        "forge" => Step::Forge { end: end(words.next())?, from: address(words.next()?)?, plain: bytes(words.next()?)? },
         "tick" => Step::Tick { end: end(words.next())? },
         "introduce" => Step::Introduce { end: end(words.next())? },
         "learn" => Step::Learn { end: end(words.next())? },
@@ -102,6 +109,11 @@ fn host(text: &str) -> Option<[u8; 4]> {
 fn name(word: &str) -> Option<String> {
     let is_name = (1..=16).contains(&word.len()) && word.bytes().all(|x| x.is_ascii_lowercase() || x.is_ascii_digit());
     is_name.then(|| word.to_owned())
+}
+
+/// At most 32 addresses.
+fn addresses<'a>(words: &mut impl Iterator<Item = &'a str>) -> Option<Vec<Address>> {
+    words.map(address).collect::<Option<Vec<_>>>().filter(|list| list.len() <= 32)
 }
 
 /// The name of a service.
