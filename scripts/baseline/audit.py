@@ -693,8 +693,9 @@ def check_entry(events, place, at, secrets):
     entry = event.entries[at]
     cut = Record(**{**vars(event), "entries": event.entries[:at]})
     log = Log(event.end, events_of(event.end, events[:place]) + [cut], secrets)
+    kind = f"ended {entry.why}" if entry.kind == "ended" else entry.kind
     for words, holds in TABLE[entry.kind](log, event, entry, event.entries[at + 1 :]):
-        refuse_unless(holds, entry.line, "unlawful", words)
+        refuse_unless(holds, entry.line, "unlawful", f"{kind}: {words}")
     if entry.kind in ("started", "born"):
         nonce = entry.ni if entry.kind == "started" else entry.nr
         earlier = nonces_of(Log(None, events[:place] + [cut], secrets))
