@@ -102,11 +102,6 @@ def attempt_with(log, peer):
     return thing if thing and thing.stage == "opening" else None
 
 
-def session_with(log, peer):
-    thing = held(log, peer)
-    return thing if thing and thing.stage != "opening" else None
-
-
 def is_half_open(thing):
     return thing is not None and thing.stage == "half-open"
 

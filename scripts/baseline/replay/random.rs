@@ -341,7 +341,8 @@ impl Script {
         }
     }
 
-    /// A step of ends that begin and end sessions, of which half bring a datagram.
+    /// A step of ends that begin and end sessions, of which half bring a datagram: some to an end that it wasn't sent to, or
+    /// with a bit turned.
     fn go_by(&mut self) -> Result<(), StepFault> {
         let (end, peer) = (self.end(), self.end());
         match self.draw(PARTS) {
@@ -372,6 +373,14 @@ impl Script {
             42 => self.step(Step::Advance { end }),
             43 => self.flow(),
             44 => self.queue(),
+            45..=48 if self.sent > 0 => {
+                let (number, from) = (1 + self.draw(self.sent as u64) as usize, address_of(peer));
+                if self.draw(4) > 0 {
+                    return self.step(Step::Deliver { number, end, from });
+                }
+                let place = self.draw(self.world.sent[number - 1].datagram.len() as u64) as usize;
+                self.step(Step::Bent { number, place, end, from })
+            }
             _ => self.bring_some(),
         }
     }
