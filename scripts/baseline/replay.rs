@@ -76,8 +76,7 @@ pub struct JournalLine {
     /// The end that was called, or that sent what was lost, where there is one.
     pub end: Option<usize>,
     pub lost: Option<Lost>,
-    /// What was brought, and from where.
-    pub brought: Option<(Address, Rc<[u8]>)>,
+    pub datagram: Option<Rc<[u8]>>,
     pub refused: Option<Refusal>,
     pub entries: Vec<Entry>,
 }
@@ -96,6 +95,8 @@ pub struct World {
     by_print: HashMap<Print, usize>,
     moment: u64,
     pub places: Places,
+    /// From where what is carried in a line seems to come.
+    pub arrivals: HashMap<u64, Address>,
     pub journal: Vec<JournalLine>,
     sent: Vec<Sent>,
     /// In which contexts these bytes were sent.
@@ -116,6 +117,7 @@ impl World {
             by_print: HashMap::new(),
             moment: 0,
             places: Places::default(),
+            arrivals: HashMap::new(),
             journal: Vec::new(),
             sent: Vec::new(),
             contexts: HashMap::new(),
@@ -137,7 +139,7 @@ impl World {
 
     fn step(&mut self, line: u64, step: Step) -> Result<(), StepFault> {
         let draws = Draws { nonce: numbers(0, line), tag: numbers(2, line), token: numbers(1, line), word: line as u32 };
-        let (mut brought, mut lost, mut refused, mut entries) = (None, None, None, Vec::new());
+        let (mut datagram, mut lost, mut refused, mut entries) = (None, None, None, Vec::new());
         let end = match &step {
             Step::End { name, max_peers, max_sessions, cert } => {
                 let end = End::new(name.clone(), *max_peers, *max_sessions, cert.clone().into_bytes(), self.groups[0].clone());
@@ -228,7 +230,8 @@ impl World {
                 match self.places.carry(by, to).ok_or(StepFault::BadStep)? {
                     Ok(Arrival { end, from }) => {
                         let bytes = self.sent[*number - 1].datagram.clone();
-                        brought = Some(self.bring(bytes, end, from, &draws, &mut entries)?);
+                        datagram = Some(self.bring(bytes, end, from, &draws, &mut entries)?);
+                        self.arrivals.insert(line, from);
                         Some(end)
                     }
                     Err(why) => {
@@ -239,20 +242,20 @@ impl World {
             }
             Step::Deliver { number, end, from } => {
                 let bytes = self.sent[*number - 1].datagram.clone();
-                brought = Some(self.bring(bytes, *end, *from, &draws, &mut entries)?);
+                datagram = Some(self.bring(bytes, *end, *from, &draws, &mut entries)?);
                 Some(*end)
             }
             Step::Bent { number, place, end, from } => {
                 let mut bytes = self.sent[*number - 1].datagram.to_vec();
                 *bytes.get_mut(*place).ok_or(StepFault::BadStep)? ^= 1;
-                brought = Some(self.bring(bytes.into(), *end, *from, &draws, &mut entries)?);
+                datagram = Some(self.bring(bytes.into(), *end, *from, &draws, &mut entries)?);
                 Some(*end)
             }
             Step::Inject { end, from, bytes } => {
                 if bytes.len() > INJECTED {
                     return Err(StepFault::BadStep);
                 }
-                brought = Some(self.bring(bytes.clone().into(), *end, *from, &draws, &mut entries)?);
+                datagram = Some(self.bring(bytes.clone().into(), *end, *from, &draws, &mut entries)?);
                 Some(*end)
             }
             Step::Forge { end, from, plain } => {
@@ -260,7 +263,7 @@ impl World {
                     return Err(StepFault::BadStep);
                 }
                 let bytes = self.ends[*end].forged(plain).into();
-                brought = Some(self.bring(bytes, *end, *from, &draws, &mut entries)?);
+                datagram = Some(self.bring(bytes, *end, *from, &draws, &mut entries)?);
                 Some(*end)
             }
         };
@@ -272,7 +275,7 @@ impl World {
                 }
             }
         }
-        self.journal.push(JournalLine { line, step, end, lost, brought, refused, entries });
+        self.journal.push(JournalLine { line, step, end, lost, datagram, refused, entries });
         Ok(())
     }
 
@@ -284,17 +287,17 @@ impl World {
         self.groups[generation as usize].clone()
     }
 
-    /// Brings a datagram to an end, and gives what was brought.
+    /// Brings a datagram to an end, and gives its bytes.
     fn bring(
         &mut self, bytes: Rc<[u8]>, end: usize, from: Address, draws: &Draws, out: &mut Vec<Entry>,
-    ) -> Result<(Address, Rc<[u8]>), StepFault> {
+    ) -> Result<Rc<[u8]>, StepFault> {
         let unsealed = self.ends[end].unseal(&bytes);
         // What opens in a context in which it wasn't sent is forged.
         if unsealed.as_ref().is_ok_and(|unsealed| !self.was_sent(&bytes, &unsealed.context)) {
             return Err(StepFault::Forged);
         }
         self.ends[end].receive(from, self.moment, unsealed, draws, out);
-        Ok((from, bytes))
+        Ok(bytes)
     }
 
     fn was_sent(&self, datagram: &[u8], context: &Rc<Context>) -> bool {

@@ -2,6 +2,7 @@
 use crate::crypto::Context;
 use crate::end::{Entry, Fact, Joined};
 use crate::report::{why_text, write_hex, At};
+use crate::wire::Address;
 use crate::{group_secret, numbers, JournalLine, Step, World};
 use std::io::{self, BufWriter, Write};
 
@@ -78,9 +79,9 @@ impl Logs {
 
     fn write_call(&self, out: &mut impl Write, world: &World, line: &JournalLine, end: usize) -> io::Result<()> {
         let tag = numbers(2, line.line);
-        match (&line.brought, &line.step) {
-            (Some((from, datagram)), _) => {
-                write!(out, " receive {} ", At(*from))?;
+        match (&line.datagram, &line.step) {
+            (Some(datagram), _) => {
+                write!(out, " receive {} ", At(source(world, line)))?;
                 write_hex(out, datagram)?;
             }
             (_, Step::Open { peer, .. }) => {
@@ -110,6 +111,14 @@ impl Logs {
     }
 }
 
+/// From where a datagram was brought.
+fn source(world: &World, line: &JournalLine) -> Address {
+    match &line.step {
+        Step::Deliver { from, .. } | Step::Bent { from, .. } | Step::Inject { from, .. } | Step::Forge { from, .. } => *from,
+        _ => world.arrivals[&line.line],
+    }
+}
+
 /// Whether the call takes a moment, whatever came of it.
 fn is_given_a_moment(line: &JournalLine) -> bool {
     has_draws(line) || matches!(line.step, Step::Close { .. })
@@ -117,7 +126,7 @@ fn is_given_a_moment(line: &JournalLine) -> bool {
 
 /// Whether the call takes random values.
 fn has_draws(line: &JournalLine) -> bool {
-    line.brought.is_some() || matches!(line.step, Step::Open { .. } | Step::Seek { .. } | Step::Tick { .. })
+    line.datagram.is_some() || matches!(line.step, Step::Open { .. } | Step::Seek { .. } | Step::Tick { .. })
 }
 
 fn write_entry(out: &mut impl Write, entry: &Entry) -> io::Result<()> {
