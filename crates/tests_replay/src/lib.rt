@@ -11,7 +11,7 @@ mod host;
 #[cfg(test)]
 mod introductions;
 #[cfg(test)]
-mod log_lines;
+mod lines_of_logs;
 #[cfg(test)]
 mod report;
 #[cfg(test)]
