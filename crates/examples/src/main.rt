@@ -1,12 +1,14 @@
 //! Plays the examples, which are the files of this crate's `data`, and tells of each whether what
 //! is written is the report beside it. Its words are the names of the examples. All are scripts,
 //! but for `packets`, whose lines are packets, for texts of rows, each of which is a script with its
-//! report (`flows.rows` and the like), for texts of tables, of rows of two ends by hand
-//! (`flows.tables`), and for tables of a script with one of its calls failing (`handshake.faults`).
+//! report (`flows.rows` and the like), for texts of logs with what an audit says of each
+//! (`glare.audits`), for texts of tables, of rows of two ends by hand (`flows.tables`), and for
+//! tables of a script with one of its calls failing (`handshake.faults`).
 //! The word `library` is no file: it has an end as a library do what README shows, and tells how
 //! much it is to send, tells and drops then.
 #![tactic(auto)]
 
+mod audits;
 mod faults;
 mod rows;
 mod running;
@@ -28,6 +30,9 @@ fn main(rt: HostRuntime) -> Result<(), Fail> {
 fn play(rt: &HostRuntime, name: &str) -> Result<(), Fail> {
     if name.ends_with(".rows") {
         return Ok(play_rows(rt, name)?);
+    }
+    if name.ends_with(".audits") {
+        return Ok(play_audits(rt, name)?);
     }
     if name.ends_with(".tables") {
         return play_tables(rt, name);
@@ -54,6 +59,11 @@ fn play_library(rt: &HostRuntime) -> Result<(), Fail> {
 fn play_rows(rt: &HostRuntime, name: &str) -> io::Result<()> {
     let text = fs::read_to_string(rt, name)?;
     rows::tell_rows(rt, text.as_str())
+}
+
+fn play_audits(rt: &HostRuntime, name: &str) -> io::Result<()> {
+    let text = fs::read_to_string(rt, name)?;
+    audits::tell_rows(rt, text.as_str())
 }
 
 fn play_tables(rt: &HostRuntime, name: &str) -> Result<(), Fail> {
