@@ -9,6 +9,7 @@ mod entries;
 mod fields;
 pub mod laws;
 mod line;
+pub mod pushing;
 mod reading;
 mod texts;
 mod writing;

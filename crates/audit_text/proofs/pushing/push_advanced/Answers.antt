@@ -1,0 +1,8 @@
+use Rattle.rtmfp_text.proofs.Pushes.{push_then}
+use Rattle.audit_text.specs.Grammar.{entry_text}
+use Rattle.audit_text.proofs.Written.{push_only}
+use Rattle.audit_text.proofs.pushing.push_advanced.Goals as goal
+
+pub returns : goal.returns
+unfolding entry_text
+returns c = (push_then _ c.in_ok-push.ensures (push_only _ c.in_ok-push_number.ensures)).joined
