@@ -1,0 +1,4 @@
+pub mod Written
+pub mod Texts
+pub mod Told
+pub mod Rows
