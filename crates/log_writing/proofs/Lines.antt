@@ -6,7 +6,9 @@ use Rattle.rtmfp_text.specs.AddressText.{address_text}
 use Rattle.rtmfp_text.proofs.Pushes.{push_then, push_end}
 use Rattle.crypto_profile.specs.declared.keys.Context.{Context}
 use Rattle.endpoint_model.specs.declared.entry.Entry.{Entry}
-use Rattle.endpoint_model.specs.Event.{Setup, Event}
+use Rattle.endpoint_model.specs.Event.{Setup, Event, moment_at}
+use Rattle.endpoint_laws.specs.Past.{last_moment}
+use Rattle.endpoint_laws.specs.History.{Happened, History, log_of}
 use Rattle.audit_text.specs.declared.line.LogCall.{LogCall}
 use Rattle.audit_text.specs.declared.line.LogCall.TheVariants.{Receive}
 use Rattle.audit_text.specs.declared.line.LogEntry.{LogEntry}
@@ -17,7 +19,7 @@ use Rattle.audit_text.specs.declared.line.LogLine.TheVariants.{Log as LogIs, Eve
 use Rattle.audit_text.specs.Grammar.{call_text, entry_text, line_text}
 use Rattle.audit_text.proofs.Written.{push_only}
 use Rattle.log_writing.specs.Texts.{text_in}
-use Rattle.log_writing.specs.Written.{plain, entry_lines, event_lines, head_line, lines_said, text_of, written_call, written_entry, written_nonce}
+use Rattle.log_writing.specs.Written.{plain, entry_lines, event_lines, head_line, head_lines, journal_lines, journal_text, lines_said, text_of, written_call, written_entry, written_nonce}
 
 -- An origin isn't told.
 pub plain_receive : (from : AddressParts) (datagram : List ℕ) → call_text (Receive from datagram) ≡ call_text (Receive (plain from) datagram)
@@ -75,3 +77,18 @@ head_is name setup head a b c d e f = head_told name setup head.max_peers head.m
 pub head_added : (old mid new name : List ℕ) (head : LogHead) (line : LogLine) → LogIs name head ≡ line → mid ≡ old ++ line_text (LogIs name head) → new ≡ mid ++ codes "\n" → new ≡ old ++ text_of (line ∷ [])
 head_added old mid new name head line is a b =
     (push_then (line_text (LogIs name head)) a (push_end (codes "\n") b)).joined ∙ ap (λ (l : LogLine). old ++ text_of (l ∷ [])) is
+
+-- texts of lines, one after another
+pub texts_joined : (a b : List LogLine) → text_of (a ++ b) ≡ text_of a ++ text_of b
+texts_joined [] b = refl
+texts_joined (line ∷ a) b =
+    ap (λ (xs : List ℕ). line_text line ++ (codes "\n" ++ xs)) (texts_joined a b)
+    ∙ sym (append_assoc (line_text line) (codes "\n" ++ text_of a) (text_of b))
+
+pub event_more : (names : ℕ → List ℕ) (setups : List Setup) (h : Happened) (earlier : History) → journal_text names setups (h ∷ earlier) ≡ journal_text names setups earlier ++
+    text_of (event_lines (names h.who) (moment_at (last_moment 0 (log_of h.who earlier)) h.event) h.event)
+event_more names setups h earlier =
+    let heads = text_of (head_lines names 0 setups) in
+    let lines = event_lines (names h.who) (moment_at (last_moment 0 (log_of h.who earlier)) h.event) h.event in
+    ap (λ (xs : List ℕ). heads ++ xs) (texts_joined (journal_lines names earlier) lines)
+    ∙ sym (append_assoc heads (text_of (journal_lines names earlier)) (text_of lines))
