@@ -1,0 +1,2 @@
+pub mod LinesTold
+pub mod HeadsTold
