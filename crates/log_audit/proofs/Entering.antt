@@ -25,17 +25,6 @@ module _ (secrets : Secrets) (logs : List EndLog) where
     pub many : before + length rest ≡ length logs
     pub kept : AreFirstEnds secrets (setups_of logs) before ends
 
-  pub entering_first : (each : List (List ℕ)) (ends : List KeptEnd) → ArePrints [] each → ends ≡ [] → IsEntering logs 0 each ends
-  entering_first each ends prints none = record {
-    entered = [];
-    prints = prints;
-    pass = λ p. p;
-    fail = λ f p. p;
-    place = λ who. let same : who ≡ 0 + who = omega arith in ap (end_of (setups_of logs)) same;
-    many = omega arith;
-    kept = subst (AreFirstEnds secrets (setups_of logs) 0) (sym none) (no_ends secrets (setups_of logs));
-  }
-
   module _ (log : EndLog) (more : List EndLog) (before : ℕ) (each : List (List ℕ)) (ends : List KeptEnd) where
     pub end_place : IsEntering (log ∷ more) before each ends → end_of (setups_of logs) before ≡ setup_of log
     end_place is = let same : before ≡ before + 0 = omega arith in ap (end_of (setups_of logs)) same ∙ sym (is.place 0)

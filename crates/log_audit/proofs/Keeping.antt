@@ -63,9 +63,6 @@ module _ (secrets : Secrets) (setups : List Setup) where
     pub many : length ends ≡ count
     pub each : (who : ℕ) (e : KeptEnd) → slice_get ends who ≡ Some e → IsEndOf secrets setups [] who e
 
-  pub no_ends : AreFirstEnds 0 []
-  no_ends = record { many = refl; each = λ who e at. absurd (let short = slice_get_within [] who e at in omega (arith, short)) }
-
   pub end_more : (count : ℕ) (ends : List KeptEnd) (e : KeptEnd) → AreFirstEnds count ends → IsEndOf secrets setups [] count e → AreFirstEnds (count + 1) (ends ++ e ∷ [])
   end_more count ends e are is = record { many = length_push ends e ∙ ap (λ n. n + 1) are.many; each = each }
     where

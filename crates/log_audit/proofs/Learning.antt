@@ -34,13 +34,6 @@ module _ (logs : List EndLog) (order : List ℕ) where
     pub at : IsAt logs order rest earlier seen
     pub are : known ≡ secrets_in (setups_of logs) (told (logs_of logs) earlier)
 
-  pub learnt_first : (seen : List ℕ) (start known : Secrets) → AreSeen logs [] seen → start ≡ empty → known ≡ with_firsts (setups_of logs) start → AreLearnt order seen known
-  learnt_first seen start known are none firsts = record {
-    earlier = [];
-    at = at_first logs order seen are;
-    are = firsts ∙ ap (with_firsts (setups_of logs)) none;
-  }
-
   pub learnt_next : IsOrder (logs_of logs) order → (rest seen : List ℕ) (known : Secrets) → 1 ≤ length rest → (so : AreLearnt rest seen known) → IsNext logs order (get_or rest 0 0) so.earlier seen
   learnt_next whole rest seen known some so = at_next logs order (get_or rest 0 0) (take (length rest - 1) (drop 1 rest)) so.earlier seen whole
       (subst (λ (r : List ℕ). IsAt logs order r so.earlier seen) (first_and_rest rest 0 some) so.at)
@@ -60,6 +53,3 @@ module _ (logs : List EndLog) (order : List ℕ) where
             learnt ∙ ap (with_entries (learn_in event.call) event.entries) so.are
             ∙ ap (λ (h : History). secrets_in (setups_of logs) h) (sym (told_next (logs_of logs) who (get_or seen who 0) so.earlier event same next.place));
       }
-
-  pub learnt_last : (seen : List ℕ) (known : Secrets) → AreLearnt [] seen known → known ≡ secrets_in (setups_of logs) (history_of logs order)
-  learnt_last seen known so = so.are ∙ ap (λ (o : List ℕ). secrets_in (setups_of logs) (told (logs_of logs) o)) so.at.follows

@@ -37,18 +37,6 @@ unfolding line_text
 entry_added old mark told new None is a b e = cc
 entry_added old mark told new (Some entry) is a b e = (push_then (codes "+ ") a (push_then (entry_text entry) b (push_end (codes "\n") e))).joined
 
--- the lines of entries, one after another
-pub entries_split : (w : Option LogEntry) (rest : List LogEntry) → text_of (map EntryIs (cons_option w rest)) ≡ text_of (map EntryIs (cons_option w [])) ++ text_of (map EntryIs rest)
-entries_split None rest = refl
-entries_split (Some entry) rest = sym (append_assoc (line_text (EntryIs entry)) (codes "\n" ++ []) (text_of (map EntryIs rest)))
-
-pub entry_then : (old new : List ℕ) (entry : Entry) (rest : List Entry) → new ≡ old ++ text_of (entry_lines (entry ∷ [])) →
-    new ++ text_of (entry_lines rest) ≡ old ++ text_of (entry_lines (entry ∷ rest))
-entry_then old new entry rest e =
-    ap (λ (xs : List ℕ). xs ++ text_of (entry_lines rest)) e
-    ∙ append_assoc old (text_of (entry_lines (entry ∷ []))) (text_of (entry_lines rest))
-    ∙ ap (λ (xs : List ℕ). old ++ xs) (sym (entries_split (written_entry entry) (filter_map written_entry rest)))
-
 -- the lines of an event
 pub event_added : (old front mid ended new name nonce : List ℕ) (moment : ℕ) (call : LogCall) (entries : List Entry) →
     front ++ call_text call ≡ old ++ line_text (EventIs name (record { moment = moment; nonce = nonce; call = call })) →
