@@ -12,7 +12,7 @@ use Rattle.log_audit.specs.declared.ends.KeptEnd.{KeptEnd}
 use Rattle.log_audit.specs.Ends.{AreEndsOf, IsEndOf}
 use Rattle.log_audit.specs.Found.{AreEntered}
 use Rattle.log_audit.proofs.Histories.{length_setups}
-use Rattle.log_audit.proofs.Keeping.{AreFirstEnds, end_more, no_ends}
+use Rattle.log_audit.proofs.Keeping.{AreFirstEnds, end_more}
 
 module _ (secrets : Secrets) (logs : List EndLog) where
   -- So many ends passed, and these come.
