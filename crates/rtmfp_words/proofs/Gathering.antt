@@ -6,32 +6,33 @@ use Rattle.rtmfp_script.proofs.Splits.{some_some, bind_some, only_if-some}
 use Rattle.rtmfp_words.specs.Items.{empty, Item, Plain, Valued, Introduce, Gathered, nothing, of_item, joined, gathered, Scanned, listed, flagged, lists_of, Scans}
 use Rattle.rtmfp_words.specs.ItemReading.{items_of, put, add, add_all, scan_of}
 use Rattle.rtmfp_words.specs.declared.scan.OptionName.{OptionName}
-use Rattle.rtmfp_words.specs.declared.scan.OptionName.TheVariants.{Turns, Port, Instance, Send, Next, Advance}
+use Rattle.rtmfp_words.specs.declared.scan.OptionName.TheVariants.{Turns, Port, Instance, Send, Next, Advance, Journal}
 use Rattle.rtmfp_words.proofs.Texts.{if-some}
 use Rattle.rtmfp_words.proofs.ItemsRead.{items_of-some, items_of-spelled}
 
 -- ---- lists of each kind
 
-lists : List (List ℕ) → List (List ℕ) → List (List ℕ) → List (List ℕ) → List (List ℕ) → List (List ℕ) → List (List ℕ) → List Bool → Gathered
-lists p t o i s n v f = record { plain = p; turns = t; port = o; instance = i; send = s; next = n; advance = v; introduce = f }
+lists : List (List ℕ) → List (List ℕ) → List (List ℕ) → List (List ℕ) → List (List ℕ) → List (List ℕ) → List (List ℕ) → List (List ℕ) → List Bool → Gathered
+lists p t o i s n v j f = record { plain = p; turns = t; port = o; instance = i; send = s; next = n; advance = v; journal = j; introduce = f }
 
-same_gathered : (a b : Gathered) → a.plain ≡ b.plain → a.turns ≡ b.turns → a.port ≡ b.port → a.instance ≡ b.instance → a.send ≡ b.send → a.next ≡ b.next → a.advance ≡ b.advance → a.introduce ≡ b.introduce → a ≡ b
+same_gathered : (a b : Gathered) → a.plain ≡ b.plain → a.turns ≡ b.turns → a.port ≡ b.port → a.instance ≡ b.instance → a.send ≡ b.send → a.next ≡ b.next → a.advance ≡ b.advance → a.journal ≡ b.journal → a.introduce ≡ b.introduce → a ≡ b
 unfolding lists
-same_gathered a b p t o i s n v f =
-    ap (λ x. lists x a.turns a.port a.instance a.send a.next a.advance a.introduce) p
-    ∙ ap (λ x. lists b.plain x a.port a.instance a.send a.next a.advance a.introduce) t
-    ∙ ap (λ x. lists b.plain b.turns x a.instance a.send a.next a.advance a.introduce) o
-    ∙ ap (λ x. lists b.plain b.turns b.port x a.send a.next a.advance a.introduce) i
-    ∙ ap (λ x. lists b.plain b.turns b.port b.instance x a.next a.advance a.introduce) s
-    ∙ ap (λ x. lists b.plain b.turns b.port b.instance b.send x a.advance a.introduce) n
-    ∙ ap (λ x. lists b.plain b.turns b.port b.instance b.send b.next x a.introduce) v
-    ∙ ap (λ x. lists b.plain b.turns b.port b.instance b.send b.next b.advance x) f
+same_gathered a b p t o i s n v j f =
+    ap (λ x. lists x a.turns a.port a.instance a.send a.next a.advance a.journal a.introduce) p
+    ∙ ap (λ x. lists b.plain x a.port a.instance a.send a.next a.advance a.journal a.introduce) t
+    ∙ ap (λ x. lists b.plain b.turns x a.instance a.send a.next a.advance a.journal a.introduce) o
+    ∙ ap (λ x. lists b.plain b.turns b.port x a.send a.next a.advance a.journal a.introduce) i
+    ∙ ap (λ x. lists b.plain b.turns b.port b.instance x a.next a.advance a.journal a.introduce) s
+    ∙ ap (λ x. lists b.plain b.turns b.port b.instance b.send x a.advance a.journal a.introduce) n
+    ∙ ap (λ x. lists b.plain b.turns b.port b.instance b.send b.next x a.journal a.introduce) v
+    ∙ ap (λ x. lists b.plain b.turns b.port b.instance b.send b.next b.advance x a.introduce) j
+    ∙ ap (λ x. lists b.plain b.turns b.port b.instance b.send b.next b.advance b.journal x) f
 
 joined-nothing : (a : Gathered) → joined a nothing ≡ a
-joined-nothing a = same_gathered (joined a nothing) a (append-nil a.plain) (append-nil a.turns) (append-nil a.port) (append-nil a.instance) (append-nil a.send) (append-nil a.next) (append-nil a.advance) (append-nil a.introduce)
+joined-nothing a = same_gathered (joined a nothing) a (append-nil a.plain) (append-nil a.turns) (append-nil a.port) (append-nil a.instance) (append-nil a.send) (append-nil a.next) (append-nil a.advance) (append-nil a.journal) (append-nil a.introduce)
 
 joined-joined : (a b c : Gathered) → joined (joined a b) c ≡ joined a (joined b c)
-joined-joined a b c = same_gathered (joined (joined a b) c) (joined a (joined b c)) (append_assoc a.plain b.plain c.plain) (append_assoc a.turns b.turns c.turns) (append_assoc a.port b.port c.port) (append_assoc a.instance b.instance c.instance) (append_assoc a.send b.send c.send) (append_assoc a.next b.next c.next) (append_assoc a.advance b.advance c.advance) (append_assoc a.introduce b.introduce c.introduce)
+joined-joined a b c = same_gathered (joined (joined a b) c) (joined a (joined b c)) (append_assoc a.plain b.plain c.plain) (append_assoc a.turns b.turns c.turns) (append_assoc a.port b.port c.port) (append_assoc a.instance b.instance c.instance) (append_assoc a.send b.send c.send) (append_assoc a.next b.next c.next) (append_assoc a.advance b.advance c.advance) (append_assoc a.journal b.journal c.journal) (append_assoc a.introduce b.introduce c.introduce)
 
 -- ---- options
 
@@ -77,27 +78,31 @@ unfolding put
 put_lists s t Turns value h =
     let p = only_if-some (is_none s.turns) (record s { turns = Some value }) t h in
     with_lists s (record s { turns = Some value }) t (of_item (Valued Turns value)) (same_gathered (lists_of (record s { turns = Some value })) (joined (lists_of s) (of_item (Valued Turns value)))
-    (sym (append-nil s.plain)) (none_listed s.turns (value ∷ []) p.0) (sym (append-nil (listed s.port))) (sym (append-nil (listed s.instance))) (sym (append-nil (listed s.send))) (sym (append-nil (listed s.next))) (sym (append-nil (listed s.advance))) (sym (append-nil (flagged s.introduce)))) p.1
+    (sym (append-nil s.plain)) (none_listed s.turns (value ∷ []) p.0) (sym (append-nil (listed s.port))) (sym (append-nil (listed s.instance))) (sym (append-nil (listed s.send))) (sym (append-nil (listed s.next))) (sym (append-nil (listed s.advance))) (sym (append-nil (listed s.journal))) (sym (append-nil (flagged s.introduce)))) p.1
 put_lists s t Port value h =
     let p = only_if-some (is_none s.port) (record s { port = Some value }) t h in
     with_lists s (record s { port = Some value }) t (of_item (Valued Port value)) (same_gathered (lists_of (record s { port = Some value })) (joined (lists_of s) (of_item (Valued Port value)))
-    (sym (append-nil s.plain)) (sym (append-nil (listed s.turns))) (none_listed s.port (value ∷ []) p.0) (sym (append-nil (listed s.instance))) (sym (append-nil (listed s.send))) (sym (append-nil (listed s.next))) (sym (append-nil (listed s.advance))) (sym (append-nil (flagged s.introduce)))) p.1
+    (sym (append-nil s.plain)) (sym (append-nil (listed s.turns))) (none_listed s.port (value ∷ []) p.0) (sym (append-nil (listed s.instance))) (sym (append-nil (listed s.send))) (sym (append-nil (listed s.next))) (sym (append-nil (listed s.advance))) (sym (append-nil (listed s.journal))) (sym (append-nil (flagged s.introduce)))) p.1
 put_lists s t Instance value h =
     let p = only_if-some (is_none s.instance) (record s { instance = Some value }) t h in
     with_lists s (record s { instance = Some value }) t (of_item (Valued Instance value)) (same_gathered (lists_of (record s { instance = Some value })) (joined (lists_of s) (of_item (Valued Instance value)))
-    (sym (append-nil s.plain)) (sym (append-nil (listed s.turns))) (sym (append-nil (listed s.port))) (none_listed s.instance (value ∷ []) p.0) (sym (append-nil (listed s.send))) (sym (append-nil (listed s.next))) (sym (append-nil (listed s.advance))) (sym (append-nil (flagged s.introduce)))) p.1
+    (sym (append-nil s.plain)) (sym (append-nil (listed s.turns))) (sym (append-nil (listed s.port))) (none_listed s.instance (value ∷ []) p.0) (sym (append-nil (listed s.send))) (sym (append-nil (listed s.next))) (sym (append-nil (listed s.advance))) (sym (append-nil (listed s.journal))) (sym (append-nil (flagged s.introduce)))) p.1
 put_lists s t Send value h =
     let p = only_if-some (is_none s.send) (record s { send = Some value }) t h in
     with_lists s (record s { send = Some value }) t (of_item (Valued Send value)) (same_gathered (lists_of (record s { send = Some value })) (joined (lists_of s) (of_item (Valued Send value)))
-    (sym (append-nil s.plain)) (sym (append-nil (listed s.turns))) (sym (append-nil (listed s.port))) (sym (append-nil (listed s.instance))) (none_listed s.send (value ∷ []) p.0) (sym (append-nil (listed s.next))) (sym (append-nil (listed s.advance))) (sym (append-nil (flagged s.introduce)))) p.1
+    (sym (append-nil s.plain)) (sym (append-nil (listed s.turns))) (sym (append-nil (listed s.port))) (sym (append-nil (listed s.instance))) (none_listed s.send (value ∷ []) p.0) (sym (append-nil (listed s.next))) (sym (append-nil (listed s.advance))) (sym (append-nil (listed s.journal))) (sym (append-nil (flagged s.introduce)))) p.1
 put_lists s t Next value h =
     let p = only_if-some (is_none s.next) (record s { next = Some value }) t h in
     with_lists s (record s { next = Some value }) t (of_item (Valued Next value)) (same_gathered (lists_of (record s { next = Some value })) (joined (lists_of s) (of_item (Valued Next value)))
-    (sym (append-nil s.plain)) (sym (append-nil (listed s.turns))) (sym (append-nil (listed s.port))) (sym (append-nil (listed s.instance))) (sym (append-nil (listed s.send))) (none_listed s.next (value ∷ []) p.0) (sym (append-nil (listed s.advance))) (sym (append-nil (flagged s.introduce)))) p.1
+    (sym (append-nil s.plain)) (sym (append-nil (listed s.turns))) (sym (append-nil (listed s.port))) (sym (append-nil (listed s.instance))) (sym (append-nil (listed s.send))) (none_listed s.next (value ∷ []) p.0) (sym (append-nil (listed s.advance))) (sym (append-nil (listed s.journal))) (sym (append-nil (flagged s.introduce)))) p.1
 put_lists s t Advance value h =
     let p = only_if-some (is_none s.advance) (record s { advance = Some value }) t h in
     with_lists s (record s { advance = Some value }) t (of_item (Valued Advance value)) (same_gathered (lists_of (record s { advance = Some value })) (joined (lists_of s) (of_item (Valued Advance value)))
-    (sym (append-nil s.plain)) (sym (append-nil (listed s.turns))) (sym (append-nil (listed s.port))) (sym (append-nil (listed s.instance))) (sym (append-nil (listed s.send))) (sym (append-nil (listed s.next))) (none_listed s.advance (value ∷ []) p.0) (sym (append-nil (flagged s.introduce)))) p.1
+    (sym (append-nil s.plain)) (sym (append-nil (listed s.turns))) (sym (append-nil (listed s.port))) (sym (append-nil (listed s.instance))) (sym (append-nil (listed s.send))) (sym (append-nil (listed s.next))) (none_listed s.advance (value ∷ []) p.0) (sym (append-nil (listed s.journal))) (sym (append-nil (flagged s.introduce)))) p.1
+put_lists s t Journal value h =
+    let p = only_if-some (is_none s.journal) (record s { journal = Some value }) t h in
+    with_lists s (record s { journal = Some value }) t (of_item (Valued Journal value)) (same_gathered (lists_of (record s { journal = Some value })) (joined (lists_of s) (of_item (Valued Journal value)))
+    (sym (append-nil s.plain)) (sym (append-nil (listed s.turns))) (sym (append-nil (listed s.port))) (sym (append-nil (listed s.instance))) (sym (append-nil (listed s.send))) (sym (append-nil (listed s.next))) (sym (append-nil (listed s.advance))) (none_listed s.journal (value ∷ []) p.0) (sym (append-nil (flagged s.introduce)))) p.1
 
 flag_joined : (b : Bool) → b ≡ false → true ∷ [] ≡ flagged b ++ true ∷ []
 flag_joined true e = absurd (cc)
@@ -107,12 +112,12 @@ add_lists : (s t : Scanned) (item : Item) → add s item ≡ Some t → lists_of
 unfolding add
 add_lists s t (Plain word) h =
     with_lists s (record s { plain = s.plain ++ word ∷ [] }) t (of_item (Plain word)) (same_gathered (lists_of (record s { plain = s.plain ++ word ∷ [] })) (joined (lists_of s) (of_item (Plain word)))
-    refl (sym (append-nil (listed s.turns))) (sym (append-nil (listed s.port))) (sym (append-nil (listed s.instance))) (sym (append-nil (listed s.send))) (sym (append-nil (listed s.next))) (sym (append-nil (listed s.advance))) (sym (append-nil (flagged s.introduce)))) (some_some _ t h)
+    refl (sym (append-nil (listed s.turns))) (sym (append-nil (listed s.port))) (sym (append-nil (listed s.instance))) (sym (append-nil (listed s.send))) (sym (append-nil (listed s.next))) (sym (append-nil (listed s.advance))) (sym (append-nil (listed s.journal))) (sym (append-nil (flagged s.introduce)))) (some_some _ t h)
 add_lists s t (Valued name value) h = put_lists s t name value h
 add_lists s t Introduce h = elim (if-some s.introduce None (Some (record s { introduce = true })) t h) [
   | inl a ↦ absurd (let e : None ≡ Some t = a.1 in cc)
   | inr a ↦ with_lists s (record s { introduce = true }) t (of_item Introduce) (same_gathered (lists_of (record s { introduce = true })) (joined (lists_of s) (of_item Introduce))
-      (sym (append-nil s.plain)) (sym (append-nil (listed s.turns))) (sym (append-nil (listed s.port))) (sym (append-nil (listed s.instance))) (sym (append-nil (listed s.send))) (sym (append-nil (listed s.next))) (sym (append-nil (listed s.advance))) (flag_joined s.introduce a.0)) (some_some _ t a.1)
+      (sym (append-nil s.plain)) (sym (append-nil (listed s.turns))) (sym (append-nil (listed s.port))) (sym (append-nil (listed s.instance))) (sym (append-nil (listed s.send))) (sym (append-nil (listed s.next))) (sym (append-nil (listed s.advance))) (sym (append-nil (listed s.journal))) (flag_joined s.introduce a.0)) (some_some _ t a.1)
 ]
 
 put_gives : (s t : Scanned) (name : OptionName) (value : List ℕ) (more : Gathered) → lists_of t ≡ joined (joined (lists_of s) (of_item (Valued name value))) more → (u : Scanned) × (put s name value ≡ Some u)
@@ -123,6 +128,7 @@ put_gives s t Instance value more h = (record s { instance = Some value }, ap (�
 put_gives s t Send value more h = (record s { send = Some value }, ap (λ (b : Bool). only_if b (record s { send = Some value })) (free s.send t.send value more.send (ap (λ (g : Gathered). g.send) h)))
 put_gives s t Next value more h = (record s { next = Some value }, ap (λ (b : Bool). only_if b (record s { next = Some value })) (free s.next t.next value more.next (ap (λ (g : Gathered). g.next) h)))
 put_gives s t Advance value more h = (record s { advance = Some value }, ap (λ (b : Bool). only_if b (record s { advance = Some value })) (free s.advance t.advance value more.advance (ap (λ (g : Gathered). g.advance) h)))
+put_gives s t Journal value more h = (record s { journal = Some value }, ap (λ (b : Bool). only_if b (record s { journal = Some value })) (free s.journal t.journal value more.journal (ap (λ (g : Gathered). g.journal) h)))
 
 add_gives : (s t : Scanned) (item : Item) (more : Gathered) → lists_of t ≡ joined (joined (lists_of s) (of_item item)) more → (u : Scanned) × (add s item ≡ Some u)
 unfolding add
@@ -141,20 +147,21 @@ all_lists (item ∷ items) s t h =
     ∙ ap (λ (g : Gathered). joined g (gathered items)) (add_lists s n.0 item n.1)
     ∙ joined-joined (lists_of s) (of_item item) (gathered items)
 
-whole : List (List ℕ) → Option (List ℕ) → Option (List ℕ) → Option (List ℕ) → Option (List ℕ) → Option (List ℕ) → Option (List ℕ) → Bool → Scanned
-whole p t o i s n v f = record { plain = p; turns = t; port = o; instance = i; send = s; next = n; advance = v; introduce = f }
+whole : List (List ℕ) → Option (List ℕ) → Option (List ℕ) → Option (List ℕ) → Option (List ℕ) → Option (List ℕ) → Option (List ℕ) → Option (List ℕ) → Bool → Scanned
+whole p t o i s n v j f = record { plain = p; turns = t; port = o; instance = i; send = s; next = n; advance = v; journal = j; introduce = f }
 
 same_lists : (a b : Scanned) → lists_of a ≡ lists_of b → a ≡ b
 unfolding whole
 same_lists a b e =
-    ap (λ x. whole x a.turns a.port a.instance a.send a.next a.advance a.introduce) (ap (λ (g : Gathered). g.plain) e)
-    ∙ ap (λ x. whole b.plain x a.port a.instance a.send a.next a.advance a.introduce) (same_option a.turns b.turns (ap (λ (g : Gathered). g.turns) e))
-    ∙ ap (λ x. whole b.plain b.turns x a.instance a.send a.next a.advance a.introduce) (same_option a.port b.port (ap (λ (g : Gathered). g.port) e))
-    ∙ ap (λ x. whole b.plain b.turns b.port x a.send a.next a.advance a.introduce) (same_option a.instance b.instance (ap (λ (g : Gathered). g.instance) e))
-    ∙ ap (λ x. whole b.plain b.turns b.port b.instance x a.next a.advance a.introduce) (same_option a.send b.send (ap (λ (g : Gathered). g.send) e))
-    ∙ ap (λ x. whole b.plain b.turns b.port b.instance b.send x a.advance a.introduce) (same_option a.next b.next (ap (λ (g : Gathered). g.next) e))
-    ∙ ap (λ x. whole b.plain b.turns b.port b.instance b.send b.next x a.introduce) (same_option a.advance b.advance (ap (λ (g : Gathered). g.advance) e))
-    ∙ ap (λ x. whole b.plain b.turns b.port b.instance b.send b.next b.advance x) (same_flag a.introduce b.introduce (ap (λ (g : Gathered). g.introduce) e))
+    ap (λ x. whole x a.turns a.port a.instance a.send a.next a.advance a.journal a.introduce) (ap (λ (g : Gathered). g.plain) e)
+    ∙ ap (λ x. whole b.plain x a.port a.instance a.send a.next a.advance a.journal a.introduce) (same_option a.turns b.turns (ap (λ (g : Gathered). g.turns) e))
+    ∙ ap (λ x. whole b.plain b.turns x a.instance a.send a.next a.advance a.journal a.introduce) (same_option a.port b.port (ap (λ (g : Gathered). g.port) e))
+    ∙ ap (λ x. whole b.plain b.turns b.port x a.send a.next a.advance a.journal a.introduce) (same_option a.instance b.instance (ap (λ (g : Gathered). g.instance) e))
+    ∙ ap (λ x. whole b.plain b.turns b.port b.instance x a.next a.advance a.journal a.introduce) (same_option a.send b.send (ap (λ (g : Gathered). g.send) e))
+    ∙ ap (λ x. whole b.plain b.turns b.port b.instance b.send x a.advance a.journal a.introduce) (same_option a.next b.next (ap (λ (g : Gathered). g.next) e))
+    ∙ ap (λ x. whole b.plain b.turns b.port b.instance b.send b.next x a.journal a.introduce) (same_option a.advance b.advance (ap (λ (g : Gathered). g.advance) e))
+    ∙ ap (λ x. whole b.plain b.turns b.port b.instance b.send b.next b.advance x a.introduce) (same_option a.journal b.journal (ap (λ (g : Gathered). g.journal) e))
+    ∙ ap (λ x. whole b.plain b.turns b.port b.instance b.send b.next b.advance b.journal x) (same_flag a.introduce b.introduce (ap (λ (g : Gathered). g.introduce) e))
 
 all_given : (items : List Item) (s t : Scanned) → lists_of t ≡ joined (lists_of s) (gathered items) → add_all s items ≡ Some t
 unfolding add_all

@@ -8,7 +8,7 @@ use Rattle.rtmfp_words.specs.Reading.{behind_of}
 use Rattle.rtmfp_words.specs.Items.{Item, Plain, Valued, Introduce, name_text, is_hyphened, ItemSpells, ItemsSpell}
 use Rattle.rtmfp_words.specs.ItemReading.{name_of, joined_of, single_of, in_front, items_of}
 use Rattle.rtmfp_words.specs.declared.scan.OptionName.{OptionName}
-use Rattle.rtmfp_words.specs.declared.scan.OptionName.TheVariants.{Turns, Port, Instance, Send, Next, Advance}
+use Rattle.rtmfp_words.specs.declared.scan.OptionName.TheVariants.{Turns, Port, Instance, Send, Next, Advance, Journal}
 use Rattle.rtmfp_words.proofs.Texts.{if-some, either-some, behind-some}
 
 -- ---- what is read is spelled
@@ -29,9 +29,12 @@ name_of-some word name h = elim (if-some (bytes_eq word (codes "--turns")) (Some
         | inl a ↦ named word (codes "--send") Send name a.0 refl a.1
         | inr b ↦ elim (if-some (bytes_eq word (codes "--next")) (Some Next) _ name b.1) [
           | inl a ↦ named word (codes "--next") Next name a.0 refl a.1
-          | inr b ↦ elim (if-some (bytes_eq word (codes "--advance")) (Some Advance) None name b.1) [
+          | inr b ↦ elim (if-some (bytes_eq word (codes "--advance")) (Some Advance) _ name b.1) [
             | inl a ↦ named word (codes "--advance") Advance name a.0 refl a.1
-            | inr b ↦ absurd (let e : None ≡ Some name = b.1 in cc)
+            | inr b ↦ elim (if-some (bytes_eq word (codes "--journal")) (Some Journal) None name b.1) [
+              | inl a ↦ named word (codes "--journal") Journal name a.0 refl a.1
+              | inr b ↦ absurd (let e : None ≡ Some name = b.1 in cc)
+            ]
           ]
         ]
       ]
@@ -55,8 +58,11 @@ joined_of-some word p h = elim (either-some _ (λ value. Some (Turns, value)) (b
         | inl a ↦ found_joined word a.0 Send p (behind-some (codes "--send=") word a.0 a.1) a.2
         | inr b ↦ elim (either-some _ (λ value. Some (Next, value)) (behind_of (codes "--next=") word) p b) [
           | inl a ↦ found_joined word a.0 Next p (behind-some (codes "--next=") word a.0 a.1) a.2
-          | inr b ↦ let s = bind_some (behind_of (codes "--advance=") word) (λ value. Some (Advance, value)) p b in
-              found_joined word s.0 Advance p (behind-some (codes "--advance=") word s.0 s.1) s.2
+          | inr b ↦ elim (either-some _ (λ value. Some (Advance, value)) (behind_of (codes "--advance=") word) p b) [
+            | inl a ↦ found_joined word a.0 Advance p (behind-some (codes "--advance=") word a.0 a.1) a.2
+            | inr b ↦ let s = bind_some (behind_of (codes "--journal=") word) (λ value. Some (Journal, value)) p b in
+                found_joined word s.0 Journal p (behind-some (codes "--journal=") word s.0 s.1) s.2
+          ]
         ]
       ]
     ]
@@ -128,6 +134,7 @@ named_first Instance value parts = refl
 named_first Send value parts = refl
 named_first Next value parts = refl
 named_first Advance value parts = refl
+named_first Journal value parts = refl
 
 joined_name : (name : OptionName) (value : List ℕ) → name_of (name_text name ++ codes "=" ++ value) ≡ None
 unfolding name_of
@@ -137,6 +144,7 @@ joined_name Instance value = refl
 joined_name Send value = refl
 joined_name Next value = refl
 joined_name Advance value = refl
+joined_name Journal value = refl
 
 joined_single : (name : OptionName) (value : List ℕ) → single_of (name_text name ++ codes "=" ++ value) ≡ Some (Valued name value)
 unfolding single_of joined_of behind_of
@@ -146,6 +154,7 @@ joined_single Instance value = refl
 joined_single Send value = refl
 joined_single Next value = refl
 joined_single Advance value = refl
+joined_single Journal value = refl
 
 plain_name : (word : List ℕ) → is_hyphened word ≡ false → name_of word ≡ None
 unfolding name_of
@@ -164,6 +173,7 @@ name_alone Instance = refl
 name_alone Send = refl
 name_alone Next = refl
 name_alone Advance = refl
+name_alone Journal = refl
 
 -- an option without its value
 pub name_last : (word : List ℕ) (name : OptionName) → name_of word ≡ Some name → items_of (word ∷ []) ≡ None

@@ -74,26 +74,28 @@ not_true : (b : Bool) → not b ≡ true → b ≡ false
 not_true true h = absurd (cc)
 not_true false h = refl
 
-unfoldable pub options : List (List ℕ) → Option (List ℕ) → Option (List ℕ) → Option (List ℕ) → Option (List ℕ) → Option (List ℕ) → Option (List ℕ) → Bool → Scanned
-options p t o i s n v f = record { plain = p; turns = t; port = o; instance = i; send = s; next = n; advance = v; introduce = f }
+unfoldable pub options : List (List ℕ) → Option (List ℕ) → Option (List ℕ) → Option (List ℕ) → Option (List ℕ) → Option (List ℕ) → Option (List ℕ) → Option (List ℕ) → Bool → Scanned
+options p t o i s n v j f = record { plain = p; turns = t; port = o; instance = i; send = s; next = n; advance = v; journal = j; introduce = f }
 
 -- nothing but these two
 bare_is : (s : Scanned) (turns port : List ℕ) → is_bare s ≡ true → s.turns ≡ Some turns → s.port ≡ Some port → s ≡ record empty { turns = Some turns; port = Some port }
 unfolding options
 bare_is s turns port bare t p =
-    let a = both_true (is_empty s.plain) (is_none s.instance && (is_none s.send && (is_none s.next && (is_none s.advance && not s.introduce)))) bare in
-    let b = both_true (is_none s.instance) (is_none s.send && (is_none s.next && (is_none s.advance && not s.introduce))) a.1 in
-    let c = both_true (is_none s.send) (is_none s.next && (is_none s.advance && not s.introduce)) b.1 in
-    let d = both_true (is_none s.next) (is_none s.advance && not s.introduce) c.1 in
-    let e = both_true (is_none s.advance) (not s.introduce) d.1 in
-    ap (λ x. options x s.turns s.port s.instance s.send s.next s.advance s.introduce) (no_part s.plain a.0)
-    ∙ ap (λ x. options [] x s.port s.instance s.send s.next s.advance s.introduce) t
-    ∙ ap (λ x. options [] (Some turns) x s.instance s.send s.next s.advance s.introduce) p
-    ∙ ap (λ x. options [] (Some turns) (Some port) x s.send s.next s.advance s.introduce) (none_is s.instance b.0)
-    ∙ ap (λ x. options [] (Some turns) (Some port) None x s.next s.advance s.introduce) (none_is s.send c.0)
-    ∙ ap (λ x. options [] (Some turns) (Some port) None None x s.advance s.introduce) (none_is s.next d.0)
-    ∙ ap (λ x. options [] (Some turns) (Some port) None None None x s.introduce) (none_is s.advance e.0)
-    ∙ ap (λ x. options [] (Some turns) (Some port) None None None None x) (not_true s.introduce e.1)
+    let a = both_true (is_empty s.plain) (is_none s.instance && (is_none s.send && (is_none s.next && (is_none s.advance && (is_none s.journal && not s.introduce))))) bare in
+    let b = both_true (is_none s.instance) (is_none s.send && (is_none s.next && (is_none s.advance && (is_none s.journal && not s.introduce)))) a.1 in
+    let c = both_true (is_none s.send) (is_none s.next && (is_none s.advance && (is_none s.journal && not s.introduce))) b.1 in
+    let d = both_true (is_none s.next) (is_none s.advance && (is_none s.journal && not s.introduce)) c.1 in
+    let e = both_true (is_none s.advance) (is_none s.journal && not s.introduce) d.1 in
+    let f = both_true (is_none s.journal) (not s.introduce) e.1 in
+    ap (λ x. options x s.turns s.port s.instance s.send s.next s.advance s.journal s.introduce) (no_part s.plain a.0)
+    ∙ ap (λ x. options [] x s.port s.instance s.send s.next s.advance s.journal s.introduce) t
+    ∙ ap (λ x. options [] (Some turns) x s.instance s.send s.next s.advance s.journal s.introduce) p
+    ∙ ap (λ x. options [] (Some turns) (Some port) x s.send s.next s.advance s.journal s.introduce) (none_is s.instance b.0)
+    ∙ ap (λ x. options [] (Some turns) (Some port) None x s.next s.advance s.journal s.introduce) (none_is s.send c.0)
+    ∙ ap (λ x. options [] (Some turns) (Some port) None None x s.advance s.journal s.introduce) (none_is s.next d.0)
+    ∙ ap (λ x. options [] (Some turns) (Some port) None None None x s.journal s.introduce) (none_is s.advance e.0)
+    ∙ ap (λ x. options [] (Some turns) (Some port) None None None None x s.introduce) (none_is s.journal f.0)
+    ∙ ap (λ x. options [] (Some turns) (Some port) None None None None None x) (not_true s.introduce f.1)
 
 meet_texts : List ℕ → List ℕ → Scanned
 meet_texts turns port = record empty { turns = Some turns; port = Some port }

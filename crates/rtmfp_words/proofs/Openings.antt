@@ -13,13 +13,14 @@ use Rattle.rtmfp_text.specs.AddressText.{address_text}
 use Rattle.rtmfp_text.specs.Words.{bytes_text}
 use Rattle.identity.specs.ServiceNames.{IsServiceName}
 use Rattle.rtmfp_script.specs.Grammar.{IsPlainAddress}
-use Rattle.rtmfp_script.specs.Fields.{◌>>=◌, only_if, digits_of, service_of, split_of, address_of, is_lower_digit}
+use Rattle.rtmfp_script.specs.Fields.{◌>>=◌, only_if, name_of, digits_of, service_of, split_of, address_of, is_lower_digit}
 use Rattle.rtmfp_script.proofs.Splits.{some_some, bind_some, only_if-some, each_is, each_passes, Lacks, split_text, split_joined}
 use Rattle.rtmfp_script.proofs.Digits.{digits_of-some, digits_of-encoded, length-encoded, lower_encoded}
+use Rattle.rtmfp_script.proofs.NamesRead.{name_of-some, name_of-name}
 use Rattle.rtmfp_script.proofs.Addresses.{address_of-some, address_of-text}
 use Rattle.rtmfp_script.proofs.Services.{ascii_bytes, service_of-some, service_of-text}
-use Rattle.rtmfp_words.specs.Node.{AreBytes, IsNodeName, IsWhom, IsOpening, EachIsOpening, IsInstance, IsMessage, IsNext, IsSent, opening_text, whom_text}
-use Rattle.rtmfp_words.specs.NodeReading.{of_digits, is_node_name, node_name_of, whom_of, opening_of, openings_from, Places, places_of, instance_of, message_of, next_of, send_of}
+use Rattle.rtmfp_words.specs.Node.{AreBytes, IsNodeName, IsWhom, IsOpening, EachIsOpening, IsInstance, IsLabel, IsMessage, IsNext, IsSent, opening_text, whom_text}
+use Rattle.rtmfp_words.specs.NodeReading.{of_digits, is_node_name, node_name_of, whom_of, opening_of, openings_from, Places, places_of, instance_of, journal_of, message_of, next_of, send_of}
 use Rattle.rtmfp_words.specs.declared.opening_words.OpeningWords.{OpeningWords}
 use Rattle.rtmfp_words.specs.declared.opening_words.Whom.{Whom}
 use Rattle.rtmfp_words.specs.declared.opening_words.Whom.TheVariants.{Print, Name}
@@ -331,6 +332,20 @@ pub send_of-text : (send : Option (List ℕ)) → IsSent send → send_of (optio
 unfolding send_of
 send_of-text None is = refl
 send_of-text (Some bytes) is = ap (λ (o : Option (List ℕ)). o >>= λ x. Some (Some x)) (message_of-text bytes is)
+
+pub journal_of-some : (value journal : Option (List ℕ)) → journal_of value ≡ Some journal → (value ≡ journal) × IsLabel journal
+unfolding journal_of
+journal_of-some None journal h =
+    subst (λ (x : Option (List ℕ)). (None ≡ x) × IsLabel x) (some_some None journal h) (refl, tt)
+journal_of-some (Some word) journal h =
+    let b = bind_some (name_of word) (λ name. Some (Some name)) journal h in
+    let found = name_of-some word b.0 b.1 in
+    subst (λ (x : Option (List ℕ)). (Some word ≡ x) × IsLabel x) (some_some (Some b.0) journal b.2) (ap (λ (w : List ℕ). Some w) found.0, found.1)
+
+pub journal_of-text : (journal : Option (List ℕ)) → IsLabel journal → journal_of journal ≡ Some journal
+unfolding journal_of
+journal_of-text None is = refl
+journal_of-text (Some label) is = ap (λ (o : Option (List ℕ)). o >>= λ x. Some (Some x)) (name_of-name label is)
 
 -- ---- as the reader of openings tells it
 

@@ -5,7 +5,7 @@ use Rattle.rtmfp_script.specs.Fields.{◌>>=◌, either, only_if}
 use Rattle.rtmfp_words.specs.Reading.{behind_of}
 use Rattle.rtmfp_words.specs.Items.{Item, Plain, Valued, Introduce, Scanned, empty, is_hyphened}
 use Rattle.rtmfp_words.specs.declared.scan.OptionName.{OptionName}
-use Rattle.rtmfp_words.specs.declared.scan.OptionName.TheVariants.{Turns, Port, Instance, Send, Next, Advance}
+use Rattle.rtmfp_words.specs.declared.scan.OptionName.TheVariants.{Turns, Port, Instance, Send, Next, Advance, Journal}
 
 -- the option that has this name
 unfoldable pub name_of : List ℕ → Option OptionName
@@ -16,6 +16,7 @@ name_of word =
     else if bytes_eq word (codes "--send") then Some Send
     else if bytes_eq word (codes "--next") then Some Next
     else if bytes_eq word (codes "--advance") then Some Advance
+    else if bytes_eq word (codes "--journal") then Some Journal
     else None
 
 -- the option that is one word, with its value
@@ -26,7 +27,9 @@ joined_of word =
     (either
     (either
     (either
-    (behind_of (codes "--advance=") word >>= λ value. Some (Advance, value))
+    (either
+    (behind_of (codes "--journal=") word >>= λ value. Some (Journal, value))
+    (λ value. Some (Advance, value)) (behind_of (codes "--advance=") word))
     (λ value. Some (Next, value)) (behind_of (codes "--next=") word))
     (λ value. Some (Send, value)) (behind_of (codes "--send=") word))
     (λ value. Some (Instance, value)) (behind_of (codes "--instance=") word))
@@ -64,6 +67,7 @@ put s Instance value = only_if (is_none s.instance) (record s { instance = Some 
 put s Send value = only_if (is_none s.send) (record s { send = Some value })
 put s Next value = only_if (is_none s.next) (record s { next = Some value })
 put s Advance value = only_if (is_none s.advance) (record s { advance = Some value })
+put s Journal value = only_if (is_none s.journal) (record s { journal = Some value })
 
 unfoldable pub add : Scanned → Item → Option Scanned
 add s (Plain word) = Some (record s { plain = s.plain ++ word ∷ [] })

@@ -2,7 +2,7 @@
 use Rattle.std.specs.Prelude.{◌≡◌, ◌==◌, ℕ, Bool, true, false, List, [], ◌∷◌, ◌++◌, codes, Option, Some, None}
 use Rattle.rtmfp_words.specs.Words.{OptionSpells}
 use Rattle.rtmfp_words.specs.declared.scan.OptionName.{OptionName}
-use Rattle.rtmfp_words.specs.declared.scan.OptionName.TheVariants.{Turns, Port, Instance, Send, Next, Advance}
+use Rattle.rtmfp_words.specs.declared.scan.OptionName.TheVariants.{Turns, Port, Instance, Send, Next, Advance, Journal}
 
 abbrev pub name_text : OptionName → List ℕ
 name_text Turns = codes "--turns"
@@ -11,6 +11,7 @@ name_text Instance = codes "--instance"
 name_text Send = codes "--send"
 name_text Next = codes "--next"
 name_text Advance = codes "--advance"
+name_text Journal = codes "--journal"
 
 -- the word begins with a hyphen
 abbrev pub is_hyphened : List ℕ → Bool
@@ -44,6 +45,7 @@ pub record Gathered : Type 0 where
   pub send : List (List ℕ)
   pub next : List (List ℕ)
   pub advance : List (List ℕ)
+  pub journal : List (List ℕ)
   pub introduce : List Bool
 
 abbrev pub nothing : Gathered
@@ -55,6 +57,7 @@ nothing = record {
   send = [];
   next = [];
   advance = [];
+  journal = [];
   introduce = [];
 }
 
@@ -66,6 +69,7 @@ of_item (Valued Instance value) = record nothing { instance = value ∷ [] }
 of_item (Valued Send value) = record nothing { send = value ∷ [] }
 of_item (Valued Next value) = record nothing { next = value ∷ [] }
 of_item (Valued Advance value) = record nothing { advance = value ∷ [] }
+of_item (Valued Journal value) = record nothing { journal = value ∷ [] }
 of_item Introduce = record nothing { introduce = true ∷ [] }
 
 abbrev pub joined : Gathered → Gathered → Gathered
@@ -77,6 +81,7 @@ joined a b = record {
   send = a.send ++ b.send;
   next = a.next ++ b.next;
   advance = a.advance ++ b.advance;
+  journal = a.journal ++ b.journal;
   introduce = a.introduce ++ b.introduce;
 }
 
@@ -93,6 +98,7 @@ pub record Scanned : Type 0 where
   pub send : Option (List ℕ)
   pub next : Option (List ℕ)
   pub advance : Option (List ℕ)
+  pub journal : Option (List ℕ)
   pub introduce : Bool
 
 abbrev pub empty : Scanned
@@ -104,6 +110,7 @@ empty = record {
   send = None;
   next = None;
   advance = None;
+  journal = None;
   introduce = false;
 }
 
@@ -124,6 +131,7 @@ lists_of s = record {
   send = listed s.send;
   next = listed s.next;
   advance = listed s.advance;
+  journal = listed s.journal;
   introduce = flagged s.introduce;
 }
 

@@ -8,7 +8,7 @@ use Rattle.rtmfp_forms.specs.Address.{AddressParts}
 use Rattle.identity.specs.ServiceNames.{IsServiceName}
 use Rattle.rtmfp_text.specs.AddressText.{address_text}
 use Rattle.rtmfp_text.specs.Words.{bytes_text}
-use Rattle.rtmfp_script.specs.Grammar.{IsPlainAddress}
+use Rattle.rtmfp_script.specs.Grammar.{IsName, IsPlainAddress}
 use Rattle.rtmfp_words.specs.Items.{Scanned, Scans, empty}
 use Rattle.rtmfp_words.specs.declared.opening_words.OpeningWords.{OpeningWords}
 use Rattle.rtmfp_words.specs.declared.opening_words.Whom.{Whom}
@@ -43,7 +43,7 @@ pub record IsMeet (words : List (String Global)) (port turns : ℕ) : Type 0 whe
   pub turns_fit : AreTurns turns
 
 -- ---- `serve BIND GROUP NAME OPENING .. --turns N`, and where wanted `--instance DIGITS`,
--- `--introduce`, `--send HEX`, and `--next DIGITS` with `--advance T` or without
+-- `--introduce`, `--send HEX`, `--next DIGITS` with `--advance T` or without, and `--journal LABEL`
 
 -- what `serve` is told
 pub record Serving : Type 0 where
@@ -59,6 +59,8 @@ pub record Serving : Type 0 where
   pub next : Option (List ℕ)
   -- the turn in which the end goes over to that
   pub advance : Option ℕ
+  -- what a journal calls the end, where one is written in place of the report
+  pub journal : Option (List ℕ)
 
 -- an end is named by the digits of its fingerprint, and a service by `n:` and those of its name
 abbrev pub whom_text : Whom → List ℕ
@@ -78,6 +80,7 @@ serve_items v = record {
   send = option_map encode_lower v.send;
   next = option_map encode_lower v.next;
   advance = option_map decimal v.advance;
+  journal = v.journal;
   introduce = v.introduce;
 }
 
@@ -127,6 +130,10 @@ IsTurnToAdvance next turns None = Unit {0}
 IsTurnToAdvance None turns (Some turn) = ⊥
 IsTurnToAdvance (Some next) turns (Some turn) = (1 ≤ turn) × (turn ≤ turns)
 
+abbrev pub IsLabel : Option (List ℕ) → Type 0
+IsLabel None = Unit {0}
+IsLabel (Some label) = IsName label
+
 pub record IsServe (words : List (String Global)) (v : Serving) : Type 0 where
   pub said : Commands (codes "serve") words (serve_items v)
   pub bind : IsPlainAddress v.bind
@@ -138,3 +145,4 @@ pub record IsServe (words : List (String Global)) (v : Serving) : Type 0 where
   pub send : IsSent v.send
   pub next : IsNext v.group v.next
   pub advance : IsTurnToAdvance v.next v.turns v.advance
+  pub journal : IsLabel v.journal

@@ -2,7 +2,7 @@
 use Rattle.std.specs.Prelude.{ℕ, ◌==◌, ◌&&◌, nat_le, nat_lt, Bool, not, if◌then◌else◌, List, [], ◌∷◌, ◌++◌, length, codes, Option, Some, None, is_none}
 use Rattle.std.specs.Str.{bytes_eq}
 use Rattle.std.specs.List.{list_all}
-use Rattle.rtmfp_script.specs.Fields.{◌>>=◌, either, only_if, number_of, digits_of, service_of, split_of, address_of}
+use Rattle.rtmfp_script.specs.Fields.{◌>>=◌, either, only_if, name_of, number_of, digits_of, service_of, split_of, address_of}
 use Rattle.rtmfp_words.specs.Reading.{head_of, is_empty, behind_of}
 use Rattle.rtmfp_words.specs.Items.{Scanned}
 use Rattle.rtmfp_words.specs.ItemReading.{scan_of}
@@ -37,7 +37,7 @@ port_of s = value_within 1 65533 s.port
 -- nothing but `--port` and `--turns`
 abbrev pub is_bare : Scanned → Bool
 is_bare s = is_empty s.plain && (is_none s.instance && (is_none s.send
-    && (is_none s.next && (is_none s.advance && not s.introduce))))
+    && (is_none s.next && (is_none s.advance && (is_none s.journal && not s.introduce)))))
 
 unfoldable pub meet_from : Scanned → Option MeetWords
 meet_from s =
@@ -121,6 +121,11 @@ advance_of next turns None = Some None
 advance_of None turns (Some word) = None
 advance_of (Some next) turns (Some word) = number_within 1 turns word >>= λ turn. Some (Some turn)
 
+-- what a journal calls the end, where it is told
+unfoldable pub journal_of : Option (List ℕ) → Option (Option (List ℕ))
+journal_of None = Some None
+journal_of (Some word) = name_of word >>= λ name. Some (Some name)
+
 unfoldable pub serve_from : Scanned → Option Serving
 serve_from s =
     if is_none s.port then
@@ -130,6 +135,7 @@ serve_from s =
     send_of s.send >>= λ send.
     next_of p.group s.next >>= λ next.
     advance_of next turns s.advance >>= λ advance.
+    journal_of s.journal >>= λ journal.
     Some (record {
       bind = p.bind;
       group = p.group;
@@ -141,6 +147,7 @@ serve_from s =
       send = send;
       next = next;
       advance = advance;
+      journal = journal;
     }))
     else None
 

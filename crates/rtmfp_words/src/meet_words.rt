@@ -66,6 +66,7 @@ fn is_bare(scan: &Scan) -> bool
         && scan.send.is_none()
         && scan.next.is_none()
         && scan.advance.is_none()
+        && scan.journal.is_none()
         && !scan.introduce
 }
 

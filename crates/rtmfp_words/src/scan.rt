@@ -26,6 +26,8 @@ pub(crate) enum OptionName {
     Next,
     /// `--advance`
     Advance,
+    /// `--journal`
+    Journal,
 }
 
 /// The plain words in their order, and the values of options that stand once at most.
@@ -38,6 +40,7 @@ pub(crate) struct Scan {
     pub(crate) send: Option<Message>,
     pub(crate) next: Option<Message>,
     pub(crate) advance: Option<Message>,
+    pub(crate) journal: Option<Message>,
     pub(crate) introduce: bool,
 }
 
@@ -54,6 +57,7 @@ impl Model for Scan {
       send = s.send;
       next = s.next;
       advance = s.advance;
+      journal = s.journal;
       introduce = s.introduce;
     } };
 }
@@ -70,6 +74,7 @@ impl Scan {
             send: None,
             next: None,
             advance: None,
+            journal: None,
             introduce: false,
         }
     }
@@ -86,6 +91,7 @@ impl Scan {
             OptionName::Send => fill(&mut self.send, value),
             OptionName::Next => fill(&mut self.next, value),
             OptionName::Advance => fill(&mut self.advance, value),
+            OptionName::Journal => fill(&mut self.journal, value),
         }
     }
 
@@ -251,6 +257,9 @@ fn name_of(word: &[u8]) -> Option<OptionName>
     if word == b"--advance".as_slice() {
         return Some(OptionName::Advance);
     }
+    if word == b"--journal".as_slice() {
+        return Some(OptionName::Journal);
+    }
     None
 }
 
@@ -275,8 +284,11 @@ fn joined_of(word: &[u8]) -> Option<(OptionName, &[u8])>
     if let Some(value) = behind(b"--next=", word) {
         return Some((OptionName::Next, value));
     }
-    match behind(b"--advance=", word) {
-        Some(value) => Some((OptionName::Advance, value)),
+    if let Some(value) = behind(b"--advance=", word) {
+        return Some((OptionName::Advance, value));
+    }
+    match behind(b"--journal=", word) {
+        Some(value) => Some((OptionName::Journal, value)),
         None => None,
     }
 }

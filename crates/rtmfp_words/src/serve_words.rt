@@ -2,16 +2,17 @@
 ghost use Rattle.std.specs.Prelude.{◌≡◌, ◌⊎◌, Some, None, Ok, Err, MatchResult, IfOk, map, string_bytes, nat_lt};
 ghost use Rattle.std.specs.List.{list_all};
 ghost use Rattle.rtmfp_words.specs.Node.{IsServe, Serving};
-ghost use Rattle.rtmfp_words.specs.NodeReading.{is_node_name, node_name_of, advance_of, places_of, instance_of, message_of, next_of, of_digits, send_of, serve_from, serve_of};
+ghost use Rattle.rtmfp_words.specs.NodeReading.{is_node_name, node_name_of, advance_of, places_of, instance_of, journal_of, message_of, next_of, of_digits, send_of, serve_from, serve_of};
 
 use crate::fault::WordsFault;
 use crate::meet_words::turns_of;
 use crate::opening_words::{OpeningWords, openings_of, print_of};
 use crate::scan::{Scan, scan_behind};
-use crate::values::number_within;
+use crate::values::{label_of, number_within};
 use rtmfp_base::Message;
 use rtmfp_forms::Address;
 use rtmfp_script::{read_address, read_digits, read_sixteen};
+use rtmfp_text::Name;
 use std::alloc::Global;
 use std::marker::Model;
 
@@ -38,6 +39,9 @@ pub struct ServeWords {
     pub next: Option<[u8; 32]>,
     /// The turn in which the end goes over to that, one of its turns.
     pub advance: Option<u64>,
+    /// What the journal calls the end, where one is written in place of the report: 1 to 16 of a to
+    /// z and 0 to 9.
+    pub journal: Option<Name>,
 }
 
 impl Model for ServeWords {
@@ -56,6 +60,7 @@ impl Model for ServeWords {
       send = s.send;
       next = s.next;
       advance = s.advance;
+      journal = s.journal;
     } };
 }
 
@@ -84,11 +89,12 @@ impl Model for PlaceWords {
 /// What the words after the program's name tell `serve` (own).
 ///
 /// They are `serve BIND GROUP NAME` and openings, with options between them: `--turns N`, which is
-/// needed, and where wanted `--instance` with 32 digits, `--introduce`, `--send HEX`, and `--next`
-/// with 64 digits other than GROUP, with `--advance T` or without, each once at most. BIND is an
-/// address, GROUP is 64 digits, NAME is 1 to 64 ASCII bytes, an opening is 64 digits, or `n:` and
-/// the digits of 1 to 64 ASCII bytes, then `@` and an address, N is 1 to 1,000,000, HEX is 1 to
-/// 1,000 bytes, and T is 1 to N. All digits are lower-case.
+/// needed, and where wanted `--instance` with 32 digits, `--introduce`, `--send HEX`, `--next` with
+/// 64 digits other than GROUP, with `--advance T` or without, and `--journal LABEL`, each once at
+/// most. BIND is an address, GROUP is 64 digits, NAME is 1 to 64 ASCII bytes, an opening is 64
+/// digits, or `n:` and the digits of 1 to 64 ASCII bytes, then `@` and an address, N is 1 to
+/// 1,000,000, HEX is 1 to 1,000 bytes, T is 1 to N, and LABEL is 1 to 16 of a to z and 0 to 9. All
+/// digits are lower-case.
 pub fn read_serve_words(alloc: Global, words: &[String]) -> Result<ServeWords, WordsFault>
     // What is read is said.
     ensures reads { IfOk result (λ v. IsServe words.now v) }
@@ -143,6 +149,9 @@ fn serve_from(alloc: Global, scan: &Scan) -> Result<ServeWords, WordsFault>
     let Some(advance) = advance_of(&next, turns, &scan.advance) else {
         return Err(WordsFault::Faulty);
     };
+    let Some(journal) = journal_of(&scan.journal) else {
+        return Err(WordsFault::Faulty);
+    };
     Ok(ServeWords {
         bind: places.bind,
         group,
@@ -154,6 +163,7 @@ fn serve_from(alloc: Global, scan: &Scan) -> Result<ServeWords, WordsFault>
         send,
         next,
         advance,
+        journal,
     })
 }
 
@@ -264,6 +274,17 @@ fn advance_of(next: &Option<[u8; 32]>, turns: u64, value: &Option<Message>) -> O
             }
             Some(Some(number_within(1, turns, word.bytes())?))
         }
+        None => Some(None),
+    }
+}
+
+/// What the journal calls the end, where it is told.
+#[tactic(auto, unfolding(crate::specs::NodeReading::journal_of))]
+fn journal_of(value: &Option<Message>) -> Option<Option<Name>>
+    ensures { result ≡ journal_of value.now }
+{
+    match value {
+        Some(word) => Some(Some(label_of(word.bytes())?)),
         None => Some(None),
     }
 }
