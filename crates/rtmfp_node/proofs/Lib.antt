@@ -10,3 +10,4 @@ pub mod Running
 pub mod Taken
 pub mod Certified
 pub mod Succeeding
+pub mod Journaling

@@ -5,6 +5,7 @@ use Rattle.rtmfp_host.specs.Ticking.{Clock, after_moment}
 use Rattle.endpoint_model.specs.Event.{Event}
 use Rattle.rtmfp_words.specs.Node.{Serving}
 use Rattle.rtmfp_node.specs.Outside.{Told}
+use Rattle.rtmfp_node.specs.Reached.{Reached}
 use Rattle.rtmfp_node.specs.Turn.{Turns}
 use Rattle.rtmfp_node.specs.Laws.{EachDoneRunIsWhole, EachOtherRunIsCut, EachRunTakesItsPlaces, after_turns}
 
@@ -13,14 +14,14 @@ record TurnsTake (n : ℕ) (x y : Told) : Type 0 where
   blocks : y.blocks ≡ drop n x.blocks
   clock : y.clock ≡ after_turns n x.clock
 
-turns_take : (v : Serving) (n count : ℕ) (x y : Told) (log : List Event) → Turns v n count x y log → TurnsTake n x y
-turns_take v zero count x y log h = record {
+turns_take : (v : Serving) (n : ℕ) (far : Reached) (x y : Told) (log : List Event) → Turns v n far x y log → TurnsTake n x y
+turns_take v zero far x y log h = record {
   left = ap (λ (z : Told). z.line.left) h.0;
   blocks = ap (λ (z : Told). z.blocks) h.0;
   clock = ap (λ (z : Told). z.clock) h.0;
 }
-turns_take v (suc n) count x y log h =
-    let before = turns_take v n count x h.0 h.1 h.3 in
+turns_take v (suc n) far x y log h =
+    let before = turns_take v n far x h.0 h.1 h.3 in
     let turn = h.4 in record {
       left = turn.left ∙ ap (drop 1) before.left ∙ drop-drop 1 n x.line.left ∙ ap (λ k. drop k x.line.left) (add-one n);
       blocks = turn.blocks ∙ ap (drop 1) before.blocks ∙ drop-drop 1 n x.blocks ∙ ap (λ k. drop k x.blocks) (add-one n);

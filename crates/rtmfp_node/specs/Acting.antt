@@ -1,6 +1,6 @@
 -- What the parts of a turn do.
 use Rattle.std.specs.Prelude.{◌≡◌, ◌⊎◌, refl, ℕ, ◌+◌, ◌<◌, List, [], ◌∷◌, ◌++◌, drop, length, take, Option, Some, None}
-use Rattle.std.specs.Coded.{Coded, code_by, coded×, coded_list, coded_ℕ}
+use Rattle.std.specs.Coded.{Coded, code_by, coded×, coded_list, coded_option, coded_ℕ}
 use Rattle.std.specs.FinMap.{code}
 use Rattle.rtmfp_forms.specs.Address.{AddressParts}
 use Rattle.rtmfp_host.specs.Faults.{Rose}
@@ -10,23 +10,27 @@ use Rattle.rtmfp_host.specs.Drawing.{next_block}
 use Rattle.rtmfp_host.specs.Seen.{SinkSeen}
 use Rattle.rtmfp_host.specs.declared.link.Given.{Given}
 use Rattle.rtmfp_host.specs.declared.link.LinkCall.{LinkCall}
+use Rattle.endpoint_model.specs.declared.config.Config.{Config}
 use Rattle.endpoint_model.specs.declared.config.Draws.{Draws}
 use Rattle.endpoint_model.specs.declared.entry.Entry.{Entry}
-use Rattle.endpoint_model.specs.Event.{Call, Event}
+use Rattle.endpoint_model.specs.Event.{Call, Event, Setup}
 use Rattle.endpoint_model.specs.FlowCall.{FlowCall}
 use Rattle.endpoint_model.specs.State.{State}
 use Rattle.endpoint_laws.specs.Laws.{AreCalls}
 use Rattle.endpoint_laws.specs.Contexts.{Secrets}
-use Rattle.rtmfp_report.specs.EntryText.{entries_text, sent_after}
+use Rattle.audit_text.specs.declared.line.LogCall.{LogCall}
+use Rattle.log_writing.specs.Written.{written_call, written_nonce}
 use Rattle.rtmfp_words.specs.Node.{Serving}
 use Rattle.rtmfp_words.specs.declared.opening_words.OpeningWords.{OpeningWords}
 use Rattle.rtmfp_words.specs.declared.opening_words.Whom.{Whom}
 use Rattle.rtmfp_node.specs.declared.served.Served.{Served}
 use Rattle.rtmfp_node.specs.declared.served.Served.TheVariants.{Done, Memory, LinkFault, SinkFault, EntropyFault}
 use Rattle.rtmfp_node.specs.Outside.{Outside, Told, Leaves, Stays}
-use Rattle.rtmfp_node.specs.Report.{events_text, self_name, unsent_text}
+use Rattle.rtmfp_node.specs.declared.sending.Front.{Front}
+use Rattle.rtmfp_node.specs.Reached.{Reached, at_first, reached_after, reached_by}
+use Rattle.rtmfp_node.specs.Report.{added_text, events_text, unsent_text}
 use Rattle.rtmfp_node.specs.Events.{AreMessages, AreSendCalls, AreSuccessions, AreTurnEvents, ExtendsBy, IsCalled, IsFlowCall, IsOpened, draws_of, entries_of}
-use Rattle.rtmfp_node.specs.Turn.{AreSends, Turn, TurnZero, Turns, outs_in}
+use Rattle.rtmfp_node.specs.Turn.{AreSends, Turn, TurnZero, Turns, outs_in, secrets_of}
 use Rattle.rtmfp_node.specs.Cut.{AreFirstSends, CutAtZero, CutBy, IsPart, LinesSoFar}
 
 -- the entries that were added
@@ -35,32 +39,73 @@ added before after = drop (length before) after
 
 -- ---- what is written of a turn
 
--- the group's secrets, how many datagrams went out, and the text that is made
+-- the group's secrets, what a journal calls the end, where one is written, how far the run has
+-- come, and the text that is made
 pub record Noted : Type 0 where
   pub secrets : Secrets
-  pub count : ℕ
+  pub label : Option (List ℕ)
+  pub far : Reached
   pub text : List ℕ
 
 -- it is stored as the tuple of its fields
 abbrev pub noted_code : Coded Noted
 noted_code =
-    code_by (Secrets × (ℕ × List ℕ))
-    (coded× (code coded_ℕ (coded_list coded_ℕ)) (coded× coded_ℕ (coded_list coded_ℕ)))
-    (λ n. (n.secrets, (n.count, n.text)))
-    (λ p. record { secrets = p.0; count = p.1.0; text = p.1.1 })
+    code_by (Secrets × (Option (List ℕ) × (ℕ × (ℕ × List ℕ))))
+    (coded× (code coded_ℕ (coded_list coded_ℕ)) (coded× (coded_option (coded_list coded_ℕ))
+    (coded× coded_ℕ (coded× coded_ℕ (coded_list coded_ℕ)))))
+    (λ n. (n.secrets, (n.label, (n.far.sent, (n.far.moment, n.text)))))
+    (λ p. record {
+      secrets = p.0;
+      label = p.1.0;
+      far = record { sent = p.1.1.0; moment = p.1.1.1.0 };
+      text = p.1.1.1.1;
+    })
     (λ _. refl)
+
+-- what is noted at first, by the words
+abbrev pub noted_first : Serving → Reached → List ℕ → Noted
+noted_first v far text =
+    record { secrets = secrets_of v; label = v.journal; far = far; text = text }
+
+-- An end was given these.
+pub record IsHead (limits : Config) (group cookies bytes : List ℕ) (setup : Setup) : Type 0 where
+  pub config : setup.config ≡ limits
+  pub cert : setup.cert ≡ bytes
+  pub generation : setup.generation ≡ 0
+  pub secret : setup.secret ≡ group
+  pub cookie_secret : setup.cookie_secret ≡ cookies
+
+-- It is what the words say that is noted.
+pub record IsFor (v : Serving) (m : Noted) : Type 0 where
+  pub secrets : m.secrets ≡ secrets_of v
+  pub label : m.label ≡ v.journal
 
 -- a text is begun
 abbrev pub begun : Noted → Noted
-begun m = record { secrets = m.secrets; count = m.count; text = [] }
+begun m = record { secrets = m.secrets; label = m.label; far = m.far; text = [] }
 
--- with the lines of these entries, and then more
-abbrev pub noted_more : ℕ → Noted → List Entry → List ℕ → Noted
-noted_more turn m entries more = record {
+-- with more text
+abbrev pub with_text : Noted → List ℕ → Noted
+with_text m more =
+    record { secrets = m.secrets; label = m.label; far = m.far; text = m.text ++ more }
+
+-- with the lines of what this event added, and then more
+abbrev pub noted_more : ℕ → Noted → Event → List ℕ → Noted
+noted_more turn m e more = record {
   secrets = m.secrets;
-  count = sent_after m.count entries;
-  text = m.text ++ (entries_text m.secrets [] turn self_name m.count entries ++ more);
+  label = m.label;
+  far = reached_by m.far e;
+  text = m.text ++ (added_text m.label m.secrets turn m.far e ++ more);
 }
+
+-- This is what is written of the event: its moment, what its call drew, the call, and what it
+-- added.
+pub record IsSaid (given : ℕ) (drawn : List ℕ) (asked : LogCall) (new : List Entry) (e : Event)
+    : Type 0 where
+  pub moment : e.moment ≡ given
+  pub nonce : written_nonce e.call ≡ drawn
+  pub call : written_call e.call ≡ asked
+  pub entries : e.entries ≡ new
 
 -- ---- the calls of the end
 
@@ -70,8 +115,9 @@ pub record Acts (turn : ℕ) (s t : State) (m n : Noted) (log : List Event) : Ty
   pub sized : AreCalls log
   pub noted : n ≡ record {
     secrets = m.secrets;
-    count = sent_after m.count (entries_of log);
-    text = m.text ++ events_text m.secrets turn m.count log;
+    label = m.label;
+    far = reached_after m.far log;
+    text = m.text ++ events_text m.label m.secrets turn m.far log;
   }
 
 -- and their entries were added to these
@@ -199,57 +245,57 @@ CallsAll (Some before) (Some now) calls =
 
 -- all datagrams among the entries were sent, each once, and a line was written for each that is
 -- lost
-pub record SentAll (turn count : ℕ) (entries : List Entry) (l m : Option Line)
+pub record SentAll (front : Front) (count : ℕ) (entries : List Entry) (l m : Option Line)
     (t u : Option (List ℕ)) : Type 0 where
   pub sends : List LinkCall
   pub sent : AreSends (outs_in entries) sends
   pub calls : CallsAll l m sends
-  pub text : Appends t u (unsent_text turn count sends)
+  pub text : Appends t u (unsent_text front count sends)
 
 -- some of the first were sent, and the lines so far were written
-pub record SentSome (turn count : ℕ) (entries : List Entry) (l m : Option Line)
+pub record SentSome (front : Front) (count : ℕ) (entries : List Entry) (l m : Option Line)
     (t u : Option (List ℕ)) : Type 0 where
   pub sends : List LinkCall
   pub sent : AreFirstSends (outs_in entries) sends
   pub calls : CallsAll l m sends
   pub lines : List ℕ
-  pub so_far : LinesSoFar turn count sends lines
+  pub so_far : LinesSoFar front count sends lines
   pub text : Appends t u lines
 
-abbrev pub SendEnds : Served → ℕ → ℕ → List Entry → Option Line → Option Line →
+abbrev pub SendEnds : Served → Front → ℕ → List Entry → Option Line → Option Line →
     Option (List ℕ) → Option (List ℕ) → Type 0
-SendEnds Done turn count entries l m t u = SentAll turn count entries l m t u
-SendEnds Memory turn count entries l m t u = SentSome turn count entries l m t u
-SendEnds SinkFault turn count entries l m t u = SentSome turn count entries l m t u
-SendEnds LinkFault turn count entries l m t u = ⊥
-SendEnds EntropyFault turn count entries l m t u = ⊥
+SendEnds Done front count entries l m t u = SentAll front count entries l m t u
+SendEnds Memory front count entries l m t u = SentSome front count entries l m t u
+SendEnds SinkFault front count entries l m t u = SentSome front count entries l m t u
+SendEnds LinkFault front count entries l m t u = ⊥
+SendEnds EntropyFault front count entries l m t u = ⊥
 
 -- the report was written, and all was sent
-pub record EmittedAll (turn count : ℕ) (report : List ℕ) (entries : List Entry) (l m : Option Line)
-    (t u : Option (List ℕ)) : Type 0 where
+pub record EmittedAll (front : Front) (count : ℕ) (report : List ℕ) (entries : List Entry)
+    (l m : Option Line) (t u : Option (List ℕ)) : Type 0 where
   pub sends : List LinkCall
   pub sent : AreSends (outs_in entries) sends
   pub calls : CallsAll l m sends
-  pub text : Appends t u (report ++ unsent_text turn count sends)
+  pub text : Appends t u (report ++ unsent_text front count sends)
 
 -- a part of it
-pub record EmittedSome (turn count : ℕ) (report : List ℕ) (entries : List Entry) (l m : Option Line)
-    (t u : Option (List ℕ)) : Type 0 where
+pub record EmittedSome (front : Front) (count : ℕ) (report : List ℕ) (entries : List Entry)
+    (l m : Option Line) (t u : Option (List ℕ)) : Type 0 where
   pub sends : List LinkCall
   pub sent : AreFirstSends (outs_in entries) sends
   pub calls : CallsAll l m sends
   pub part : List ℕ
-  pub is_part : IsPart turn count report sends part
+  pub is_part : IsPart front count report sends part
   pub text : Appends t u part
 
-abbrev pub EmitEnds : Served → ℕ → ℕ → List ℕ → List Entry → Option Line → Option Line →
+abbrev pub EmitEnds : Served → Front → ℕ → List ℕ → List Entry → Option Line → Option Line →
     Option (List ℕ) → Option (List ℕ) → Type 0
-EmitEnds Done turn count report entries l m t u = EmittedAll turn count report entries l m t u
-EmitEnds Memory turn count report entries l m t u = EmittedSome turn count report entries l m t u
-EmitEnds SinkFault turn count report entries l m t u =
-    EmittedSome turn count report entries l m t u
-EmitEnds LinkFault turn count report entries l m t u = ⊥
-EmitEnds EntropyFault turn count report entries l m t u = ⊥
+EmitEnds Done front count report entries l m t u = EmittedAll front count report entries l m t u
+EmitEnds Memory front count report entries l m t u = EmittedSome front count report entries l m t u
+EmitEnds SinkFault front count report entries l m t u =
+    EmittedSome front count report entries l m t u
+EmitEnds LinkFault front count report entries l m t u = ⊥
+EmitEnds EntropyFault front count report entries l m t u = ⊥
 
 -- the sink's count rose where it failed, and else it stays
 abbrev pub CountedAt : Served → ℕ → ℕ → Type 0
@@ -284,68 +330,73 @@ PassOn served result before after =
 -- ---- turns
 
 -- turn 0 was taken whole: its log is there, whatever the objects tell
-pub record ZeroDone (v : Serving) (s t : State) (count : ℕ) (before after : Outside) : Type 0 where
+pub record ZeroDone (v : Serving) (head : List ℕ) (s t : State) (far : Reached)
+    (before after : Outside) : Type 0 where
   pub log : List Event
   pub stands : ExtendsBy s t log
   pub sized : AreCalls log
-  pub counted : count ≡ sent_after 0 (entries_of log)
-  pub leaves : Leaves (λ x y. TurnZero v x y log) before after
+  pub reached : far ≡ reached_after at_first log
+  pub leaves : Leaves (λ x y. TurnZero v head x y log) before after
 
-abbrev pub ZeroEnds : Served → Serving → State → State → ℕ → Outside → Outside → Type 0
-ZeroEnds Done v s t count before after = ZeroDone v s t count before after
-ZeroEnds Memory v s t count before after = Leaves (CutAtZero Memory v s) before after
-ZeroEnds LinkFault v s t count before after = Leaves (CutAtZero LinkFault v s) before after
-ZeroEnds EntropyFault v s t count before after = Leaves (CutAtZero EntropyFault v s) before after
-ZeroEnds SinkFault v s t count before after = Leaves (CutAtZero SinkFault v s) before after
+abbrev pub ZeroEnds : Served → Serving → List ℕ → State → State → Reached → Outside → Outside →
+    Type 0
+ZeroEnds Done v head s t far before after = ZeroDone v head s t far before after
+ZeroEnds Memory v head s t far before after = Leaves (CutAtZero Memory v head s) before after
+ZeroEnds LinkFault v head s t far before after = Leaves (CutAtZero LinkFault v head s) before after
+ZeroEnds EntropyFault v head s t far before after =
+    Leaves (CutAtZero EntropyFault v head s) before after
+ZeroEnds SinkFault v head s t far before after = Leaves (CutAtZero SinkFault v head s) before after
 
 -- a turn
-pub record TurnDone (v : Serving) (turn count : ℕ) (s t : State) (later : ℕ)
+pub record TurnDone (v : Serving) (turn : ℕ) (far : Reached) (s t : State) (later : Reached)
     (before after : Outside) : Type 0 where
   pub log : List Event
   pub stands : ExtendsBy s t log
   pub sized : AreCalls log
-  pub counted : later ≡ sent_after count (entries_of log)
-  pub leaves : Leaves (λ x y. Turn v turn count x y log) before after
+  pub reached : later ≡ reached_after far log
+  pub leaves : Leaves (λ x y. Turn v turn far x y log) before after
 
-abbrev pub TurnEnds : Served → Serving → ℕ → ℕ → State → State → ℕ → Outside → Outside → Type 0
-TurnEnds Done v turn count s t later before after = TurnDone v turn count s t later before after
-TurnEnds Memory v turn count s t later before after =
-    Leaves (CutBy Memory v turn count s) before after
-TurnEnds LinkFault v turn count s t later before after =
-    Leaves (CutBy LinkFault v turn count s) before after
-TurnEnds EntropyFault v turn count s t later before after =
-    Leaves (CutBy EntropyFault v turn count s) before after
-TurnEnds SinkFault v turn count s t later before after =
-    Leaves (CutBy SinkFault v turn count s) before after
+abbrev pub TurnEnds : Served → Serving → ℕ → Reached → State → State → Reached → Outside →
+    Outside → Type 0
+TurnEnds Done v turn far s t later before after = TurnDone v turn far s t later before after
+TurnEnds Memory v turn far s t later before after =
+    Leaves (CutBy Memory v turn far s) before after
+TurnEnds LinkFault v turn far s t later before after =
+    Leaves (CutBy LinkFault v turn far s) before after
+TurnEnds EntropyFault v turn far s t later before after =
+    Leaves (CutBy EntropyFault v turn far s) before after
+TurnEnds SinkFault v turn far s t later before after =
+    Leaves (CutBy SinkFault v turn far s) before after
 
 -- so many turns
-pub record TurnsDone (v : Serving) (turns count : ℕ) (s t : State) (later : ℕ)
+pub record TurnsDone (v : Serving) (turns : ℕ) (far : Reached) (s t : State) (later : Reached)
     (before after : Outside) : Type 0 where
   pub log : List Event
   pub stands : ExtendsBy s t log
   pub sized : AreCalls log
-  pub counted : later ≡ sent_after count (entries_of log)
-  pub leaves : Leaves (λ x y. Turns v turns count x y log) before after
+  pub reached : later ≡ reached_after far log
+  pub leaves : Leaves (λ x y. Turns v turns far x y log) before after
 
 -- fewer than so many turns, and then one that was cut
-pub record TurnsCut (result : Served) (v : Serving) (count : ℕ) (s : State) (x y : Told)
+pub record TurnsCut (result : Served) (v : Serving) (far : Reached) (s : State) (x y : Told)
     : Type 0 where
   pub turns : ℕ
   pub fewer : turns < v.turns
   pub middle : Told
   pub log : List Event
   pub left : State
-  pub whole : Turns v turns count x middle log
+  pub whole : Turns v turns far x middle log
   pub stands : ExtendsBy s left log
   pub sized : AreCalls log
-  pub cut : CutBy result v (turns + 1) (sent_after count (entries_of log)) left middle y
+  pub cut : CutBy result v (turns + 1) (reached_after far log) left middle y
 
-abbrev pub TurnsEnd : Served → Serving → ℕ → State → State → ℕ → Outside → Outside → Type 0
-TurnsEnd Done v count s t later before after = TurnsDone v v.turns count s t later before after
-TurnsEnd Memory v count s t later before after = Leaves (TurnsCut Memory v count s) before after
-TurnsEnd LinkFault v count s t later before after =
-    Leaves (TurnsCut LinkFault v count s) before after
-TurnsEnd EntropyFault v count s t later before after =
-    Leaves (TurnsCut EntropyFault v count s) before after
-TurnsEnd SinkFault v count s t later before after =
-    Leaves (TurnsCut SinkFault v count s) before after
+abbrev pub TurnsEnd : Served → Serving → Reached → State → State → Reached → Outside → Outside →
+    Type 0
+TurnsEnd Done v far s t later before after = TurnsDone v v.turns far s t later before after
+TurnsEnd Memory v far s t later before after = Leaves (TurnsCut Memory v far s) before after
+TurnsEnd LinkFault v far s t later before after =
+    Leaves (TurnsCut LinkFault v far s) before after
+TurnsEnd EntropyFault v far s t later before after =
+    Leaves (TurnsCut EntropyFault v far s) before after
+TurnsEnd SinkFault v far s t later before after =
+    Leaves (TurnsCut SinkFault v far s) before after

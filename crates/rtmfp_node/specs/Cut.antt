@@ -14,7 +14,9 @@ use Rattle.rtmfp_node.specs.declared.served.Served.{Served}
 use Rattle.rtmfp_node.specs.declared.served.Served.TheVariants.{Done, Memory, LinkFault, SinkFault, EntropyFault}
 use Rattle.rtmfp_node.specs.Outside.{Told}
 use Rattle.rtmfp_node.specs.Events.{AreWholeEvents, AreZeroEvents, ExtendsBy, advance_call, draws_of, entries_of}
-use Rattle.rtmfp_node.specs.Report.{events_text, unsent_text}
+use Rattle.rtmfp_node.specs.declared.sending.Front.{Front}
+use Rattle.rtmfp_node.specs.Reached.{Reached, at_first}
+use Rattle.rtmfp_node.specs.Report.{events_text, front_of, unsent_text}
 use Rattle.rtmfp_node.specs.Turn.{AreSends, after_draws, after_wait, outs_in, secrets_of, until_of}
 
 -- A draw and a moment were had, and the receive failed: it took no place. Nothing was written.
@@ -36,25 +38,27 @@ AreFirstSends outs sends = (first rest : List Sending) × (outs ≡ first ++ res
 
 -- What is written of the lines of these sends: those of all but the last one whole, and a part of
 -- that one's. So the line of a lost datagram is written before the next datagram is sent.
-pub record LinesSoFar (turn count : ℕ) (sends : List LinkCall) (lines : List ℕ) : Type 0 where
+pub record LinesSoFar (front : Front) (count : ℕ) (sends : List LinkCall) (lines : List ℕ)
+    : Type 0 where
   pub earlier : List LinkCall
   pub last : List LinkCall
   pub all : sends ≡ earlier ++ last
   pub one : length last ≤ 1
   pub k : ℕ
-  pub part : lines ≡ take k (unsent_text turn count sends)
-  pub whole : length (unsent_text turn count earlier) ≤ k
+  pub part : lines ≡ take k (unsent_text front count sends)
+  pub whole : length (unsent_text front count earlier) ≤ k
 
 -- A part of the report, and nothing was sent yet; or the whole report, and the lines so far of what
 -- was sent.
-abbrev pub IsPart : ℕ → ℕ → List ℕ → List LinkCall → List ℕ → Type 0
-IsPart turn count report sends part =
+abbrev pub IsPart : Front → ℕ → List ℕ → List LinkCall → List ℕ → Type 0
+IsPart front count report sends part =
     ((sends ≡ []) × (k : ℕ) × (part ≡ take k report)) ⊎
-    ((lines : List ℕ) × LinesSoFar turn count sends lines × (part ≡ report ++ lines))
+    ((lines : List ℕ) × LinesSoFar front count sends lines × (part ≡ report ++ lines))
 
--- After what was had before, the writing or the sending of a turn with these events was broken off.
-pub record Breaks (v : Serving) (turn count : ℕ) (before after : Told) (log : List Event)
-    : Type 0 where
+-- After what was had before, the writing of this report or the sending of a turn with these events
+-- was broken off.
+pub record Breaks (front : Front) (count : ℕ) (report : List ℕ) (before after : Told)
+    (log : List Event) : Type 0 where
   pub sends : List LinkCall
   pub sent : AreFirstSends (outs_in (entries_of log)) sends
   pub left : after.line.left ≡ before.line.left
@@ -63,24 +67,29 @@ pub record Breaks (v : Serving) (turn count : ℕ) (before after : Told) (log : 
   pub blocks : after.blocks ≡ before.blocks
   pub part : List ℕ
   pub text : Appends before.text after.text part
-  pub is_part : IsPart turn count (events_text (secrets_of v) turn count log) sends part
+  pub is_part : IsPart front count report sends part
 
 -- A turn that an end began in s made all its calls, and was broken off then.
-pub record Broken (v : Serving) (turn count : ℕ) (s : State) (before after : Told) : Type 0 where
+pub record Broken (v : Serving) (turn : ℕ) (far : Reached) (s : State) (before after : Told)
+    : Type 0 where
   pub log : List Event
   pub left : State
   pub events : AreWholeEvents v.advance turn v.send (next_given before.line.left)
       (next_moment (after_moment before.clock)) (draws_of (next_block before.blocks)) log
   pub stands : ExtendsBy s left log
-  pub breaks : Breaks v turn count (after_wait before) after log
+  pub breaks : Breaks (front_of v.journal turn) far.sent
+      (events_text v.journal (secrets_of v) turn far log) (after_wait before) after log
 
--- the same of turn 0, which waits for nothing
-pub record BrokenAtZero (v : Serving) (s : State) (before after : Told) : Type 0 where
+-- the same of turn 0, which waits for nothing, with what stands in front of its lines
+pub record BrokenAtZero (v : Serving) (head : List ℕ) (s : State) (before after : Told)
+    : Type 0 where
   pub log : List Event
   pub left : State
   pub events : AreZeroEvents v.next v.openings (next_moment before.clock) before.blocks log
   pub stands : ExtendsBy s left log
-  pub breaks : Breaks v 0 0 (after_draws (length v.openings) before) after log
+  pub breaks : Breaks (front_of v.journal 0) 0
+      (head ++ events_text v.journal (secrets_of v) 0 at_first log)
+      (after_draws (length v.openings) before) after log
 
 -- The turn is that of the advance.
 abbrev pub Advances : Serving → ℕ → Type 0
@@ -89,14 +98,14 @@ Advances v turn = IsSome (advance_call v.advance turn)
 -- How a turn, which an end began in s, ends with each fault, and for want of memory. Before the draw
 -- nothing is had from outside, so all there is as it was where the draw fails, or where the advance
 -- found no memory.
-abbrev pub CutBy : Served → Serving → ℕ → ℕ → State → Told → Told → Type 0
-CutBy Done v turn count s before after = ⊥
-CutBy Memory v turn count s before after =
+abbrev pub CutBy : Served → Serving → ℕ → Reached → State → Told → Told → Type 0
+CutBy Done v turn far s before after = ⊥
+CutBy Memory v turn far s before after =
     (Advances v turn × (after ≡ before)) ⊎
-    ((after ≡ after_wait before) ⊎ Broken v turn count s before after)
-CutBy LinkFault v turn count s before after = after ≡ after_fault before
-CutBy EntropyFault v turn count s before after = after ≡ before
-CutBy SinkFault v turn count s before after = Broken v turn count s before after
+    ((after ≡ after_wait before) ⊎ Broken v turn far s before after)
+CutBy LinkFault v turn far s before after = after ≡ after_fault before
+CutBy EntropyFault v turn far s before after = after ≡ before
+CutBy SinkFault v turn far s before after = Broken v turn far s before after
 
 -- Turn 0 made some of its openings, and then a draw failed: it took no block.
 abbrev pub DrawFails : Serving → Told → Told → Type 0
@@ -113,10 +122,10 @@ abbrev pub LearnFails : Serving → Told → Told → Type 0
 LearnFails v before after = IsSome v.next × (after ≡ after_draws 0 before)
 
 -- how turn 0 ends; it waits for nothing
-abbrev pub CutAtZero : Served → Serving → State → Told → Told → Type 0
-CutAtZero Done v s before after = ⊥
-CutAtZero Memory v s before after =
-    LearnFails v before after ⊎ (OpenFails v before after ⊎ BrokenAtZero v s before after)
-CutAtZero LinkFault v s before after = ⊥
-CutAtZero EntropyFault v s before after = DrawFails v before after
-CutAtZero SinkFault v s before after = BrokenAtZero v s before after
+abbrev pub CutAtZero : Served → Serving → List ℕ → State → Told → Told → Type 0
+CutAtZero Done v head s before after = ⊥
+CutAtZero Memory v head s before after =
+    LearnFails v before after ⊎ (OpenFails v before after ⊎ BrokenAtZero v head s before after)
+CutAtZero LinkFault v head s before after = ⊥
+CutAtZero EntropyFault v head s before after = DrawFails v before after
+CutAtZero SinkFault v head s before after = BrokenAtZero v head s before after

@@ -1,9 +1,11 @@
 pub mod Outside
-pub mod Report
 pub mod Events
 pub mod Calls
+pub mod Reached
+pub mod Report
 pub mod Turn
 pub mod Cut
 pub mod Whole
 pub mod Acting
 pub mod Laws
+pub mod Journal

@@ -1,42 +1,19 @@
 -- How a run of a node ends.
-use Rattle.std.specs.Prelude.{◌≡◌, ◌⊎◌, ℕ, ◌+◌, ◌<◌, List, ◌++◌, drop, take, Option, Some, None}
+use Rattle.std.specs.Prelude.{◌≡◌, ◌⊎◌, ℕ, ◌+◌, ◌<◌, List}
 use Rattle.rtmfp_host.specs.Drawing.{next_block}
-use Rattle.endpoint_model.specs.declared.config.Config.{Config}
-use Rattle.endpoint_model.specs.Event.{Setup, Event}
+use Rattle.endpoint_model.specs.Event.{Event}
 use Rattle.endpoint_model.specs.State.{State, fresh}
 use Rattle.endpoint_model.specs.Log.{StandsFor}
 use Rattle.endpoint_laws.specs.Contexts.{Secrets, Knows}
 use Rattle.endpoint_laws.specs.Past.{past_of_log}
 use Rattle.endpoint_laws.specs.Lawful.{IsLawful}
-use Rattle.rtmfp_report.specs.EntryText.{sent_after}
 use Rattle.rtmfp_words.specs.Node.{Serving}
 use Rattle.rtmfp_node.specs.declared.served.Served.{Served}
 use Rattle.rtmfp_node.specs.declared.served.Served.TheVariants.{Done, Memory, LinkFault, SinkFault, EntropyFault}
 use Rattle.rtmfp_node.specs.Outside.{Outside, Told, Leaves}
-use Rattle.rtmfp_node.specs.Events.{entries_of}
-use Rattle.rtmfp_node.specs.Turn.{Run, after_bind}
+use Rattle.rtmfp_node.specs.Reached.{at_first, reached_after}
+use Rattle.rtmfp_node.specs.Turn.{Run, after_bind, head_of, setup_of}
 use Rattle.rtmfp_node.specs.Cut.{CutAtZero, CutBy}
-
--- ---- what the end is given
-
--- the first bytes of the certificate: those of the words, or the first of the first block
-abbrev pub instance_in : Option (List ℕ) → List ℕ → List ℕ
-instance_in None block = take 16 block
-instance_in (Some bytes) block = bytes
-
-abbrev pub config_of : Serving → Config
-config_of v = record { max_peers = 65536; max_sessions = 4096; introduces = v.introduce }
-
--- The certificate and the cookie secret come of the first block. The words have the group's secret,
--- which is that of its first generation; the next one is learnt in turn 0.
-abbrev pub setup_of : Serving → List ℕ → Setup
-setup_of v block = record {
-  config = config_of v;
-  cert = instance_in v.instance block ++ v.name;
-  generation = 0;
-  secret = v.group;
-  cookie_secret = take 32 (drop 16 block);
-}
 
 -- ---- runs
 
@@ -58,13 +35,14 @@ abbrev pub CutAtStart : Served → Serving → Told → Told → Type 0
 CutAtStart Done v before after = ⊥
 CutAtStart LinkFault v before after = after ≡ after_bind v before
 CutAtStart EntropyFault v before after = (after ≡ before) ⊎
-    CutAtZero EntropyFault v (fresh (setup_of v (next_block before.blocks))) (after_bind v before)
-    after
+    CutAtZero EntropyFault v (head_of v (next_block before.blocks))
+    (fresh (setup_of v (next_block before.blocks))) (after_bind v before) after
 CutAtStart Memory v before after = (after ≡ after_bind v before) ⊎
-    CutAtZero Memory v (fresh (setup_of v (next_block before.blocks))) (after_bind v before) after
+    CutAtZero Memory v (head_of v (next_block before.blocks))
+    (fresh (setup_of v (next_block before.blocks))) (after_bind v before) after
 CutAtStart SinkFault v before after =
-    CutAtZero SinkFault v (fresh (setup_of v (next_block before.blocks))) (after_bind v before)
-    after
+    CutAtZero SinkFault v (head_of v (next_block before.blocks))
+    (fresh (setup_of v (next_block before.blocks))) (after_bind v before) after
 
 -- Turn 0 and some turns were taken whole, and the next one was cut.
 pub record CutLater (result : Served) (v : Serving) (before after : Told) : Type 0 where
@@ -72,7 +50,7 @@ pub record CutLater (result : Served) (v : Serving) (before after : Told) : Type
   pub fewer : turns < v.turns
   pub middle : Told
   pub ran : Ran v turns before middle
-  pub cut : CutBy result v (turns + 1) (sent_after 0 (entries_of ran.log)) ran.state middle after
+  pub cut : CutBy result v (turns + 1) (reached_after at_first ran.log) ran.state middle after
 
 abbrev pub CutRun : Served → Serving → Told → Told → Type 0
 CutRun result v before after = CutAtStart result v before after ⊎ CutLater result v before after

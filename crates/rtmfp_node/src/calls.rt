@@ -1,13 +1,15 @@
-//! The calls of the end, each with its report.
+//! The calls of the end, each with what is written of it.
 ghost use Rattle.std.specs.Prelude.{◌≡◌, ◌≤◌, ◌∷◌, [], IsSome, OnErr, OnOk, drop, length};
-ghost use Rattle.endpoint_model.specs.Event.{Done, Receive, Tick};
-ghost use Rattle.rtmfp_node.specs.Acting.{ActsIn, DidCall, DidOpen, Succeeded, added, noted_more};
+ghost use Rattle.endpoint_model.specs.Event.{Done, Event, Receive, Tick};
+ghost use Rattle.log_writing.specs.Written.{no_nonce, said};
+ghost use Rattle.rtmfp_node.specs.Acting.{ActsIn, DidCall, DidOpen, IsSaid, Succeeded, added, noted_more};
 ghost use Rattle.rtmfp_node.specs.Events.{advance_call, event_of, learn_call, opens_flow, queues};
 
 use crate::notes::Notes;
 use endpoint::sizes::{are_bytes, are_sized, are_thirty_two};
 use endpoint::{Draws, Endpoint, MessageOptions, Outbox};
 use identity::{Epd, ServiceName};
+use log_writing::SaidCall;
 use rtmfp_forms::Address;
 use rtmfp_words::{OpeningWords, Whom};
 use std::alloc::AllocError;
@@ -18,14 +20,40 @@ const PRIORITY: u8 = 4;
 /// The metadata of that flow.
 const METADATA: &[u8] = b"m";
 
-/// Notes the entries behind the first ones.
-fn note(turn: u64, before: usize, out: &Outbox, notes: &mut Notes) -> Result<(), AllocError>
+/// What a call draws that draws nothing.
+const NO_NONCE: [u8; 16] = [0; 16];
+
+/// Notes an event that added the entries behind the first ones.
+fn note(
+    turn: u64,
+    moment: u64,
+    nonce: &[u8; 16],
+    call: &SaidCall<'_>,
+    before: usize,
+    out: &Outbox,
+    notes: &mut Notes,
+) -> Result<(), AllocError>
     requires { before ≤ length out.now.entries }
-    ensures { OnOk result (notes.new ≡ noted_more turn notes.old (drop before out.now.entries)
-        []) }
+    ensures { OnOk result ((e : Event) → IsSaid moment nonce.now (said call.now)
+        (drop before out.now.entries) e → notes.new ≡ noted_more turn notes.old e []) }
 {
     let (_, added) = out.entries().split_at(before);
-    notes.add(turn, added)
+    notes.add(turn, moment, nonce, call, added)
+}
+
+/// Notes an event whose call draws nothing and is given no moment.
+fn note_bare(
+    turn: u64,
+    call: &SaidCall<'_>,
+    before: usize,
+    out: &Outbox,
+    notes: &mut Notes,
+) -> Result<(), AllocError>
+    requires { before ≤ length out.now.entries }
+    ensures { OnOk result ((e : Event) → IsSaid 0 no_nonce (said call.now)
+        (drop before out.now.entries) e → notes.new ≡ noted_more turn notes.old e []) }
+{
+    note(turn, 0, &NO_NONCE, call, before, out, notes)
 }
 
 /// Takes a datagram.
@@ -47,10 +75,18 @@ pub(crate) fn receive(
     are_bytes(datagram);
     are_sized(draws);
     let before = out.entries().len();
+    // The end opens a datagram in place, and a journal tells how it came.
+    let mut room = [0; 2048];
+    let (came, _) = room.split_at_mut(datagram.len());
+    came.copy_from_slice(datagram);
     let Ok(()) = end.receive(from, moment, datagram, draws, out) else {
         return Err(AllocError);
     };
-    note(turn, before, out, notes)?;
+    let call = SaidCall::Receive {
+        from: &from,
+        datagram: came,
+    };
+    note(turn, moment, &draws.nonce, &call, before, out, notes)?;
     Ok(())
 }
 
@@ -71,7 +107,8 @@ pub(crate) fn tick(
     let Ok(()) = end.tick(moment, draws, out) else {
         return Err(AllocError);
     };
-    note(turn, before, out, notes)?;
+    let call = SaidCall::Tick;
+    note(turn, moment, &draws.nonce, &call, before, out, notes)?;
     Ok(())
 }
 
@@ -112,7 +149,11 @@ fn open_end(
     let candidates = [*at];
     let epd = Epd { print: *print };
     let answer = end.open(&epd, &candidates, moment, draws, out);
-    note(0, before, out, notes)?;
+    let call = SaidCall::Open {
+        peer: print,
+        tag: &draws.tag,
+    };
+    note(0, moment, &draws.nonce, &call, before, out, notes)?;
     notes.settle_open(0, answer)?;
     Ok(())
 }
@@ -136,7 +177,11 @@ fn seek_name(
     let before = out.entries().len();
     let candidates = [*at];
     let answer = end.seek(name, &candidates, moment, draws, out);
-    note(0, before, out, notes)?;
+    let call = SaidCall::Seek {
+        name,
+        tag: &draws.tag,
+    };
+    note(0, moment, &draws.nonce, &call, before, out, notes)?;
     notes.settle_seek(0, answer)?;
     Ok(())
 }
@@ -158,7 +203,7 @@ pub(crate) fn learn(
     are_thirty_two(secret);
     let before = out.entries().len();
     let answer = end.learn(*secret, out);
-    note(0, before, out, notes)?;
+    note_bare(0, &SaidCall::Learn { secret }, before, out, notes)?;
     notes.settle_succession(0, answer)?;
     Ok(())
 }
@@ -183,7 +228,7 @@ pub(crate) fn advance(
     }
     let before = out.entries().len();
     let answer = end.advance(out);
-    note(turn, before, out, notes)?;
+    note_bare(turn, &SaidCall::Advance, before, out, notes)?;
     notes.settle_succession(turn, answer)?;
     Ok(())
 }
@@ -201,7 +246,7 @@ pub(crate) fn open_flow(
 {
     let before = out.entries().len();
     let answer = end.open_flow(near, PRIORITY, METADATA, None, out);
-    note(turn, before, out, notes)?;
+    note_bare(turn, &SaidCall::Other, before, out, notes)?;
     notes.settle_call(turn, answer)?;
     Ok(())
 }
@@ -224,7 +269,7 @@ pub(crate) fn queue(
         resends: None,
     };
     let answer = end.queue(near, 0, message, options, out);
-    note(turn, before, out, notes)?;
+    note_bare(turn, &SaidCall::Other, before, out, notes)?;
     notes.settle_call(turn, answer)?;
     Ok(())
 }

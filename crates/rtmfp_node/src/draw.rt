@@ -6,7 +6,7 @@ ghost use Rattle.rtmfp_words.specs.Node.{IsNodeName};
 ghost use Rattle.rtmfp_node.specs.Acting.{Drew, DrewSome};
 ghost use Rattle.rtmfp_node.specs.Events.{draws_of};
 ghost use Rattle.rtmfp_node.specs.Outside.{Stays};
-ghost use Rattle.rtmfp_node.specs.Whole.{instance_in};
+ghost use Rattle.rtmfp_node.specs.Turn.{instance_in};
 
 use endpoint::Draws;
 use identity::Certificate;

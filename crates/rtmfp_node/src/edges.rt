@@ -14,7 +14,7 @@ ghost use Rattle.endpoint_model.specs.declared.answers.OpenRefusal.TheVariants.{
 ghost use Rattle.glare_core.specs.declared.answers.StartRefusal.TheVariants.{AttemptsSpent};
 ghost use Rattle.endpoint_model.specs.declared.entry.Entry.TheVariants.{Closed, Fact as FactEntry};
 ghost use Rattle.endpoint_model.specs.declared.config.Draws.{Draws};
-ghost use Rattle.endpoint_model.specs.Event.{Advance, Event, Learn, NotOpened, Open, Receive, Seek, Tick};
+ghost use Rattle.endpoint_model.specs.Event.{Advance, Event, Learn, NotOpened, Open, Receive, Seek, Setup, Tick};
 ghost use Rattle.endpoint_model.specs.FlowCall.{OpenFlow, Queue};
 ghost use Rattle.rtmfp_words.specs.Node.{Serving};
 ghost use Rattle.rtmfp_words.specs.declared.opening_words.OpeningWords.{OpeningWords};
@@ -23,10 +23,12 @@ ghost use Rattle.rtmfp_node.specs.declared.served.Served.TheVariants.{EntropyFau
 ghost use Rattle.rtmfp_node.specs.Calls.{asked, calls_in, first_added, message_calls, opening_calls};
 ghost use Rattle.rtmfp_node.specs.Cut.{IsPart, LinesSoFar};
 ghost use Rattle.rtmfp_node.specs.Events.{AreOpened, AreTurnEvents, AreWholeEvents, AreZeroEvents, advance_call, draws_of, learn_call, opened_in, opening_call, opens_flow, queues};
+ghost use Rattle.rtmfp_node.specs.declared.sending.Front.{Front};
+ghost use Rattle.rtmfp_node.specs.declared.sending.Front.TheVariants.{InJournal, InReport};
 ghost use Rattle.rtmfp_node.specs.Outside.{Told};
-ghost use Rattle.rtmfp_node.specs.Report.{refused_text, unsent_line, unsent_text};
-ghost use Rattle.rtmfp_node.specs.Turn.{until_of};
-ghost use Rattle.rtmfp_node.specs.Whole.{CutAtStart, setup_of};
+ghost use Rattle.rtmfp_node.specs.Report.{head_text, refused_text, unsent_line, unsent_text};
+ghost use Rattle.rtmfp_node.specs.Turn.{setup_of, until_of};
+ghost use Rattle.rtmfp_node.specs.Whole.{CutAtStart};
 
 /// A receive waits 50 ms, and not beyond the last moment.
 pub fn a_receive_waits_50_ms()
@@ -129,13 +131,13 @@ pub fn a_node_draws_before_it_binds()
 /// Of a turn that was broken off the whole report is there where anything was sent, and the line of
 /// a lost datagram where another was sent after it.
 pub fn a_turn_writes_before_it_sends_on()
-    ensures report { (turn count : ℕ) (report part : List ℕ) (call : LinkCall)
-        (calls : List LinkCall) → IsPart turn count report (call ∷ calls) part →
+    ensures report { (front : Front) (count : ℕ) (report part : List ℕ) (call : LinkCall)
+        (calls : List LinkCall) → IsPart front count report (call ∷ calls) part →
         take (length report) part ≡ report }
-    ensures lost { (turn count : ℕ) (to : AddressParts) (datagram : List ℕ) (call : LinkCall)
-        (calls : List LinkCall) (lines : List ℕ) →
-        LinesSoFar turn count (Send to datagram false ∷ call ∷ calls) lines →
-        take (length (unsent_line turn (count + 1))) lines ≡ unsent_line turn (count + 1) }
+    ensures lost { (front : Front) (count : ℕ) (to : AddressParts) (datagram : List ℕ)
+        (call : LinkCall) (calls : List LinkCall) (lines : List ℕ) →
+        LinesSoFar front count (Send to datagram false ∷ call ∷ calls) lines →
+        take (length (unsent_line front (count + 1))) lines ≡ unsent_line front (count + 1) }
 {}
 
 /// A flow for a message has priority 4 and the one byte 0x6d as metadata; the message goes into
@@ -150,13 +152,13 @@ pub fn a_message_goes_to_each_opened_session()
 
 /// Lines begin with the turn and `self`. A datagram that is lost has its number in the run.
 pub fn lines_are_told_of_self()
-    ensures unsent { (turn number : ℕ) → unsent_line turn number
+    ensures unsent { (turn number : ℕ) → unsent_line (InReport turn) number
         ≡ (decimal turn ++ codes " self ") ++ (codes "unsent " ++ (decimal number ++ codes "\n")) }
-    ensures refused { (turn : ℕ) → refused_text turn (NotOpened (Start AttemptsSpent))
+    ensures refused { (turn : ℕ) → refused_text None turn (NotOpened (Start AttemptsSpent))
         ≡ (decimal turn ++ codes " self ") ++ codes "refused attempts-spent\n" }
-    ensures numbers { (a : AddressParts) (b : List ℕ) → unsent_text 7 10
+    ensures numbers { (front : Front) (a : AddressParts) (b : List ℕ) → unsent_text front 10
         (Send a b false ∷ Send a b true ∷ Send a b false ∷ [])
-        ≡ unsent_line 7 11 ++ (unsent_line 7 13 ++ []) }
+        ≡ unsent_line front 11 ++ (unsent_line front 13 ++ []) }
 {}
 
 /// An end learns the next secret in turn 0 where the words have one, and goes over to it in their turn
@@ -182,4 +184,14 @@ pub fn what_succeeds_comes_first()
         AreWholeEvents advance turn message given moment draws log →
         (others : List Event) × AreTurnEvents message given moment draws others ×
         (calls_in log ≡ asked (advance_call advance turn) ++ calls_in others) }
+{}
+
+/// A journal tells of a lost datagram behind `#`, and of a refused call by its line alone. Nothing
+/// stands in front of a report.
+pub fn lines_of_a_journal()
+    ensures unsent { (number : ℕ) → unsent_line InJournal number
+        ≡ (codes "# unsent " ++ decimal number) ++ codes "\n" }
+    ensures refused { (label : List ℕ) (turn : ℕ) →
+        refused_text (Some label) turn (NotOpened (Start AttemptsSpent)) ≡ [] }
+    ensures front { (setup : Setup) → head_text None setup ≡ [] }
 {}

@@ -1,14 +1,18 @@
-//! The report of a turn.
-ghost use Rattle.std.specs.Prelude.{◌≡◌, ◌++◌, OnOk, false};
-ghost use Rattle.endpoint_model.specs.Event.{NotOpened, NotSought, Refused};
+//! What is written of a turn.
+ghost use Rattle.std.specs.Prelude.{◌≡◌, OnOk, IfOk, false, max};
+ghost use Rattle.endpoint_model.specs.Event.{Event, NotOpened, NotSought, Refused};
 ghost use Rattle.endpoint_model.specs.Log.{answer_of_call, answer_of_open, answer_of_seek};
 ghost use Rattle.endpoint_model.specs.Log.{answer_of_succession};
+ghost use Rattle.log_writing.specs.Written.{said};
+ghost use Rattle.rtmfp_report.specs.EntryText.{counted_after, sent_after};
 ghost use Rattle.rtmfp_report.specs.KeptKeys.{secrets_in};
-ghost use Rattle.rtmfp_node.specs.Acting.{noted_more};
+ghost use Rattle.rtmfp_node.specs.Acting.{IsSaid, noted_more, with_text};
 ghost use Rattle.rtmfp_node.specs.Events.{IsSettled};
+ghost use Rattle.rtmfp_node.specs.Reached.{at_first};
 ghost use Rattle.rtmfp_node.specs.Report.{refused_text};
 
 use endpoint::{CallRefusal, Entry, OpenRefusal, SeekRefusal};
+use log_writing::{SaidCall, push_event};
 use rtmfp_report::{
     GroupKeys, GroupSecrets, push_call_refusal, push_entries, push_open_refusal, push_seek_refusal,
 };
@@ -16,18 +20,21 @@ use rtmfp_text::{Directory, Name, Text};
 use std::alloc::{AllocError, Global};
 use std::marker::Model;
 
-/// The text of a turn's report, and what it is made with: the keys of the group, and how many
-/// datagrams went out so far.
+/// What is written of a turn, and what it is made with: the keys of the group, what a journal calls
+/// the end, where one is written in place of a report, how many datagrams went out so far, and the
+/// largest moment that the end was given.
 ///
-/// Contracts see the group's secrets, the count and the text.
+/// Contracts see the group's secrets, the label, how far the run has come, and the text.
 #[derive(Drop)]
 pub(crate) struct Notes {
     keys: GroupKeys,
     ends: Directory,
     name: Name,
+    label: Option<Name>,
     scratch: Vec<u8>,
     text: Text,
-    count: u64,
+    sent: u64,
+    moment: u64,
 }
 
 impl Model for Notes {
@@ -39,7 +46,12 @@ impl Model for Notes {
 
     ghost coded = { noted_code };
 
-    ghost view = { λ n. record { secrets = n.keys; count = n.count; text = n.text } };
+    ghost view = { λ n. record {
+      secrets = n.keys;
+      label = n.label;
+      far = record { sent = n.sent; moment = n.moment };
+      text = n.text;
+    } };
 
     ghost invariant = { λ n. (n.ends ≡ []) × (n.name ≡ self_name) };
 }
@@ -47,9 +59,19 @@ impl Model for Notes {
 impl Notes {
     ghost use Rattle.std.specs.Prelude.{[]};
 
-    /// No text yet, and nothing that went out.
-    pub(crate) fn new(alloc: Global, secrets: GroupSecrets) -> Notes
-        ensures { result ≡ record { secrets = secrets_in secrets; count = 0; text = [] } }
+    /// This text, and nothing that was done yet.
+    pub(crate) fn new(
+        alloc: Global,
+        secrets: GroupSecrets,
+        label: Option<Name>,
+        text: Text,
+    ) -> Notes
+        ensures { result ≡ record {
+          secrets = secrets_in secrets;
+          label = label;
+          far = at_first;
+          text = text;
+        } }
     {
         let Some(name) = Name::new(b"self") else {
             unreachable!();
@@ -58,17 +80,19 @@ impl Notes {
             keys: GroupKeys::of(alloc, secrets),
             ends: Directory::new(alloc),
             name,
+            label,
             scratch: Vec::new(alloc),
-            text: Text::new(alloc),
-            count: 0,
+            text,
+            sent: 0,
+            moment: 0,
         }
     }
 
     /// How many datagrams went out.
-    pub(crate) fn count(&self) -> u64
-        ensures { result ≡ self.now.count }
+    pub(crate) fn sent(&self) -> u64
+        ensures { result ≡ self.now.far.sent }
     {
-        self.count
+        self.sent
     }
 
     /// The text.
@@ -82,28 +106,51 @@ impl Notes {
     pub(crate) fn clear(&mut self)
         ensures { self.new ≡ record {
           secrets = self.old.secrets;
-          count = self.old.count;
+          label = self.old.label;
+          far = self.old.far;
           text = [];
         } }
     {
         self.text.clear();
     }
 
-    /// Adds the lines of entries.
-    pub(crate) fn add(&mut self, turn: u64, entries: &[Entry]) -> Result<(), AllocError>
-        ensures { OnOk result (self.new ≡ noted_more turn self.old entries.now []) }
+    /// Adds the lines of an event that added these entries, without that of a refusal. In a report
+    /// they are those of its entries; in a journal that of its call comes first, with the largest
+    /// moment so far, and what the call drew.
+    pub(crate) fn add(
+        &mut self,
+        turn: u64,
+        moment: u64,
+        nonce: &[u8; 16],
+        call: &SaidCall<'_>,
+        entries: &[Entry],
+    ) -> Result<(), AllocError>
+        ensures { OnOk result ((e : Event) → IsSaid moment nonce.now (said call.now) entries.now e →
+            self.new ≡ noted_more turn self.old e []) }
     {
-        self.count = push_entries(
-            &mut self.keys,
-            &self.ends,
-            turn,
-            &self.name,
-            self.count,
-            entries,
-            &mut self.scratch,
-            &mut self.text,
-        )?;
-        Ok(())
+        let latest = later(self.moment, moment);
+        match &self.label {
+            None => {
+                self.sent = push_entries(
+                    &mut self.keys,
+                    &self.ends,
+                    turn,
+                    &self.name,
+                    self.sent,
+                    entries,
+                    &mut self.scratch,
+                    &mut self.text,
+                )?;
+                self.moment = latest;
+                Ok(())
+            }
+            Some(label) => {
+                push_event(label, latest, nonce, call, entries, &mut self.text)?;
+                self.sent = sent_after(self.sent, entries)?;
+                self.moment = latest;
+                Ok(())
+            }
+        }
     }
 
     /// Adds the line of an open that was refused, where it was. Want of memory ends the run.
@@ -113,11 +160,8 @@ impl Notes {
         answer: Result<u64, OpenRefusal>,
     ) -> Result<(), AllocError>
         ensures settled { OnOk result (IsSettled (answer_of_open answer)) }
-        ensures text { OnOk result (self.new ≡ record {
-          secrets = self.old.secrets;
-          count = self.old.count;
-          text = self.old.text ++ refused_text turn (answer_of_open answer);
-        }) }
+        ensures text { OnOk result (self.new ≡ with_text self.old
+            (refused_text self.old.label turn (answer_of_open answer))) }
     {
         match answer {
             Ok(_) => Ok(()),
@@ -133,13 +177,13 @@ impl Notes {
     }
 
     fn push_open(&mut self, turn: u64, refusal: &OpenRefusal) -> Result<(), AllocError>
-        ensures { OnOk result (self.new ≡ record {
-          secrets = self.old.secrets;
-          count = self.old.count;
-          text = self.old.text ++ refused_text turn (NotOpened refusal.now);
-        }) }
+        ensures { OnOk result (self.new ≡ with_text self.old
+            (refused_text self.old.label turn (NotOpened refusal.now))) }
     {
-        push_open_refusal(turn, &self.name, refusal, &mut self.text)
+        match &self.label {
+            None => push_open_refusal(turn, &self.name, refusal, &mut self.text),
+            Some(_) => Ok(()),
+        }
     }
 
     /// Adds the line of a search that was refused, where it was. Want of memory ends the run.
@@ -149,11 +193,8 @@ impl Notes {
         answer: Result<u32, SeekRefusal>,
     ) -> Result<(), AllocError>
         ensures settled { OnOk result (IsSettled (answer_of_seek answer)) }
-        ensures text { OnOk result (self.new ≡ record {
-          secrets = self.old.secrets;
-          count = self.old.count;
-          text = self.old.text ++ refused_text turn (answer_of_seek answer);
-        }) }
+        ensures text { OnOk result (self.new ≡ with_text self.old
+            (refused_text self.old.label turn (answer_of_seek answer))) }
     {
         match answer {
             Ok(_) => Ok(()),
@@ -168,13 +209,13 @@ impl Notes {
     }
 
     fn push_seek(&mut self, turn: u64, refusal: &SeekRefusal) -> Result<(), AllocError>
-        ensures { OnOk result (self.new ≡ record {
-          secrets = self.old.secrets;
-          count = self.old.count;
-          text = self.old.text ++ refused_text turn (NotSought refusal.now);
-        }) }
+        ensures { OnOk result (self.new ≡ with_text self.old
+            (refused_text self.old.label turn (NotSought refusal.now))) }
     {
-        push_seek_refusal(turn, &self.name, refusal, &mut self.text)
+        match &self.label {
+            None => push_seek_refusal(turn, &self.name, refusal, &mut self.text),
+            Some(_) => Ok(()),
+        }
     }
 
     /// Adds the line of a learn or an advance that was refused, where it was. Want of memory ends
@@ -185,11 +226,8 @@ impl Notes {
         answer: Result<u64, CallRefusal>,
     ) -> Result<(), AllocError>
         ensures settled { OnOk result (IsSettled (answer_of_succession answer)) }
-        ensures text { OnOk result (self.new ≡ record {
-          secrets = self.old.secrets;
-          count = self.old.count;
-          text = self.old.text ++ refused_text turn (answer_of_succession answer);
-        }) }
+        ensures text { OnOk result (self.new ≡ with_text self.old
+            (refused_text self.old.label turn (answer_of_succession answer))) }
     {
         match answer {
             Ok(_) => Ok(()),
@@ -197,7 +235,7 @@ impl Notes {
                 if is_want(&refusal) {
                     return Err(AllocError);
                 }
-                push_call_refusal(turn, &self.name, &refusal, &mut self.text)
+                self.push_call(turn, &refusal)
             }
         }
     }
@@ -210,11 +248,8 @@ impl Notes {
         answer: Result<u64, CallRefusal>,
     ) -> Result<(), AllocError>
         ensures settled { OnOk result (IsSettled (answer_of_call answer)) }
-        ensures text { OnOk result (self.new ≡ record {
-          secrets = self.old.secrets;
-          count = self.old.count;
-          text = self.old.text ++ refused_text turn (answer_of_call answer);
-        }) }
+        ensures text { OnOk result (self.new ≡ with_text self.old
+            (refused_text self.old.label turn (answer_of_call answer))) }
     {
         match answer {
             Ok(_) => Ok(()),
@@ -222,8 +257,18 @@ impl Notes {
                 if is_want(&refusal) {
                     return Err(AllocError);
                 }
-                push_call_refusal(turn, &self.name, &refusal, &mut self.text)
+                self.push_call(turn, &refusal)
             }
+        }
+    }
+
+    fn push_call(&mut self, turn: u64, refusal: &CallRefusal) -> Result<(), AllocError>
+        ensures { OnOk result (self.new ≡ with_text self.old
+            (refused_text self.old.label turn (Refused refusal.now))) }
+    {
+        match &self.label {
+            None => push_call_refusal(turn, &self.name, refusal, &mut self.text),
+            Some(_) => Ok(()),
         }
     }
 }
@@ -247,4 +292,34 @@ fn is_want(refusal: &CallRefusal) -> bool
         CallRefusal::SameSecret => false,
         CallRefusal::NoNext => false,
     }
+}
+
+/// The larger of two moments.
+fn later(before: u64, moment: u64) -> u64
+    ensures { result ≡ max before moment }
+{
+    if before < moment { moment } else { before }
+}
+
+/// How many datagrams went out after entries. More than a `u64` counts are want of memory.
+fn sent_after(sent: u64, entries: &[Entry]) -> Result<u64, AllocError>
+    ensures { IfOk result (λ count. count ≡ sent_after sent entries.now) }
+{
+    let mut count = sent;
+    let mut rest = entries;
+    while let [entry, others @ ..] = rest {
+        count = counted_after(count, entry)?;
+        rest = others;
+    }
+    Ok(count)
+}
+
+/// How many after one entry.
+fn counted_after(sent: u64, entry: &Entry) -> Result<u64, AllocError>
+    ensures { IfOk result (λ count. count ≡ counted_after sent entry.now) }
+{
+    let Entry::Out { .. } = entry else {
+        return Ok(sent);
+    };
+    sent.checked_add(1).ok_or(AllocError)
 }

@@ -4,15 +4,34 @@ ghost use Rattle.crypto_profile.specs.declared.keys.Context.{Context};
 ghost use Rattle.rtmfp_host.specs.Writing.{Appends};
 ghost use Rattle.rtmfp_node.specs.Acting.{CountedAt, EmitEnds, LostEnds, PassOn, PassedAt, SendEnds};
 ghost use Rattle.rtmfp_node.specs.Outside.{Stays};
-ghost use Rattle.rtmfp_node.specs.Report.{unsent_line};
+ghost use Rattle.rtmfp_node.specs.Report.{front_of, unsent_line};
 ghost use Rattle.rtmfp_report.specs.EntryText.{sent_after};
 
 use crate::served::Served;
 use endpoint::Entry;
 use rtmfp_forms::Address;
 use rtmfp_host::{Link, Sent, Sink, Wrote};
-use rtmfp_text::Text;
+use rtmfp_text::{Name, Text};
 use std::alloc::AllocError;
+
+/// How the line of a datagram that was lost begins.
+#[derive(Clone, Copy)]
+pub(crate) enum Front {
+    /// In a report: with this turn, and `self`.
+    InReport(u64),
+    /// In a journal: so that its readers skip it.
+    InJournal,
+}
+
+/// How that line begins in this turn, where a journal has a label, and in a report.
+pub(crate) fn front_of(label: &Option<Name>, turn: u64) -> Front
+    ensures { result ≡ front_of label.now turn }
+{
+    match label {
+        None => Front::InReport(turn),
+        Some(_) => Front::InJournal,
+    }
+}
 
 /// Writes the report of a turn, sends the datagrams among its entries, in order, with a line for
 /// each that is lost, and passes on what was written. Before the turn `count` datagrams went out.
@@ -20,13 +39,13 @@ pub(crate) fn emit<L: Link, K: Sink>(
     report: &[u8],
     heard: &[Entry],
     out: &[Entry],
-    turn: u64,
+    front: Front,
     count: u64,
     link: &mut L,
     sink: &mut K,
     lost: &mut Text,
 ) -> Served
-    ensures ends { EmitEnds result turn count report.now (heard.now ++ out.now)
+    ensures ends { EmitEnds result front count report.now (heard.now ++ out.now)
         (L.seen link.old).line (L.seen link.new).line
         (K.seen sink.old).written (K.seen sink.new).written }
     ensures link { Stays (L.seen link.old).faults (L.seen link.new).faults }
@@ -36,7 +55,7 @@ pub(crate) fn emit<L: Link, K: Sink>(
     match sink.write(report) {
         Wrote::Failed => Served::SinkFault,
         Wrote::Done => {
-            let served = send_both(heard, out, turn, count, link, sink, lost);
+            let served = send_both(heard, out, front, count, link, sink, lost);
             pass_on(served, sink)
         }
     }
@@ -60,37 +79,37 @@ fn pass_on<K: Sink>(served: Served, sink: &mut K) -> Served
 fn send_both<L: Link, K: Sink>(
     heard: &[Entry],
     out: &[Entry],
-    turn: u64,
+    front: Front,
     count: u64,
     link: &mut L,
     sink: &mut K,
     lost: &mut Text,
 ) -> Served
-    ensures ends { SendEnds result turn count (heard.now ++ out.now)
+    ensures ends { SendEnds result front count (heard.now ++ out.now)
         (L.seen link.old).line (L.seen link.new).line
         (K.seen sink.old).written (K.seen sink.new).written }
     ensures link { Stays (L.seen link.old).faults (L.seen link.new).faults }
     ensures sink { CountedAt result (K.seen sink.old).faults (K.seen sink.new).faults }
 {
     let mut number = count;
-    let served = send_all(heard, turn, &mut number, link, sink, lost);
+    let served = send_all(heard, front, &mut number, link, sink, lost);
     if !served.is_done() {
         return served;
     }
-    send_all(out, turn, &mut number, link, sink, lost)
+    send_all(out, front, &mut number, link, sink, lost)
 }
 
 /// Sends each datagram among the entries, in order, and writes a line for each that is lost.
 /// `number` counts the datagrams that went out.
 fn send_all<L: Link, K: Sink>(
     entries: &[Entry],
-    turn: u64,
+    front: Front,
     number: &mut u64,
     link: &mut L,
     sink: &mut K,
     lost: &mut Text,
 ) -> Served
-    ensures ends { SendEnds result turn number.old entries.now
+    ensures ends { SendEnds result front number.old entries.now
         (L.seen link.old).line (L.seen link.new).line
         (K.seen sink.old).written (K.seen sink.new).written }
     ensures number { result ≡ Served.Done → number.new ≡ sent_after number.old entries.now }
@@ -98,7 +117,7 @@ fn send_all<L: Link, K: Sink>(
     ensures sink { CountedAt result (K.seen sink.old).faults (K.seen sink.new).faults }
 {
     for entry in entries {
-        let served = send_one(entry, turn, number, link, sink, lost);
+        let served = send_one(entry, front, number, link, sink, lost);
         if !served.is_done() {
             return served;
         }
@@ -109,13 +128,13 @@ fn send_all<L: Link, K: Sink>(
 /// Sends the datagram of an entry, if it has one.
 fn send_one<L: Link, K: Sink>(
     entry: &Entry,
-    turn: u64,
+    front: Front,
     number: &mut u64,
     link: &mut L,
     sink: &mut K,
     lost: &mut Text,
 ) -> Served
-    ensures ends { SendEnds result turn number.old (entry.now ∷ [])
+    ensures ends { SendEnds result front number.old (entry.now ∷ [])
         (L.seen link.old).line (L.seen link.new).line
         (K.seen sink.old).written (K.seen sink.new).written }
     ensures number { result ≡ Served.Done → number.new ≡ sent_after number.old (entry.now ∷ []) }
@@ -125,20 +144,20 @@ fn send_one<L: Link, K: Sink>(
     let Entry::Out { to, datagram, .. } = entry else {
         return Served::Done;
     };
-    send(to, datagram.bytes(), turn, number, link, sink, lost)
+    send(to, datagram.bytes(), front, number, link, sink, lost)
 }
 
 /// Sends a datagram, which has the next number, and writes a line where it is lost.
 fn send<L: Link, K: Sink>(
     to: &Address,
     datagram: &[u8],
-    turn: u64,
+    front: Front,
     number: &mut u64,
     link: &mut L,
     sink: &mut K,
     lost: &mut Text,
 ) -> Served
-    ensures ends { (context : Context) → SendEnds result turn number.old
+    ensures ends { (context : Context) → SendEnds result front number.old
         (Entry.Out to.now datagram.now context ∷ [])
         (L.seen link.old).line (L.seen link.new).line
         (K.seen sink.old).written (K.seen sink.new).written }
@@ -154,18 +173,18 @@ fn send<L: Link, K: Sink>(
     *number = next;
     match sent {
         Sent::Done => Served::Done,
-        Sent::Failed => tell_lost(turn, next, sink, lost),
+        Sent::Failed => tell_lost(front, next, sink, lost),
     }
 }
 
 /// Writes the line of a datagram that was lost.
-fn tell_lost<K: Sink>(turn: u64, number: u64, sink: &mut K, lost: &mut Text) -> Served
-    ensures ends { LostEnds result (unsent_line turn number)
+fn tell_lost<K: Sink>(front: Front, number: u64, sink: &mut K, lost: &mut Text) -> Served
+    ensures ends { LostEnds result (unsent_line front number)
         (K.seen sink.old).written (K.seen sink.new).written }
     ensures sink { CountedAt result (K.seen sink.old).faults (K.seen sink.new).faults }
 {
     lost.clear();
-    let Ok(()) = push_unsent(turn, number, lost) else {
+    let Ok(()) = push_unsent(front, number, lost) else {
         return Served::Memory;
     };
     match sink.write(lost.bytes()) {
@@ -175,14 +194,34 @@ fn tell_lost<K: Sink>(turn: u64, number: u64, sink: &mut K, lost: &mut Text) -> 
 }
 
 /// Adds the line of a datagram that was lost.
-fn push_unsent(turn: u64, number: u64, text: &mut Text) -> Result<(), AllocError>
-    ensures { OnOk result (text.new ≡ text.old ++ unsent_line turn number) }
+#[tactic(auto, unfolding(crate::specs::Report::unsent_line))]
+fn push_unsent(front: Front, number: u64, text: &mut Text) -> Result<(), AllocError>
+    ensures { OnOk result (text.new ≡ text.old ++ unsent_line front number) }
+{
+    match front {
+        Front::InReport(turn) => push_reported(turn, number, text),
+        Front::InJournal => push_skipped(number, text),
+    }
+}
+
+/// Adds that line as one of a report.
+fn push_reported(turn: u64, number: u64, text: &mut Text) -> Result<(), AllocError>
+    ensures { OnOk result (text.new ≡ text.old ++ unsent_line (Front.InReport turn) number) }
 {
     text.push_number(turn)?;
     text.push(" ")?;
     text.push("self")?;
     text.push(" ")?;
     text.push_number_field("unsent ", number)?;
+    text.push("\n")?;
+    Ok(())
+}
+
+/// Adds that line as one that readers of journals skip.
+fn push_skipped(number: u64, text: &mut Text) -> Result<(), AllocError>
+    ensures { OnOk result (text.new ≡ text.old ++ unsent_line Front.InJournal number) }
+{
+    text.push_number_field("# unsent ", number)?;
     text.push("\n")?;
     Ok(())
 }

@@ -1,5 +1,6 @@
 //! A node, from its first draw to its last turn.
-ghost use Rattle.std.specs.Prelude.{◌≡◌, ℕ, List, [], IfOk, length};
+ghost use Rattle.std.specs.Prelude.{◌≡◌, ◌++◌, ℕ, List, [], IfOk, OnOk, length};
+ghost use Rattle.endpoint_model.specs.Event.{Setup};
 ghost use Rattle.endpoint_model.specs.Log.{StandsFor};
 ghost use Rattle.endpoint_model.specs.State.{fresh};
 ghost use Rattle.endpoint_laws.specs.Laws.{IsSetup};
@@ -7,10 +8,12 @@ ghost use Rattle.rtmfp_host.specs.declared.link.LinkCall.TheVariants.{Bind};
 ghost use Rattle.rtmfp_host.specs.Drawing.{EntropySeen};
 ghost use Rattle.rtmfp_host.specs.Linking.{Calls, LinkSeen};
 ghost use Rattle.rtmfp_words.specs.Node.{IsNodeName};
-ghost use Rattle.rtmfp_node.specs.Acting.{Drew, TurnsEnd};
+ghost use Rattle.rtmfp_node.specs.Acting.{Drew, IsFor, IsHead, TurnsEnd, noted_first};
 ghost use Rattle.rtmfp_node.specs.Outside.{Counted, PassesOn, outside};
-ghost use Rattle.rtmfp_node.specs.Turn.{secrets_of};
-ghost use Rattle.rtmfp_node.specs.Whole.{Ends, setup_of};
+ghost use Rattle.rtmfp_node.specs.Reached.{at_first};
+ghost use Rattle.rtmfp_node.specs.Report.{head_text};
+ghost use Rattle.rtmfp_node.specs.Turn.{head_of, setup_of};
+ghost use Rattle.rtmfp_node.specs.Whole.{Ends};
 
 use crate::draw::{certificate_of, cookie_secret_of, draw};
 use crate::notes::Notes;
@@ -18,12 +21,14 @@ use crate::served::Served;
 use crate::turn::{Node, turn};
 use crate::turn_zero::turn_zero;
 use endpoint::{Config, Endpoint, Outbox};
+use identity::Certificate;
+use log_writing::push_head;
 use rtmfp_base::Memory;
 use rtmfp_host::{Bound, Entropy, Link, Moments, Sink};
 use rtmfp_report::GroupSecrets;
-use rtmfp_text::Text;
+use rtmfp_text::{Name, Text};
 use rtmfp_words::ServeWords;
-use std::alloc::Global;
+use std::alloc::{AllocError, Global};
 
 /// The most peers that a node ever knows (own).
 const MAX_PEERS: u32 = 65_536;
@@ -50,6 +55,10 @@ const ROOM: u32 = 1_024;
 /// came, opens a flow and queues the message in each session that it opened, where the words have
 /// one, and does what is due; the report is written, and each datagram is sent. One that can't be
 /// sent is lost, and a line tells of it.
+///
+/// Where the words have a label, a journal is written in place of the report: the line of the end
+/// with turn 0, and the lines of each event in their order, with that label as the end's name. The
+/// lines of lost datagrams begin with `#` then.
 ///
 /// The first event in the order of the run gives the answer. With `Done` all turns were taken. With
 /// `LinkFault` the bind or a receive failed, with `EntropyFault` a draw, and the turns before stand
@@ -101,11 +110,12 @@ fn serve_node<L: Link, C: Moments, E: Entropy, K: Sink>(
     entropy: &mut E,
     sink: &mut K,
 ) -> Served
-    requires secrets { node.notes.secrets ≡ secrets_of words.now }
-    requires none { node.notes.count ≡ 0 }
+    requires words { IsFor words.now node.notes }
+    requires none { node.notes.far ≡ at_first }
     ensures ends { (block : List ℕ) (before : LinkSeen) (blocks : EntropySeen) →
         IsSetup (setup_of words.now block) → StandsFor (setup_of words.now block) [] node.end →
         node.end ≡ fresh (setup_of words.now block) →
+        node.notes.text ≡ head_of words.now block →
         Drew blocks.blocks (E.seen entropy.old).blocks block →
         Calls before.line (L.seen link.old).line (Bind words.now.bind) →
         Ends result words.now (outside before (C.seen clock.old) blocks (K.seen sink.old))
@@ -130,11 +140,12 @@ fn take_all<L: Link, C: Moments, E: Entropy, K: Sink>(
     entropy: &mut E,
     sink: &mut K,
 ) -> Served
-    requires secrets { node.old.notes.secrets ≡ secrets_of words.now }
-    requires none { node.old.notes.count ≡ 0 }
+    requires words { IsFor words.now node.old.notes }
+    requires none { node.old.notes.far ≡ at_first }
     ensures ends { (block : List ℕ) (before : LinkSeen) (blocks : EntropySeen) →
         IsSetup (setup_of words.now block) → StandsFor (setup_of words.now block) [] node.old.end →
         node.old.end ≡ fresh (setup_of words.now block) →
+        node.old.notes.text ≡ head_of words.now block →
         Drew blocks.blocks (E.seen entropy.old).blocks block →
         Calls before.line (L.seen link.old).line (Bind words.now.bind) →
         Ends result words.now (outside before (C.seen clock.old) blocks (K.seen sink.old))
@@ -159,11 +170,8 @@ fn node_of(alloc: Global, words: &ServeWords, block: &[u8; 64]) -> Result<Node, 
     ensures stands { IfOk result (λ node. StandsFor (setup_of words.now block.now) [] node.end) }
     ensures fresh { IfOk result (λ node. node.end ≡ fresh (setup_of words.now block.now)) }
     ensures sized { IfOk result (λ node. IsSetup (setup_of words.now block.now)) }
-    ensures notes { IfOk result (λ node. node.notes ≡ record {
-      secrets = secrets_of words.now;
-      count = 0;
-      text = [];
-    }) }
+    ensures notes { IfOk result (λ node. node.notes
+        ≡ noted_first words.now at_first (head_of words.now block.now)) }
 {
     let early = Outbox::new(alloc, 1)?;
     let heard = Outbox::new(alloc, ROOM)?;
@@ -176,6 +184,15 @@ fn node_of(alloc: Global, words: &ServeWords, block: &[u8; 64]) -> Result<Node, 
     let certificate = certificate_of(alloc, &words.instance, words.name.bytes(), block)?;
     let secret = secret_of(&words.group);
     let cookie_secret = cookie_secret_of(block);
+    let mut head = Text::new(alloc);
+    push_head_of(
+        &words.journal,
+        &config,
+        &secret,
+        &cookie_secret,
+        &certificate,
+        &mut head,
+    )?;
     Ok(Node {
         end: Endpoint::new(
             alloc,
@@ -194,9 +211,48 @@ fn node_of(alloc: Global, words: &ServeWords, block: &[u8; 64]) -> Result<Node, 
                 first: secret,
                 next: words.next,
             },
+            label_of(&words.journal),
+            head,
         ),
         lost: Text::new(alloc),
     })
+}
+
+/// Adds what stands in front of all that is written: in a journal the line of the end.
+fn push_head_of(
+    label: &Option<Name>,
+    config: &Config,
+    secret: &[u8; 32],
+    cookie_secret: &[u8; 32],
+    certificate: &Certificate,
+    text: &mut Text,
+) -> Result<(), AllocError>
+    ensures { OnOk result ((setup : Setup) → IsHead config.now secret.now cookie_secret.now
+        certificate.now setup → text.new ≡ text.old ++ head_text label.now setup) }
+{
+    match label {
+        None => Ok(()),
+        Some(label) => push_head(
+            label,
+            config.max_peers,
+            config.max_sessions,
+            FIRST_GENERATION,
+            secret,
+            cookie_secret,
+            certificate,
+            text,
+        ),
+    }
+}
+
+/// The label again.
+fn label_of(label: &Option<Name>) -> Option<Name>
+    ensures { result ≡ label.now }
+{
+    match label {
+        None => None,
+        Some(label) => Some(label.again()),
+    }
 }
 
 /// The secret of the group.
@@ -216,9 +272,9 @@ fn take_turns<L: Link, C: Moments, E: Entropy, K: Sink>(
     entropy: &mut E,
     sink: &mut K,
 ) -> Served
-    requires { node.old.notes.secrets ≡ secrets_of words.now }
-    ensures ends { TurnsEnd result words.now node.old.notes.count node.old.end node.new.end
-        node.new.notes.count
+    requires { IsFor words.now node.old.notes }
+    ensures ends { TurnsEnd result words.now node.old.notes.far node.old.end node.new.end
+        node.new.notes.far
         (outside (L.seen link.old) (C.seen clock.old) (E.seen entropy.old) (K.seen sink.old))
         (outside (L.seen link.new) (C.seen clock.new) (E.seen entropy.new) (K.seen sink.new)) }
     ensures counted { Counted result

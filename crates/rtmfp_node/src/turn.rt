@@ -2,16 +2,15 @@
 ghost use Rattle.std.specs.Prelude.{◌≡◌, ℕ, List, [], ◌++◌, IsSome, OnErr, OnOk, true, false};
 ghost use Rattle.rtmfp_host.specs.Faults.{CountsGot};
 ghost use Rattle.rtmfp_host.specs.Linking.{Fits, given_by};
-ghost use Rattle.rtmfp_node.specs.Acting.{ActedOn, Succeeded, TurnEnds, begun};
+ghost use Rattle.rtmfp_node.specs.Acting.{ActedOn, IsFor, Succeeded, TurnEnds, begun};
 ghost use Rattle.rtmfp_node.specs.Events.{advance_call};
-ghost use Rattle.rtmfp_node.specs.Turn.{secrets_of};
 ghost use Rattle.rtmfp_node.specs.Outside.{Counted, PassesOn, outside};
 
 use crate::acting::act;
 use crate::calls::advance;
 use crate::draw::{draw, draws_of};
 use crate::notes::Notes;
-use crate::sending::emit;
+use crate::sending::{emit, front_of};
 use crate::served::Served;
 use endpoint::{Draws, Endpoint, Outbox};
 use rtmfp_base::Message;
@@ -33,7 +32,7 @@ pub(crate) struct Node {
     pub(crate) heard: Outbox,
     /// What other calls added.
     pub(crate) out: Outbox,
-    /// The report of the turn.
+    /// What is written of the turn.
     pub(crate) notes: Notes,
     /// The line of a datagram that was lost.
     pub(crate) lost: Text,
@@ -52,9 +51,9 @@ pub(crate) fn turn<L: Link, C: Moments, E: Entropy, K: Sink>(
     entropy: &mut E,
     sink: &mut K,
 ) -> Served
-    requires { node.old.notes.secrets ≡ secrets_of words.now }
-    ensures ends { TurnEnds result words.now turn node.old.notes.count node.old.end node.new.end
-        node.new.notes.count
+    requires { IsFor words.now node.old.notes }
+    ensures ends { TurnEnds result words.now turn node.old.notes.far node.old.end node.new.end
+        node.new.notes.far
         (outside (L.seen link.old) (C.seen clock.old) (E.seen entropy.old) (K.seen sink.old))
         (outside (L.seen link.new) (C.seen clock.new) (E.seen entropy.new) (K.seen sink.new)) }
     ensures counted { Counted result
@@ -63,9 +62,9 @@ pub(crate) fn turn<L: Link, C: Moments, E: Entropy, K: Sink>(
     ensures passed { PassesOn result
         (outside (L.seen link.old) (C.seen clock.old) (E.seen entropy.old) (K.seen sink.old))
         (outside (L.seen link.new) (C.seen clock.new) (E.seen entropy.new) (K.seen sink.new)) }
-    ensures secrets { result ≡ Served.Done → node.new.notes.secrets ≡ secrets_of words.now }
+    ensures words { result ≡ Served.Done → IsFor words.now node.new.notes }
 {
-    let count = node.notes.count();
+    let count = node.notes.sent();
     let Ok(()) = begin(node, words.advance, turn) else {
         return Served::Memory;
     };
@@ -86,7 +85,7 @@ pub(crate) fn turn<L: Link, C: Moments, E: Entropy, K: Sink>(
         node.notes.text(),
         node.heard.entries(),
         node.out.entries(),
-        turn,
+        front_of(&words.journal, turn),
         count,
         link,
         sink,

@@ -1,13 +1,13 @@
 //! Turn 0 of a node.
 ghost use Rattle.std.specs.Prelude.{◌≡◌};
-ghost use Rattle.rtmfp_node.specs.Acting.{DrawnAt, OpensEnd, ZeroEnds};
+ghost use Rattle.rtmfp_node.specs.Acting.{DrawnAt, IsFor, OpensEnd, ZeroEnds};
 ghost use Rattle.rtmfp_node.specs.Outside.{Counted, PassesOn, outside};
-ghost use Rattle.rtmfp_node.specs.Turn.{secrets_of};
+ghost use Rattle.rtmfp_node.specs.Reached.{at_first};
 
 use crate::calls::{learn, open};
 use crate::draw::{draw, draws_of};
 use crate::notes::Notes;
-use crate::sending::emit;
+use crate::sending::{emit, front_of};
 use crate::served::Served;
 use crate::turn::Node;
 use endpoint::{Endpoint, Outbox};
@@ -15,7 +15,7 @@ use rtmfp_host::{Entropy, Link, Moments, Sink};
 use rtmfp_words::{OpeningWords, ServeWords};
 
 /// Takes turn 0: learns the next secret, where there is one, makes the openings, writes what was
-/// done, and sends what goes out.
+/// done behind the text that is noted before, and sends what goes out.
 pub(crate) fn turn_zero<L: Link, C: Moments, E: Entropy, K: Sink>(
     words: &ServeWords,
     node: &mut Node,
@@ -24,9 +24,10 @@ pub(crate) fn turn_zero<L: Link, C: Moments, E: Entropy, K: Sink>(
     entropy: &mut E,
     sink: &mut K,
 ) -> Served
-    requires secrets { node.old.notes.secrets ≡ secrets_of words.now }
-    requires none { node.old.notes.count ≡ 0 }
-    ensures ends { ZeroEnds result words.now node.old.end node.new.end node.new.notes.count
+    requires words { IsFor words.now node.old.notes }
+    requires none { node.old.notes.far ≡ at_first }
+    ensures ends { ZeroEnds result words.now node.old.notes.text node.old.end node.new.end
+        node.new.notes.far
         (outside (L.seen link.old) (C.seen clock.old) (E.seen entropy.old) (K.seen sink.old))
         (outside (L.seen link.new) (C.seen clock.new) (E.seen entropy.new) (K.seen sink.new)) }
     ensures counted { Counted result
@@ -35,12 +36,11 @@ pub(crate) fn turn_zero<L: Link, C: Moments, E: Entropy, K: Sink>(
     ensures passed { PassesOn result
         (outside (L.seen link.old) (C.seen clock.old) (E.seen entropy.old) (K.seen sink.old))
         (outside (L.seen link.new) (C.seen clock.new) (E.seen entropy.new) (K.seen sink.new)) }
-    ensures secrets { result ≡ Served.Done → node.new.notes.secrets ≡ secrets_of words.now }
+    ensures words { result ≡ Served.Done → IsFor words.now node.new.notes }
 {
     let moment = clock.now();
     node.heard.clear();
     node.out.clear();
-    node.notes.clear();
     let Ok(()) = learn(&mut node.end, &words.next, &mut node.out, &mut node.notes) else {
         return Served::Memory;
     };
@@ -59,7 +59,7 @@ pub(crate) fn turn_zero<L: Link, C: Moments, E: Entropy, K: Sink>(
         node.notes.text(),
         node.heard.entries(),
         node.out.entries(),
-        0,
+        front_of(&words.journal, 0),
         0,
         link,
         sink,

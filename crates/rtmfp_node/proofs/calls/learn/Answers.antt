@@ -1,15 +1,14 @@
-use Rattle.std.proofs.Common.{rules, [], ap, length}
+use Rattle.std.proofs.Common.{rules, ap, length, refl}
 use Rattle.endpoint_model.specs.Event.{Learn}
 use Rattle.endpoint_model.specs.Log.{answer_of_succession}
-use Rattle.rtmfp_node.specs.Events.{learn_call}
-use Rattle.rtmfp_node.specs.Report.{refused_text}
+use Rattle.rtmfp_node.specs.Events.{event_of, learn_call}
 use Rattle.rtmfp_node.specs.Acting.{added}
 use Rattle.rtmfp_node.proofs.Acts.{did_call, grown_from, noted_from, settled}
 use Rattle.rtmfp_node.proofs.Succeeding.{learn_silent, learns, never_learns, not_asked, succeeded}
 use Rattle.rtmfp_node.proofs.calls.learn.Goals as goal
 
-pub note-requires : goal.note-requires
-note-requires c =
+pub note_bare-requires : goal.note_bare-requires
+note_bare-requires c =
     let a = c.learn-answer in
     let grown = learn_silent c.args.end.now c.in-Some.secret a.result a.new.self c.args.out.now a.new.out a.ensures.ok a.ensures.err in
     grown_from _ c.args.out.now.entries a.new.out.entries grown.es (ap length c.entries-before.ensures.entries) grown.entries
@@ -21,10 +20,11 @@ returns-clause-done c =
     let after = a.new.out.entries in
     let grown = learn_silent c.args.end.now c.in-Some.secret a.result a.new.self c.args.out.now a.new.out a.ensures.ok a.ensures.err in
     let answer = answer_of_succession a.result in
-    let noted = noted_from 0 _ before after c.args.notes.now c.note.new.notes [] (ap length c.entries-before.ensures.entries) c.in_ok-note.ensures in
+    let e = event_of 0 (Learn c.in-Some.secret) answer (added before after) in
+    let noted = noted_from 0 0 _ _ _ before after e c.args.notes.now c.note_bare.new.notes (ap length c.entries-before.ensures.entries) c.in_ok-note_bare.ensures (record { moment = refl; nonce = refl; call = refl; entries = refl }) in
     succeeded (learn_call c.args.next.now) (Learn c.in-Some.secret) 0 answer c.args.end.now a.new.self before after c.args.notes.now c.settle_succession.new.self (learns c.args.next.now c.in-Some.secret (search rules)) c.in_ok-settle_succession.ensures.settled grown
     (did_call 0 0 (Learn c.in-Some.secret) answer c.args.end.now a.new.self before after grown.es c.args.notes.now c.settle_succession.new.self grown.entries a.ensures.stands c.are_thirty_two.ensures
-    (settled 0 (added before after) (refused_text 0 answer) c.args.notes.now c.note.new.notes c.settle_succession.new.self noted c.in_ok-settle_succession.ensures.text))
+    (settled 0 e c.args.notes.now c.note_bare.new.notes c.settle_succession.new.self noted c.in_ok-settle_succession.ensures.text))
 
 pub returns-in_default-clause-done : goal.returns-in_default-clause-done
 returns-in_default-clause-done c =

@@ -4,7 +4,7 @@ use Rattle.rtmfp_node.proofs.serving.serve.Goals as goal
 
 pub returns-clause-ends : goal.returns-clause-ends
 returns-clause-ends g c =
-    c.serve_node.ensures.ends c.in-Some.block (g.L.Link.seen c.args.link.now) (g.E.Entropy.seen c.args.entropy.now) (search rules) (search rules) (search rules) (search rules) (search rules)
+    c.serve_node.ensures.ends c.in-Some.block (g.L.Link.seen c.args.link.now) (g.E.Entropy.seen c.args.entropy.now) (search rules) (search rules) (search rules) (search rules) (search rules) (search rules)
 
 pub returns-in_default-clause-ends : goal.returns-in_default-clause-ends
 returns-in_default-clause-ends g c =

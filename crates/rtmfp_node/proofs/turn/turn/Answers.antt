@@ -1,11 +1,11 @@
-use Rattle.std.proofs.Common.{rules, ◌++◌, [], ap, ◌∙◌, inl, inr}
+use Rattle.std.proofs.Common.{rules, ◌++◌, ap, ◌∙◌, inl, inr}
 use Rattle.rtmfp_host.specs.Linking.{given_by}
 use Rattle.rtmfp_node.specs.Outside.{outside}
-use Rattle.endpoint_laws.specs.Contexts.{Secrets}
+use Rattle.rtmfp_node.specs.Report.{front_of}
 use Rattle.rtmfp_node.specs.Acting.{begun}
 use Rattle.rtmfp_node.proofs.Sends.{counted_all, emit_as, passes_all}
 use Rattle.rtmfp_node.proofs.Told.{leaves_map}
-use Rattle.rtmfp_node.proofs.Turning.{turn_ends_on, unbegun, undrawn, wait_failed, waited}
+use Rattle.rtmfp_node.proofs.Turning.{begun_for, turn_ends_on, unbegun, undrawn, wait_failed, waited}
 use Rattle.rtmfp_node.proofs.turn.turn.Goals as goal
 
 pub returns-clause-ends : goal.returns-clause-ends
@@ -14,18 +14,18 @@ returns-clause-ends g c =
     let m = c.args.node.now.notes in
     let early = c.begin.new.node in
     let node = c.act_on.new.node in
-    turn_ends_on c.emit.result c.args.words.now c.args.turn m.count c.in-Some.block c.now-first.result c.now-moment.result given c.args.node.now.end early.end node.end
+    turn_ends_on c.emit.result c.args.words.now c.args.turn m.far c.in-Some.block c.now-first.result c.now-moment.result given c.args.node.now.end early.end node.end
     early.early.entries (node.heard.entries ++ node.out.entries) (begun m) early.notes node.notes (g.L.Link.seen c.args.link.now) (g.L.Link.seen c.receive-got.new.self) (g.L.Link.seen c.emit.new.link)
     (g.C.Moments.seen c.args.clock.now) (g.C.Moments.seen c.now-first.new.self) (g.C.Moments.seen c.now-moment.new.self) (g.E.Entropy.seen c.args.entropy.now)
     (g.E.Entropy.seen c.draw.new.entropy) (g.K.Sink.seen c.args.sink.now) (g.K.Sink.seen c.emit.new.sink) (search rules) (search rules) (search rules) (search rules) (search rules) (search rules)
-    (ap (λ (x : Secrets). record { secrets = x; count = m.count; text = [] }) c.requires)
-    (emit_as c.emit.result c.args.turn c.count-count.result m.count c.text.result.now node.notes.text c.entries.result.now c.entries-2.result.now node.heard.entries node.out.entries
-    (g.L.Link.seen c.receive-got.new.self).line (g.L.Link.seen c.emit.new.link).line (g.K.Sink.seen c.args.sink.now).written (g.K.Sink.seen c.emit.new.sink).written (search rules) (search rules)
+    (begun_for c.args.words.now m c.requires)
+    (emit_as c.emit.result c.front_of.result (front_of c.args.words.now.journal c.args.turn) c.sent-count.result m.far.sent c.text.result.now node.notes.text c.entries.result.now c.entries-2.result.now node.heard.entries node.out.entries
+    (g.L.Link.seen c.receive-got.new.self).line (g.L.Link.seen c.emit.new.link).line (g.K.Sink.seen c.args.sink.now).written (g.K.Sink.seen c.emit.new.sink).written (search rules) (search rules) (search rules)
     (search rules) (search rules) c.emit.ensures.ends)
 
 pub returns-clause-counted : goal.returns-clause-counted
 returns-clause-counted g c =
-    counted_all c.emit.result c.args.turn c.count-count.result c.text.result.now (c.entries.result.now ++ c.entries-2.result.now) (g.L.Link.seen c.receive-got.new.self).line
+    counted_all c.emit.result c.front_of.result c.sent-count.result c.text.result.now (c.entries.result.now ++ c.entries-2.result.now) (g.L.Link.seen c.receive-got.new.self).line
     (g.L.Link.seen c.emit.new.link).line (g.K.Sink.seen c.args.sink.now).written (g.K.Sink.seen c.emit.new.sink).written
     (outside (g.L.Link.seen c.args.link.now) (g.C.Moments.seen c.args.clock.now) (g.E.Entropy.seen c.args.entropy.now) (g.K.Sink.seen c.args.sink.now))
     (outside (g.L.Link.seen c.emit.new.link) (g.C.Moments.seen c.now-moment.new.self) (g.E.Entropy.seen c.draw.new.entropy) (g.K.Sink.seen c.emit.new.sink)) c.emit.ensures.ends
@@ -58,5 +58,5 @@ returns-in_default-draw-clause-ends g c =
 
 pub returns-in_default-clause-ends : goal.returns-in_default-clause-ends
 returns-in_default-clause-ends g c =
-    unbegun c.args.words.now c.args.turn c.args.node.now.notes.count c.args.node.now.end
+    unbegun c.args.words.now c.args.turn c.args.node.now.notes.far c.args.node.now.end
     (outside (g.L.Link.seen c.args.link.now) (g.C.Moments.seen c.args.clock.now) (g.E.Entropy.seen c.args.entropy.now) (g.K.Sink.seen c.args.sink.now)) (search rules)

@@ -1,7 +1,7 @@
 use Rattle.rtmfp_report.specs.LineText.{head_text, line_text}
 use Rattle.rtmfp_node.specs.Report.{unsent_line}
 use Rattle.rtmfp_text.proofs.Pushes.{push_then, push_end, pushed}
-use Rattle.rtmfp_node.proofs.sending.push_unsent.Goals as goal
+use Rattle.rtmfp_node.proofs.sending.push_reported.Goals as goal
 
 pub returns : goal.returns
 unfolding unsent_line line_text head_text
