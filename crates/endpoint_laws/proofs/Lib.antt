@@ -31,6 +31,7 @@ mod OutPackets
 mod OutHeld
 pub mod Resealed
 mod Staged
+mod LowestId
 mod OutSends
 mod OutKeyings
 mod OutItems

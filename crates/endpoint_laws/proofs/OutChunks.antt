@@ -1,10 +1,16 @@
 -- What goes out of a chunk of a datagram.
-use Rattle.std.proofs.Common.{◌≡◌, ℕ, ◌^◌, ◌<◌, ◌≤◌, List, length, true, Option, Some, None, Ok, refl, sym, ap, subst, ◌∙◌}
+use Rattle.std.proofs.Common.{◌≡◌, ℕ, ◌^◌, ◌<◌, ◌≤◌, List, length, true, Option, Some, None, is_some, Result, Ok, ◌-◌, refl, sym, ap, subst, ◌∙◌}
 use Rattle.std.specs.FinMap.{get}
+use Rattle.sha2.specs.Sha256.{sha256}
+use Rattle.crypto_profile.specs.declared.keys.Context.{Context}
+use Rattle.crypto_profile.specs.declared.keys.Context.TheVariants.{Startup as StartupContext}
+use Rattle.identity.specs.Certificates.{certificate_fault}
+use Rattle.rtmfp_base.specs.declared.cause.Cause.TheVariants.{Malformed}
+use Rattle.rtmfp_chunks.specs.declared.reading.ChunkFault.{ChunkFault}
 use Rattle.rtmfp_forms.specs.Address.{AddressParts}
 use Rattle.rtmfp_packet.specs.Walk.{Placed}
 use Rattle.rtmfp_chunks.specs.FieldReading.{chunk_reading}
-use Rattle.rtmfp_chunks.specs.Chunk.{RHello, Spells}
+use Rattle.rtmfp_chunks.specs.Chunk.{Chunk, RHello, Spells}
 use Rattle.startup.specs.State.{AttemptState}
 use Rattle.rtmfp_data_chunks.specs.Reader.{data_reading}
 use Rattle.endpoint_model.specs.declared.walk.Walk.{Walk}
@@ -15,13 +21,15 @@ use Rattle.rtmfp_packet.specs.Whole.{Whole}
 use Rattle.endpoint_model.specs.Keying.{IsAmong, chunks_of}
 use Rattle.endpoint_model.specs.declared.place.Place.TheVariants.{Startup, Attempt, Session}
 use Rattle.endpoint_model.specs.InSessions.{told_in_session}
-use Rattle.endpoint_laws.specs.Contexts.{Secrets, CallOpensIn, EventOpenedIn}
+use Rattle.endpoint_laws.specs.Contexts.{Secrets, OpensFirst, CallOpensIn, EventOpenedIn}
 use Rattle.endpoint_laws.specs.Lawful.{HasHello}
 use Rattle.endpoint_laws.specs.Past.{Past, before_event, last_call, open_of, receive_of}
 use Rattle.endpoint_model.specs.State.{State}
 use Rattle.endpoint_model.specs.Admission.{sid_at, group_at, attempt_group}
 use Rattle.endpoint_model.specs.Effects.{is_told_in_session, chunk_did}
-use Rattle.endpoint_model.specs.Causes.{takes}
+use Rattle.endpoint_model.specs.Causes.{takes, read_fault}
+use Rattle.endpoint_laws.proofs.Facts.{test_fails}
+use Rattle.endpoint_laws.proofs.Bearing.{good_certificate}
 use Rattle.endpoint_laws.proofs.Tied.{Tied}
 use Rattle.endpoint_laws.proofs.OutSends.{Sent, Meets}
 use Rattle.endpoint_laws.proofs.OutItems.{meets_discarded}
@@ -88,14 +96,15 @@ module _ (secrets : Secrets) (setup : Setup) (from : AddressParts) (datagram : L
     attempt_at (Session near) came taken a there = absurd (cc)
 
     -- and where a hello of one did
-    hello_at : (p : Place) → Came secrets setup past s datagram p packet → takes p c.kind ≡ true → (tag cookie their : List ℕ) → chunk_reading c.kind c.payload ≡ Ok (RHello tag cookie their) → HelloCame secrets setup call past s p tag
-    hello_at (Startup generation) came taken tag cookie their is =
+    hello_at : (p : Place) → Came secrets setup past s datagram p packet → takes p c.kind ≡ true → (tag cookie their : List ℕ) → chunk_reading c.kind c.payload ≡ Ok (RHello tag cookie their) → read_fault (length c.payload) (Ok (RHello tag cookie their)) ≡ None → HelloCame secrets setup call past s p tag cookie their
+    hello_at (Startup generation) came taken tag cookie their is formed =
         let kind : c.kind ≡ 0x70 = hello_kind c.kind c.payload tag cookie their is in
         record {
-          takes = λ near tagged. subst (λ (g : ℕ). HasHello secrets setup past near g datagram) (sym came.group) (record {
+          brings = λ more stay near tagged low short. subst (λ (g : ℕ). HasHello secrets setup more (sha256 their) near g datagram) (sym came.group) (record {
             packet = packet;
             reads = came.came.read.reads;
-            opens = came.opens;
+            opens = subst (λ (contexts : List Context). OpensFirst secrets contexts 0 datagram (StartupContext generation) came.came.read.reads.plain) (sym stay) came.opens;
+            mode = came.mode;
             chunk = c;
             among = among;
             tag = tag;
@@ -105,11 +114,15 @@ module _ (secrets : Secrets) (setup : Setup) (from : AddressParts) (datagram : L
                 subst (λ (k : ℕ). Spells (RHello tag cookie their) k c.payload) (sym kind)
                 (hello_spelled c.payload (RHello tag cookie their) (came.came.read.bytes c among) (sym (ap (λ (k : ℕ). chunk_reading k c.payload) kind) ∙ is));
             tag_is = tagged;
+            lowest = low;
+            narrow = short;
+            is_cert = good_certificate their (test_fails (is_some (certificate_fault their)) (Malformed (length c.payload - length their)) formed);
+            peer_is = refl;
           });
           no_open = no_open secrets setup past generation came.came.event;
         }
-    hello_at (Attempt near generation) came taken tag cookie their is = absurd (not_in_attempt near generation c.kind (hello_kind c.kind c.payload tag cookie their is) taken)
-    hello_at (Session near) came taken tag cookie their is = absurd (not_in_session near c.kind (hello_kind c.kind c.payload tag cookie their is) taken)
+    hello_at (Attempt near generation) came taken tag cookie their is formed = absurd (not_in_attempt near generation c.kind (hello_kind c.kind c.payload tag cookie their is) taken)
+    hello_at (Session near) came taken tag cookie their is formed = absurd (not_in_session near c.kind (hello_kind c.kind c.payload tag cookie their is) taken)
 
     pub meets_chunk : Meets secrets setup s.moment call past (chunk_did place from draws walk s c)
     meets_chunk = chunk_by_kind (λ d. Meets secrets setup s.moment call past d) place from draws walk s c (record {
@@ -118,5 +131,5 @@ module _ (secrets : Secrets) (setup : Setup) (from : AddressParts) (datagram : L
       responder = λ kind taken none formed. meets_responder secrets setup s.moment call past s sent tied from (sid_at place) (attempt_at place came taken) c.payload;
       told = λ told taken has. told_at place passed told taken;
       flows = λ is taken none. meets_flow_taken secrets setup call past s sent (sid_at place) (data_reading walk.cursor c.kind c.payload);
-      reads = λ taken formed none. meets_read secrets setup call past s sent tied cert place from (chunk_reading c.kind c.payload) (λ tag cookie their is. hello_at place came taken tag cookie their is) none;
+      reads = λ taken formed none. meets_read secrets setup call past s sent tied cert place from (chunk_reading c.kind c.payload) (λ tag cookie their is. hello_at place came taken tag cookie their is (subst (λ (r : Result Chunk ChunkFault). read_fault (length c.payload) r ≡ None) is formed)) none;
     })

@@ -297,15 +297,19 @@ module _ (secrets : Secrets) (setup : Setup) (past : Past) (s : State) (tied : T
     attempt_sized : (near : ℕ) (a : AttemptState) (peer : List ℕ) (n : ℕ) → a.aim ≡ AtPeer peer n → get s.startup.attempts near ≡ Some a → HasSizes peer (Some (OpeningHeld n near a.ni))
     attempt_sized near a peer n aims there = held_sized peer (facts_of past) (OpeningHeld n near a.ni) counted.sized (attempt_held near a peer n aims there)
 
+    -- its keying goes out in this generation, towards the peer at which it aims
+    abbrev pub GoesIn : Call → ℕ → Aim → ℕ → Type 0
+    GoesIn call near aim generation = (peer : List ℕ) (n : ℕ) → aim ≡ AtPeer peer n → KeyingGoesIn secrets setup past call peer near generation
+
     keying_may : (call : Call) (group : GroupSecret) (near : ℕ) (a : AttemptState) (cookie : List ℕ) (aim : Aim) → IsAtPeer aim → a.aim ≡ aim → get s.startup.attempts near ≡ Some a → length cookie ≤ 128 → length s.startup.cert ≤ 80 →
-        KeyingGoesIn secrets setup past call near group.generation → KeyingMay secrets setup call past group.generation near (keying_of_aim (sign_key_of group.secret) near cookie s.startup.cert a.ni aim)
+        GoesIn call near aim group.generation → KeyingMay secrets setup call past group.generation near (keying_of_aim (sign_key_of group.secret) near cookie s.startup.cert a.ni aim)
     keying_may call group near a cookie (ByName name) other aims there narrow cert goes = absurd other
     keying_may call group near a cookie (AtPeer peer n) other aims there narrow cert goes =
-        iikeying_may secrets setup past group.generation 0 call group.secret near cookie s.startup.cert a.ni n peer narrow cert tied.cert (attempt_held near a peer n aims there) (attempt_sized near a peer n aims there) goes
+        iikeying_may secrets setup past group.generation 0 call group.secret near cookie s.startup.cert a.ni n peer narrow cert tied.cert (attempt_held near a peer n aims there) (attempt_sized near a peer n aims there) (goes peer n refl)
 
     -- from a state in which the attempt sends its keyings under this secret
     pub attempt_may : (call : Call) (t : State) (group : GroupSecret) → HasSecret secrets group → (near : ℕ) (a : AttemptState) (to : AddressParts) (cookie : List ℕ) → IsAtPeer a.aim → get s.startup.attempts near ≡ Some a → length cookie ≤ 128 → length setup.cert ≤ 80 →
-        KeyingGoesIn secrets setup past call near group.generation → ((b : AttemptState) → get t.startup.attempts near ≡ Some b → KeyedIn secrets group.generation b.stage) → KeyingAnswer secrets setup call past t near (keying_under group s.startup.cert near a to cookie)
+        GoesIn call near a.aim group.generation → ((b : AttemptState) → get t.startup.attempts near ≡ Some b → KeyedIn secrets group.generation b.stage) → KeyingAnswer secrets setup call past t near (keying_under group s.startup.cert near a to cookie)
     attempt_may call t group has near a to cookie towards there narrow short goes stage =
         let cert : length s.startup.cert ≤ 80 = subst (λ (c : List ℕ). length c ≤ 80) (sym tied.cert) short in
         record { under = under_has secrets group has; zero = refl; may = keying_may call group near a cookie a.aim towards refl there narrow cert goes; stage = stage }
@@ -401,7 +405,7 @@ module _ (secrets : Secrets) (setup : Setup) (past : Past) (s : State) (sent : S
       meets_answer secrets setup now call past t tied.own (keying_under under s.startup.cert e.0 e.1 at cookie) (again_sent e there)
       (inr (
         e.0,
-        attempt_may secrets setup past s tied (measured secrets setup past s sent) call t under stage.1 e.0 e.1 at cookie (keyed_towards e.1.aim e.1.stage at cookie under is (tied.sound.stages e.0 e.1 there)) there narrow short (inl stage.0)
+        attempt_may secrets setup past s tied (measured secrets setup past s sent) call t under stage.1 e.0 e.1 at cookie (keyed_towards e.1.aim e.1.stage at cookie under is (tied.sound.stages e.0 e.1 there)) there narrow short (λ peer n aims. inl stage.0)
             (keyed_put secrets s.startup.attempts e.0 (repeated e.1 s.moment) at cookie under is stage.1),
       ))
 

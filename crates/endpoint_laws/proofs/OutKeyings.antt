@@ -79,7 +79,7 @@ module _ (secrets : Secrets) (setup : Setup) (past : Past) (generation sid : ℕ
   ri_fits near part sign a b = (a, (omega arith, tt))
 
   pub iikeying_may : (call : Call) (secret : List ℕ) (near : ℕ) (cookie cert ni : List ℕ) (n : ℕ) (peer : List ℕ) → length cookie ≤ 128 → length cert ≤ 80 → cert ≡ setup.cert →
-      held peer (facts_of past) ≡ Some (Opening n near ni) → HasSizes peer (Some (Opening n near ni)) → KeyingGoesIn secrets setup past call near generation →
+      held peer (facts_of past) ≡ Some (Opening n near ni) → HasSizes peer (Some (Opening n near ni)) → KeyingGoesIn secrets setup past call peer near generation →
       KeyingMay secrets setup call past generation near (iikeying_packet secret near cookie cert ni n peer)
   unfolding iikeying_signed
   iikeying_may call secret near cookie cert ni n peer narrow short mine is_held sizes goes =
@@ -92,7 +92,7 @@ module _ (secrets : Secrets) (setup : Setup) (past : Past) (generation sid : ℕ
       record {
         may = λ packet reads.
             these_keyings _ _ packet chunk (startup_alone chunk packet fits reads) (ii_fits near cookie cert part sign sizes.1 narrow short part_len)
-            (refl, record { generation = generation; goes = goes; startup = refl; own = mine; peer = peer; n = n; ni = ni; is_held = is_held; values = refl });
+            (refl, record { own = mine; peer = peer; n = n; ni = ni; is_held = is_held; values = refl; generation = generation; goes = goes; startup = refl });
         bears = record {
           packet = one_whole startup_head (0x03 ∷ []) 0x38 (payload_bytes chunk);
           reads = startup_reads chunk fits;

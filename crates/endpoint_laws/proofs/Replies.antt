@@ -1,13 +1,14 @@
 -- Hellos, redirects, changes of cookies and pings: what each of them states and leaves, and how it is answered, is in order. A further one has its case here, and in no other proof of the laws.
 use Rattle.std.proofs.Common.{◌≡◌, ℕ, ◌≤◌, List, [], ◌∷◌, length, Bool, true, false, if◌then◌else◌, ◌&&◌, Option, Some, None, Result, Ok, ◌+◌, inl, inr, refl, sym, ap, subst, ◌∙◌, nat_lt, arith}
 use Rattle.std.specs.Prelude.{◌==◌, not}
-use Rattle.std.specs.FinMap.{get}
+use Rattle.std.specs.FinMap.{get, insert}
+use Rattle.std.specs.Str.{bytes_eq}
 use Rattle.std.proofs.lemmas.Slice.Eq.{bytes_eq-Decides}
 use Rattle.rtmfp_base.proofs.Lowest.{first_is_there}
 use Rattle.std.proofs.lemmas.Bool.{ltb-false, eqb-true}
 use Rattle.sha2.specs.Sha256.{sha256}
 use Rattle.sha2.proofs.Facts256.{length-sha256}
-use Rattle.rtmfp_base.proofs.Maps.{get_inserted, get_beside}
+use Rattle.rtmfp_base.proofs.Maps.{get_inserted, get_beside, found_inserted}
 use Rattle.glare_core.specs.declared.facts.Fact.{Fact}
 use Rattle.glare_core.specs.Calls.{started_fact}
 use Rattle.startup.specs.declared.aim.Aim.{Aim}
@@ -23,11 +24,11 @@ use Rattle.identity.specs.Discriminators.{discriminator_of}
 use Rattle.identity.specs.Targets.{selects, target_of}
 use Rattle.rtmfp_base.specs.Reasons.{where_true, first_that_stands}
 use Rattle.rtmfp_base.specs.declared.cause.Cause.{Cause}
-use Rattle.rtmfp_base.specs.declared.cause.Cause.TheVariants.{Wide, NotSelected}
+use Rattle.rtmfp_base.specs.declared.cause.Cause.TheVariants.{Wide, NotSelected, WrongPeer}
 use Rattle.startup.specs.declared.attempt.Stage.{Stage}
 use Rattle.startup.specs.declared.attempt.Stage.TheVariants.{Hello, Keying}
 use Rattle.startup.specs.declared.answer.Answer.{Answer}
-use Rattle.startup.specs.State.{AttemptState, FitsStage, StartupState}
+use Rattle.startup.specs.State.{AttemptState, FitsStage, StartupState, peer_of_attempt}
 use Rattle.startup.specs.Attempts.{lowest, has_tag, changed, wide, hello_cause as hello_cause_of, hello_cause_at, rhello_cause, none_to_change, answer_fact_as, answer_fact, after_answer_as, after_answer, answer_keying_as, answer_keying, answered, rhello_fact, after_rhello, rhello_keying, search_cause, with_attempt, keying_under, met, with_cookie, recookied, after_change, change_keying, again_under}
 use Rattle.startup.specs.Keyings.{initiator_hello_answer}
 use Rattle.startup.specs.Redirects.{told_addresses, new_candidates, extended, after_extension, after_redirect_of, redirect_spread_of}
@@ -38,7 +39,7 @@ use Rattle.crypto_profile.specs.Keys.{sign_key_of}
 use Rattle.endpoint_model.specs.declared.row.Row.{Row}
 use Rattle.endpoint_model.specs.declared.place.Place.{Place}
 use Rattle.endpoint_model.specs.declared.entry.Entry.TheVariants.{Fact as FactEntry, Out}
-use Rattle.endpoint_model.specs.Event.{Setup, own_of, Call, OpenCall, ReceiveCall, receive_in}
+use Rattle.endpoint_model.specs.Event.{Setup, own_of, Call, OpenCall, receive_in}
 use Rattle.endpoint_model.specs.State.{State, Did, nothing, after_entries, fact_entries, with_startup, with_session}
 use Rattle.endpoint_model.specs.Sending.{is_spent, last_count, session_datagram, sent_answer, sent_if, sent_by}
 use Rattle.endpoint_model.specs.Introducing.{redirected_to, hello_cause, redirect_of}
@@ -48,7 +49,8 @@ use Rattle.endpoint_model.specs.Causes.{read_cause}
 use Rattle.endpoint_model.specs.Effects.{Reply, Silence, InStartup, Hellos, InSession, Introduction, forwarded, introduction, hello_reply, replied, read_fact, read_left, read_reply, read_done}
 use Rattle.endpoint_laws.specs.Contexts.{Secrets}
 use Rattle.endpoint_laws.specs.Past.{Past, Stamped, stamped, onto, facts_of, last_call, open_of, opened_tag, tag_of}
-use Rattle.endpoint_laws.proofs.Tied.{Tied}
+use Rattle.endpoint_laws.proofs.Tied.{Tied, IsKeptIn}
+use Rattle.endpoint_laws.proofs.LowestId.{first_is_lowest}
 use Rattle.endpoint_laws.proofs.Facts.{all_none, test_fails}
 use Rattle.endpoint_laws.proofs.Moving.{tied_attempt}
 use Rattle.endpoint_laws.proofs.Small.{Any}
@@ -58,10 +60,10 @@ use Rattle.endpoint_laws.proofs.Going.{Goes, Keeps, goes_nothing, goes_then, goe
 use Rattle.endpoint_laws.proofs.OutPackets.{IsModest, one_is_modest}
 use Rattle.endpoint_laws.proofs.OutHeld.{may_send}
 use Rattle.endpoint_laws.proofs.OutSends.{IsNarrow, IsShort, Measured, measured, Sent, Meets, MayGo, meets_nothing, meets_after, meets_then, meets_session, under_has}
-use Rattle.endpoint_laws.proofs.Staged.{tag_started, tags_put, tags_started, hello_started, beside_begun, stage_beside, stages_put, kept_nothing}
-use Rattle.endpoint_laws.specs.Contexts.{IsInHello}
+use Rattle.endpoint_laws.proofs.Staged.{TagsAre, tag_started, tags_put, tags_started, hello_started, beside_begun, stage_beside, stages_put, kept_nothing}
+use Rattle.endpoint_laws.specs.Contexts.{IsInHello, SearchUnder, startup_contexts}
 use Rattle.endpoint_laws.specs.Groups.{HasSecret, IsStageOf}
-use Rattle.endpoint_laws.specs.Lawful.{TakesHelloOf}
+use Rattle.endpoint_laws.specs.Lawful.{IsTagged, TakesHelloOf}
 use Rattle.glare_core.specs.Standing.{held}
 use Rattle.glare_core.proofs.Accounts.{reads_held}
 use Rattle.endpoint_laws.proofs.OutKeyings.{rhello_may, redirect_may, length-cookie_of}
@@ -236,7 +238,7 @@ module _ (secrets : Secrets) (setup : Setup) (call : Call) (past : Past) (s : St
       inr (
         e.0,
         attempt_may secrets setup past s tied (measured secrets setup past s sent) call (with_startup s (after_change s.startup (Some e) cookie s.moment)) under stage.1 e.0 e.1 at cookie
-            (keyed_towards e.1.aim e.1.stage at old under is (tied.sound.stages e.0 e.1 there)) there short cert (inl stage.0)
+            (keyed_towards e.1.aim e.1.stage at old under is (tied.sound.stages e.0 e.1 there)) there short cert (λ peer n aims. inl stage.0)
             (keyed_put secrets s.startup.attempts e.0 (recookied e.1 cookie s.moment) at cookie under (ap (with_cookie cookie) is) stage.1),
       )
 
@@ -336,17 +338,44 @@ module _ (secrets : Secrets) (setup : Setup) (now : ℕ) (call : Call) (past : P
       (meets_redirected d.state (onto now d.entries past) first.sent (ap (λ (t : StartupState). t.ledger.own) same ∙ tied.own) redirect may.1)
   meets_replied s sent tied place from (InSession body) may = says s sent tied (sid_at place) from body may (get s.sessions (sid_at place)) refl
 
+aim_peer : (p q : List ℕ) (n m : ℕ) → AtPeer p n ≡ AtPeer q m → p ≡ q
+aim_peer p q n m e = cc
+
+right_peer : (peer their : List ℕ) → (if bytes_eq (sha256 their) peer then None else Some WrongPeer) ≡ None → sha256 their ≡ peer
+right_peer peer their none = by (bytes_eq (sha256 their) peer) refl none
+  where
+    by : (b : Bool) → bytes_eq (sha256 their) peer ≡ b → (if b then None else Some WrongPeer) ≡ None → sha256 their ≡ peer
+    by true is e = (bytes_eq-Decides (sha256 their) peer).0 is
+    by false is e = absurd (cc)
+
 -- ---- a responder's hello: what it states and leaves, and its keying, are one step
 
--- the datagram of its event is the same after a fact
-takes_over : (secrets : Secrets) (setup : Setup) (past : Past) (near generation now : ℕ) (fact : Fact) (o : Option ReceiveCall) → tag_of near (stamped now (FactEntry fact) ∷ past) ≡ tag_of near past → TakesHelloOf secrets setup past near generation o →
-    TakesHelloOf secrets setup (stamped now (FactEntry fact) ∷ past) near generation o
-takes_over secrets setup past near generation now fact None same takes = takes
-takes_over secrets setup past near generation now fact (Some r) same takes =
-    record { packet = takes.packet; reads = takes.reads; opens = takes.opens; chunk = takes.chunk; among = takes.among; tag = takes.tag; cookie = takes.cookie; cert = takes.cert; spells = takes.spells; tag_is = same ∙ takes.tag_is }
+-- The datagram of the event is one with this responder's hello, whichever attempt takes it: also behind what its event states.
+abbrev pub BringsHello : Secrets → Setup → Call → Past → State → Place → List ℕ → List ℕ → List ℕ → Type 0
+BringsHello secrets setup call past s place tag cookie their = (more : Past) → startup_contexts setup more ≡ startup_contexts setup past →
+    (near : ℕ) → tag_of near more ≡ Some tag → ((other : ℕ) → IsTagged more tag other → near ≤ other) → length cookie ≤ 128 → TakesHelloOf secrets setup more (sha256 their) near (group_at s place).generation (receive_in call)
+
+-- what stands with a tag is an attempt of the end that has it
+tagged_there : (secrets : Secrets) (setup : Setup) (past : Past) (s : State) → Tied secrets setup past s → TagsAre past s.startup.attempts → (tag : List ℕ) (near : ℕ) → IsTagged past tag near →
+    (a : AttemptState) × (get s.startup.attempts near ≡ Some a) × (a.tag ≡ tag)
+tagged_there secrets setup past s tied tags tag near tagged = elim tagged.0 [
+  | inl search ↦ by_search (get s.startup.attempts near) refl search (tied.searching near search.which search.at search.stands)
+  | inr attempt ↦ by_attempt (get s.startup.attempts near) refl attempt.peer (tied.sound.there attempt.peer attempt.n near attempt.ni (reads_held 0 s.startup.ledger (facts_of past) tied.account attempt.peer ∙ attempt.is_held))
+]
+  where
+    same : (a : AttemptState) → get s.startup.attempts near ≡ Some a → a.tag ≡ tag
+    same a there = let both : Some a.tag ≡ Some tag = sym (tags near a there) ∙ tagged.1 in cc
+
+    by_search : (o : Option AttemptState) → get s.startup.attempts near ≡ o → (search : SearchUnder past near) → IsKeptIn o search.which search.at → (a : AttemptState) × (get s.startup.attempts near ≡ Some a) × (a.tag ≡ tag)
+    by_search None there search kept = absurd kept
+    by_search (Some a) there search kept = (a, there, same a there)
+
+    by_attempt : (o : Option AttemptState) → get s.startup.attempts near ≡ o → (peer : List ℕ) → peer_of_attempt o ≡ Some peer → (a : AttemptState) × (get s.startup.attempts near ≡ Some a) × (a.tag ≡ tag)
+    by_attempt None there peer is = absurd (cc)
+    by_attempt (Some a) there peer is = (a, there, same a there)
 
 module _ (secrets : Secrets) (setup : Setup) (call : Call) (past : Past) (s : State) (sent : Sent secrets setup past s) (tied : Tied secrets setup past s) (cert : length setup.cert ≤ 80) (place : Place) (from : AddressParts) (tag cookie their : List ℕ)
-    (takes : (near : ℕ) → tag_of near past ≡ Some tag → TakesHelloOf secrets setup past near (group_at s place).generation (receive_in call)) (no_open : open_of (last_call past) ≡ None) where
+    (brings : BringsHello secrets setup call past s place tag cookie their) (no_open : open_of (last_call past) ≡ None) where
   abbrev g : GroupSecret
   g = group_at s place
 
@@ -361,24 +390,38 @@ module _ (secrets : Secrets) (setup : Setup) (call : Call) (past : Past) (s : St
   Answers e aim = Meets secrets setup s.moment call past (after_entries (fact_entries (answer_fact_as s.startup (sha256 their) e.0 e.1.ni aim))
       (sent_answer (with_startup s (after_answer_as s.startup (sha256 their) e from cookie s.moment (group_at s place) aim)) (answer_keying_as s.startup (sha256 their) e.0 e.1.ni from cookie (group_at s place) aim)))
 
+  -- the attempt or search that is found has the lowest session ID of those with the tag
+  is_lowest : (e : ℕ × AttemptState) → lowest (has_tag tag) s.startup.attempts ≡ Some e → (other : ℕ) (a : AttemptState) → get s.startup.attempts other ≡ Some a → a.tag ≡ tag → e.0 ≤ other
+  is_lowest e is other a there same = first_is_lowest (has_tag tag) s.startup.attempts e is other a there ((bytes_eq-Decides a.tag tag).1 same)
+
   -- an attempt
-  goes_on : (some : (s.sealed == last_count) ≡ false) (e : ℕ × AttemptState) (peer : List ℕ) (n : ℕ) → e.1.aim ≡ AtPeer peer n → e.1.stage ≡ Hello → get s.startup.attempts e.0 ≡ Some e.1 → tag_of e.0 past ≡ Some tag → length cookie ≤ 128 → Answers e (AtPeer peer n)
-  goes_on some e peer n aims hello there tagged short =
+  goes_on : (some : (s.sealed == last_count) ≡ false) (e : ℕ × AttemptState) (peer : List ℕ) (n : ℕ) → e.1.aim ≡ AtPeer peer n → e.1.stage ≡ Hello → get s.startup.attempts e.0 ≡ Some e.1 → lowest (has_tag tag) s.startup.attempts ≡ Some e → tag_of e.0 past ≡ Some tag → length cookie ≤ 128 → sha256 their ≡ peer → Answers e (AtPeer peer n)
+  goes_on some e peer n aims hello there least tagged short print =
       let a : AttemptState = answered e.1 from cookie s.moment (group_at s place) in
       let t : State = with_startup s (with_attempt s.startup e.0 a) in
       let is : IsShort e.1 = sent.short e.0 e.1 there in
       let counted : Measured setup past t = measured_startup setup past s (with_attempt s.startup e.0 a) (measured secrets setup past s sent) (short_put s.startup.attempts e.0 a sent.short (record { tag = is.tag; cookie = short; name = is.name })) in
       let hello_of : IsInHello secrets e.0 past = stage_there secrets setup past s sent.staged e.0 e.1 Hello hello there in
       let k : KeyingAnswer secrets setup call past t e.0 (keying_under (group_at s place) s.startup.cert e.0 e.1 from cookie) =
-      attempt_may secrets setup past s tied (measured secrets setup past s sent) call t (group_at s place) has e.0 e.1 from cookie (subst IsAtPeer (sym aims) tt) there short cert (inr (hello_of, takes e.0 tagged))
+      attempt_may secrets setup past s tied (measured secrets setup past s sent) call t (group_at s place) has e.0 e.1 from cookie (subst IsAtPeer (sym aims) tt) there short cert (λ q m at. inr (
+        hello_of,
+        subst (λ (p : List ℕ). TakesHelloOf secrets setup past p e.0 (group_at s place).generation (receive_in call)) (print ∙ aim_peer peer q n m (sym aims ∙ at)) (brings past refl e.0 tagged (λ other tagged_other. let found = tagged_there secrets setup past s tied sent.staged.tags tag other tagged_other in is_lowest e least other found.0 found.1 found.2) short),
+      ))
       (keyed_put secrets s.startup.attempts e.0 a from cookie (group_at s place) refl has) in
       subst (λ (aim : Aim). Meets secrets setup s.moment call past (sent_answer t (answer_under (group_at s place) from 0 (keying_of_aim (sign_key_of (group_at s place).secret) e.0 cookie s.startup.cert e.1.ni aim)))) aims
       (meets_keyed secrets setup s.moment call past t tied.own (keying_under (group_at s place) s.startup.cert e.0 e.1 from cookie) counted e.0 k
       (λ q b other is_there. sent.staged.attempts q b (sym (get_beside s.startup.attempts e.0 a q other) ∙ is_there)) sent.staged.kept (tags_put past s.startup.attempts sent.staged.tags e.0 e.1 a there refl) (λ spent. let clash : true ≡ false = sym spent ∙ some in absurd (cc)))
 
+  -- so too where another attempt is put in its place
+  lowest_with : (e : ℕ × AttemptState) (new : AttemptState) → lowest (has_tag tag) s.startup.attempts ≡ Some e → get s.startup.attempts e.0 ≡ Some e.1 → (other : ℕ) (a : AttemptState) → get (insert s.startup.attempts e.0 new) other ≡ Some a → a.tag ≡ tag → e.0 ≤ other
+  lowest_with e new least there other a is same = elim (found_inserted s.startup.attempts e.0 new other a is) [
+    | inl here ↦ omega (arith, here.0)
+    | inr old ↦ is_lowest e least other a old.1 same
+  ]
+
   -- a search that becomes an attempt
-  begins_so : (some : (s.sealed == last_count) ≡ false) (e : ℕ × AttemptState) (name : List ℕ) → e.1.aim ≡ ByName name → get s.startup.attempts e.0 ≡ Some e.1 → tag_of e.0 past ≡ Some tag → length cookie ≤ 128 → search_cause s.startup name their ≡ None → Answers e (ByName name)
-  begins_so some e name aims there tagged short none =
+  begins_so : (some : (s.sealed == last_count) ≡ false) (e : ℕ × AttemptState) (name : List ℕ) → e.1.aim ≡ ByName name → get s.startup.attempts e.0 ≡ Some e.1 → lowest (has_tag tag) s.startup.attempts ≡ Some e → tag_of e.0 past ≡ Some tag → length cookie ≤ 128 → search_cause s.startup name their ≡ None → Answers e (ByName name)
+  begins_so some e name aims there least tagged short none =
       let kept = kept_as secrets setup past s tied e.0 e.1 name aims there in
       let may = (met_if secrets setup past s tied name their none).may in
       let fact : Fact = started_fact s.startup.ledger (sha256 their) e.0 e.1.ni in
@@ -393,21 +436,26 @@ module _ (secrets : Secrets) (setup : Setup) (call : Call) (past : Past) (s : St
       let stated : Measured setup now s = measured_fact setup past s s.moment fact (measured secrets setup past s sent) (length-sha256 their, kept.2, omega (arith, kept.1)) in
       let counted : Measured setup now t = measured_startup setup now s t.startup stated (short_put s.startup.attempts e.0 a sent.short (record { tag = is.tag; cookie = short; name = tt })) in
       let unheld : held (sha256 their) (facts_of past) ≡ None = sym (reads_held 0 s.startup.ledger (facts_of past) tied.account (sha256 their)) ∙ may.unheld in
+      let tags : TagsAre now t.startup.attempts = tags_started past s.startup.attempts sent.staged.tags e.0 s.moment (sha256 their) (s.startup.ledger.started + 1) e.1.ni a (drawn ∙ sent.staged.tags e.0 e.1 there) in
       let k : KeyingAnswer secrets setup call now t e.0 (keying_under (group_at s place) t.startup.cert e.0 a from cookie) =
       attempt_may secrets setup now t after counted call t (group_at s place) has e.0 a from cookie tt (get_inserted s.startup.attempts e.0 a) short cert
-      (inr (hello_started secrets past e.0 x refl refl, takes_over secrets setup past e.0 (group_at s place).generation s.moment fact (receive_in call) same_tag (takes e.0 tagged)))
+      (λ q m at. inr (
+        hello_started secrets past e.0 x refl refl,
+        subst (λ (p : List ℕ). TakesHelloOf secrets setup now p e.0 (group_at s place).generation (receive_in call)) (aim_peer (sha256 their) q (s.startup.ledger.started + 1) m at)
+            (brings now refl e.0 (same_tag ∙ tagged) (λ other tagged_other. let found = tagged_there secrets setup now t after tags tag other tagged_other in lowest_with e a least there other found.0 found.1 found.2) short),
+      ))
       (keyed_put secrets s.startup.attempts e.0 a from cookie (group_at s place) refl has) in
       meets_after secrets setup s.moment call past (FactEntry fact ∷ []) (sent_answer t (keying_under (group_at s place) t.startup.cert e.0 a from cookie)) (tt, tt)
       (meets_keyed secrets setup s.moment call now t after.own (keying_under (group_at s place) t.startup.cert e.0 a from cookie) counted e.0 k
       (λ q b other is_there. stage_beside secrets past q x (beside_begun secrets q x refl (λ same. other (sym same)) tt) b.stage (sent.staged.attempts q b (sym (get_beside s.startup.attempts e.0 a q other) ∙ is_there)))
       (kept_nothing secrets setup past s.startup.kept sent.staged.kept sent.sized s.moment fact unheld)
-      (tags_started past s.startup.attempts sent.staged.tags e.0 s.moment (sha256 their) (s.startup.ledger.started + 1) e.1.ni a (drawn ∙ sent.staged.tags e.0 e.1 there))
+      tags
       (λ spent. let clash : true ≡ false = sym spent ∙ some in absurd (cc)))
 
-  by_aim : (some : (s.sealed == last_count) ≡ false) (e : ℕ × AttemptState) → get s.startup.attempts e.0 ≡ Some e.1 → tag_of e.0 past ≡ Some tag → length cookie ≤ 128 → (stage : Stage) → e.1.stage ≡ stage → (aim : Aim) → e.1.aim ≡ aim → hello_cause_of s.startup stage aim their ≡ None → Answers e aim
-  by_aim some e there tagged short Hello hello (AtPeer peer n) aims none = goes_on some e peer n aims hello there tagged short
-  by_aim some e there tagged short Hello hello (ByName name) aims none = begins_so some e name aims there tagged short none
-  by_aim some e there tagged short (Keying at old under) hello aim aims none = absurd (cc)
+  by_aim : (some : (s.sealed == last_count) ≡ false) (e : ℕ × AttemptState) → get s.startup.attempts e.0 ≡ Some e.1 → lowest (has_tag tag) s.startup.attempts ≡ Some e → tag_of e.0 past ≡ Some tag → length cookie ≤ 128 → (stage : Stage) → e.1.stage ≡ stage → (aim : Aim) → e.1.aim ≡ aim → hello_cause_of s.startup stage aim their ≡ None → Answers e aim
+  by_aim some e there least tagged short Hello hello (AtPeer peer n) aims none = goes_on some e peer n aims hello there least tagged short (right_peer peer their none)
+  by_aim some e there least tagged short Hello hello (ByName name) aims none = begins_so some e name aims there least tagged short none
+  by_aim some e there least tagged short (Keying at old under) hello aim aims none = absurd (cc)
 
   by_found : (some : (s.sealed == last_count) ≡ false) (o : Option (ℕ × AttemptState)) → lowest (has_tag tag) s.startup.attempts ≡ o → length cookie ≤ 128 → hello_cause_at s.startup o their ≡ None →
       Meets secrets setup s.moment call past (after_entries (fact_entries (answer_fact s.startup (sha256 their) o)) (sent_if (with_startup s (after_answer s.startup (sha256 their) o from cookie s.moment (group_at s place))) (answer_keying s.startup (sha256 their) o from cookie (group_at s place))))
@@ -415,7 +463,7 @@ module _ (secrets : Secrets) (setup : Setup) (call : Call) (past : Past) (s : St
   by_found some (Some e) is short none =
       let found = first_is_there (has_tag tag) s.startup.attempts e is in
       let same : e.1.tag ≡ tag = (bytes_eq-Decides e.1.tag tag).0 found.1 in
-      by_aim some e found.0 (sent.staged.tags e.0 e.1 found.0 ∙ ap (λ (t : List ℕ). Some t) same) short e.1.stage refl e.1.aim refl none
+      by_aim some e found.0 is (sent.staged.tags e.0 e.1 found.0 ∙ ap (λ (t : List ℕ). Some t) same) short e.1.stage refl e.1.aim refl none
 
   -- nothing goes out where no count is left
   spent_none : (b : Bool) (d : Did) → b ≡ true → Meets secrets setup s.moment call past (if b then nothing s else d)
@@ -445,14 +493,14 @@ meets_other secrets setup call past s sent tied cert place from read other none 
     subst (λ (o : Option Fact). Meets secrets setup s.moment call past (after_entries (fact_entries o) (replied (read_left s place from read) place from (read_reply s place from read)))) (sym (no_fact s read other))
     (meets_replied secrets setup s.moment call past (read_left s place from read) fits.sent (left_tied secrets setup past s tied place from read other) place from (read_reply s place from read) fits.may)
 
--- The datagram of the event is one with a responder's hello of this tag.
-pub record HelloCame (secrets : Secrets) (setup : Setup) (call : Call) (past : Past) (s : State) (place : Place) (tag : List ℕ) : Type 0 where
-  pub takes : (near : ℕ) → tag_of near past ≡ Some tag → TakesHelloOf secrets setup past near (group_at s place).generation (receive_in call)
+-- The event brings this responder's hello.
+pub record HelloCame (secrets : Secrets) (setup : Setup) (call : Call) (past : Past) (s : State) (place : Place) (tag cookie their : List ℕ) : Type 0 where
+  pub brings : BringsHello secrets setup call past s place tag cookie their
   pub no_open : open_of (last_call past) ≡ None
 
 pub meets_read : (secrets : Secrets) (setup : Setup) (call : Call) (past : Past) (s : State) → Sent secrets setup past s → Tied secrets setup past s → length setup.cert ≤ 80 → (place : Place) (from : AddressParts) (read : Result Chunk ChunkFault) →
-    ((tag cookie their : List ℕ) → read ≡ Ok (RHello tag cookie their) → HelloCame secrets setup call past s place tag) → read_cause s place from read ≡ None → Meets secrets setup s.moment call past (read_done s place from read)
+    ((tag cookie their : List ℕ) → read ≡ Ok (RHello tag cookie their) → HelloCame secrets setup call past s place tag cookie their) → read_cause s place from read ≡ None → Meets secrets setup s.moment call past (read_done s place from read)
 meets_read secrets setup call past s sent tied cert place from =
-    by_hello (λ read. ((tag cookie their : List ℕ) → read ≡ Ok (RHello tag cookie their) → HelloCame secrets setup call past s place tag) → read_cause s place from read ≡ None → Meets secrets setup s.moment call past (read_done s place from read))
-    (λ tag cookie their takes none. meets_hello secrets setup call past s sent tied cert place from tag cookie their (takes tag cookie their refl).takes (takes tag cookie their refl).no_open none)
+    by_hello (λ read. ((tag cookie their : List ℕ) → read ≡ Ok (RHello tag cookie their) → HelloCame secrets setup call past s place tag cookie their) → read_cause s place from read ≡ None → Meets secrets setup s.moment call past (read_done s place from read))
+    (λ tag cookie their takes none. meets_hello secrets setup call past s sent tied cert place from tag cookie their (takes tag cookie their refl).brings (takes tag cookie their refl).no_open none)
     (λ read other takes none. meets_other secrets setup call past s sent tied cert place from read other none)

@@ -6,6 +6,7 @@ use Rattle.crypto_profile.specs.declared.keys.Context.{Context}
 use Rattle.crypto_profile.specs.declared.keys.Context.TheVariants.{Startup, Session}
 use Rattle.crypto_profile.specs.Sealing.{sealed_in, number_of}
 use Rattle.packet_scramble.specs.Datagram.{datagram}
+use Rattle.rtmfp_packet.specs.declared.head.Mode.TheVariants.{Startup as StartupMode}
 use Rattle.rtmfp_packet.specs.Whole.{Whole}
 use Rattle.rtmfp_packet.specs.Walk.{Placed}
 use Rattle.rtmfp_packet.specs.Reading.{PacketReading}
@@ -28,7 +29,7 @@ use Rattle.endpoint_model.specs.Views.{Sending, NamedSearch, EndedSearch, fact_i
 use Rattle.endpoint_model.specs.declared.config.Draws.{Draws}
 use Rattle.endpoint_model.specs.Event.{Setup, own_of, Call, OpenCall, SeekCall, ReceiveCall, open_in, seek_in, unseek_in, cancel_in, close_in, receive_in, tick_in, learn_in, is_advance, Event, moment_at}
 use Rattle.endpoint_laws.specs.Past.{Past, before_event, current_of, next_of, Search, IsSearch, tag_of, with_event, facts_of, is_in_use, IsClosing, taken_since, nothing_done, with_begun, with_entry, with_fact, WasStated, WentOut}
-use Rattle.endpoint_laws.specs.Contexts.{Secrets, generation_of, ReadsUnder, StandsUnder, inward, outward, OpensUnder, OpensFirst, startup_contexts, KeyingWent, IsInHello, OpensInStartup, BeganWith, BegunUnder}
+use Rattle.endpoint_laws.specs.Contexts.{Secrets, generation_of, ReadsUnder, StandsUnder, inward, outward, OpensUnder, OpensFirst, startup_contexts, SearchUnder, AttemptUnder, KeyingWent, IsInHello, OpensInStartup, BeganWith, BegunUnder}
 use Rattle.endpoint_laws.specs.Taken.{TookAt, TakesChunkIn}
 use Rattle.endpoint_model.specs.Keying.{IsSigned, IsAmong, KeyingsAre, chunks_of, initiator_part, responder_part}
 use Rattle.endpoint_laws.specs.Admissible.{Admissible, Offer}
@@ -322,15 +323,21 @@ AsFarAs (Startup generation) facts = Unit {0}
 AsFarAs (Session generation ni nr fp_i fp_r sid_i sid_r to_responder) facts =
     AllDifferent (nonces_of facts)
 
--- The call takes a datagram that opens in the startup context of this generation under session ID
--- 0, with a responder's hello in it that has the tag of the attempt or search under this session
--- ID.
-pub record HasHello (secrets : Secrets) (setup : Setup) (past : Past) (near generation : ℕ)
-    (datagram : List ℕ) : Type 0 where
+-- An attempt or a search stands under this session ID, and its hellos have this tag.
+abbrev pub IsTagged : Past → List ℕ → ℕ → Type 0
+IsTagged past tag near = (SearchUnder past near ⊎ AttemptUnder past near) ×
+    (tag_of near past ≡ Some tag)
+
+-- The datagram opens in the startup context of this generation under session ID 0, and has a
+-- responder's hello that the attempt with this peer takes, which is under this session ID: of all
+-- attempts and searches with the hello's tag it has the lowest, and the certificate is the peer's.
+pub record HasHello (secrets : Secrets) (setup : Setup) (past : Past) (peer : List ℕ)
+    (near generation : ℕ) (datagram : List ℕ) : Type 0 where
   pub packet : Whole
   pub reads : ReadsUnder secrets (Startup generation) 0 datagram packet
   pub opens : OpensFirst secrets (startup_contexts setup past) 0 datagram (Startup generation)
       reads.plain
+  pub mode : packet.head.mode ≡ StartupMode
   pub chunk : Placed
   pub among : IsAmong chunk (chunks_of packet)
   pub tag : List ℕ
@@ -338,32 +345,37 @@ pub record HasHello (secrets : Secrets) (setup : Setup) (past : Past) (near gene
   pub cert : List ℕ
   pub spells : Spells (RHello tag cookie cert) chunk.kind chunk.payload
   pub tag_is : tag_of near past ≡ Some tag
+  pub lowest : (other : ℕ) → IsTagged past tag other → near ≤ other
+  pub narrow : length cookie ≤ 128
+  pub is_cert : IsCertificate cert
+  pub peer_is : peer ≡ sha256 cert
 
-abbrev pub TakesHelloOf : Secrets → Setup → Past → ℕ → ℕ → Option ReceiveCall → Type 0
-TakesHelloOf secrets setup past near generation None = ⊥
-TakesHelloOf secrets setup past near generation (Some r) =
-    HasHello secrets setup past near generation r.datagram
+abbrev pub TakesHelloOf : Secrets → Setup → Past → List ℕ → ℕ → ℕ → Option ReceiveCall → Type 0
+TakesHelloOf secrets setup past peer near generation None = ⊥
+TakesHelloOf secrets setup past peer near generation (Some r) =
+    HasHello secrets setup past peer near generation r.datagram
 
 -- The keying of an attempt goes out in the generation of those before, and the first one in that in
--- which the responder's hello came that has its tag.
-abbrev pub KeyingGoesIn : Secrets → Setup → Past → Call → ℕ → ℕ → Type 0
-KeyingGoesIn secrets setup past call near generation = KeyingWent secrets near generation past ⊎
+-- which the responder's hello came that the attempt takes.
+abbrev pub KeyingGoesIn : Secrets → Setup → Past → Call → List ℕ → ℕ → ℕ → Type 0
+KeyingGoesIn secrets setup past call peer near generation =
+    KeyingWent secrets near generation past ⊎
     (IsInHello secrets near past ×
-    TakesHelloOf secrets setup past near generation (receive_in call))
+    TakesHelloOf secrets setup past peer near generation (receive_in call))
 
 -- An initiator's keying goes out in the startup context of its attempt alone, with the certificate
 -- of this end, and the session ID and the component of an attempt that is held.
 pub record KeyingOfAttempt (secrets : Secrets) (setup : Setup) (call : Call) (past : Past)
     (context : Context) (near : ℕ) (cert part : List ℕ) : Type 0 where
-  pub generation : ℕ
-  pub goes : KeyingGoesIn secrets setup past call near generation
-  pub startup : context ≡ Startup generation
   pub own : cert ≡ setup.cert
   pub peer : List ℕ
   pub n : ℕ
   pub ni : List ℕ
   pub is_held : held peer (facts_of past) ≡ Some (Opening n near ni)
   pub values : part ≡ initiator_part ni n peer
+  pub generation : ℕ
+  pub goes : KeyingGoesIn secrets setup past call peer near generation
+  pub startup : context ≡ Startup generation
 
 -- The session is held, and was born here.
 abbrev pub IsBornHere : Option Held → Joined → Type 0
