@@ -1,5 +1,5 @@
-/* Preloaded before a program: between a `+` and a `-` that it writes on standard error, its allocations are counted, and the
-   one whose number REFUSED says gets nothing. The count is written into the file COUNTED at the end. Where REFUSED isn't
+/* Preloaded before a program: between a `+` and a `-` that it writes on standard error, or from its start where WHOLE is
+   there, its allocations are counted, and the one whose number REFUSED says gets nothing. The count is written into the file COUNTED at the end. Where REFUSED isn't
    there, or 0, each gets its memory. */
 #define _GNU_SOURCE
 #include <dlfcn.h>
@@ -12,7 +12,7 @@
 #include <unistd.h>
 
 static long counted, refused = -1;
-static int counts;
+static int counts = -1;
 
 extern void *__libc_malloc(size_t);
 extern void *__libc_calloc(size_t, size_t);
@@ -20,6 +20,7 @@ extern void *__libc_realloc(void *, size_t);
 extern void *__libc_memalign(size_t, size_t);
 
 static int is_refused(void) {
+  if (counts < 0) counts = getenv("WHOLE") != NULL;
   if (!counts) return 0;
   if (refused < 0) {
     const char *word = getenv("REFUSED");
