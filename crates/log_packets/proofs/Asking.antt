@@ -15,7 +15,7 @@ use Rattle.endpoint_model.specs.Keying.{IsSigned, responder_part}
 use Rattle.log_packets.specs.declared.fields.Hello.{Hello}
 use Rattle.log_packets.specs.declared.fields.InitiatorKeying.{InitiatorKeying}
 use Rattle.log_packets.specs.declared.fields.ResponderKeying.{ResponderKeying}
-use Rattle.log_packets.specs.Asked.{Tells, IsHelloWith, IsHelloOf, IsCertOf, IsAnswer, HelloFields, InitiatorFields, ResponderFields, hello_shown, initiator_shown, responder_shown, first_of, IsFirstFound, SaysHello, SaysInitiator, SaysResponder}
+use Rattle.log_packets.specs.Asked.{Tells, IsHelloFrom, IsFrom, IsHelloOf, IsCertOf, IsAnswer, HelloFields, InitiatorFields, ResponderFields, hello_shown, initiator_shown, responder_shown, first_of, IsFirstFound, SaysHello, SaysInitiator, SaysResponder}
 use Rattle.log_packets.proofs.Chunks.{only_true, first_is, is_first}
 
 same_bytes : (a b : List ℕ) → bytes_eq a b ≡ true → a ≡ b
@@ -34,8 +34,8 @@ no_some f (Some a) b e m = absurd cc
 -- ---- responders' hellos
 
 module _ (c : Placed) (o : Option Hello) (says : SaysHello c.kind c.payload (option_map hello_shown o)) where
-  pub no_hello_with : (tag : List ℕ) → o ≡ None → Tells (IsHelloWith tag c) false
-  no_hello_with tag none = record {
+  pub no_hello_from : (tag peer : List ℕ) → o ≡ None → Tells (IsHelloFrom tag peer c) false
+  no_hello_from tag peer none = record {
     yes = λ e. only_true false refl e;
     no = λ h. absurd (no_some hello_shown o (record { tag = tag; cookie = h.cookie; cert = h.cert }) none (says.no (record { tag = tag; cookie = h.cookie; cert = h.cert }) h.spells));
   }
@@ -58,10 +58,18 @@ module _ (c : Placed) (o : Option Hello) (says : SaysHello c.kind c.payload (opt
     the_tag : (cookie cert : List ℕ) → Spells (RHello tag cookie cert) c.kind c.payload → same ≡ true
     the_tag cookie cert spells = is ∙ are_same h.tag.now tag (ap (λ (f : HelloFields). f.tag) (only (record { tag = tag; cookie = cookie; cert = cert }) spells))
 
-    pub hello_with_is : Tells (IsHelloWith tag c) same
-    hello_with_is = record {
-      yes = λ e. record { cookie = h.cookie.now; cert = h.cert.now; spells = spelled e };
+    pub other_tag_from : (peer : List ℕ) → same ≡ false → Tells (IsHelloFrom tag peer c) same
+    other_tag_from peer other = record {
+      yes = λ e. only_true same other e;
       no = λ w. the_tag w.cookie w.cert w.spells;
+    }
+
+    pub hello_from_is : (peer : List ℕ) (it : Bool) → same ≡ true → Tells (IsFrom peer h.cookie.now h.cert.now) it → Tells (IsHelloFrom tag peer c) it
+    hello_from_is peer it e from = record {
+      yes = λ t. record { cookie = h.cookie.now; cert = h.cert.now; spells = spelled e; from = from.yes t };
+      no = λ w.
+          let fields = only (record { tag = tag; cookie = w.cookie; cert = w.cert }) w.spells in
+          from.no (subst (λ (f : HelloFields). IsFrom peer f.cookie f.cert) (sym fields) w.from);
     }
 
     pub other_tag : (name peer : List ℕ) → same ≡ false → Tells (IsHelloOf tag name peer c) same

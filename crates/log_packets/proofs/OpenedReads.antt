@@ -1,17 +1,21 @@
 -- What is so of a datagram that was opened.
-use Rattle.std.proofs.Common.{ℕ, ◌≡◌, Bool, true, false, nat_lt, List, [], ◌∷◌, drop, length, inl, inr, Some, None, Result, Ok, if◌then◌else◌, refl, sym, ap, subst, ◌∙◌}
+use Rattle.std.proofs.Common.{ℕ, ◌≡◌, ◌≤◌, Bool, true, false, nat_lt, List, [], ◌∷◌, drop, length, inl, inr, Option, Some, None, Result, Ok, if◌then◌else◌, refl, sym, ap, subst, ◌∙◌}
 use Rattle.crypto_profile.specs.declared.keys.Context.TheVariants.{Startup}
 use Rattle.packet_scramble.specs.Datagram.{sid_of}
+use Rattle.rtmfp_packet.specs.declared.head.Mode.TheVariants.{Startup as StartupMode}
 use Rattle.rtmfp_packet.specs.declared.head.PacketFault.{PacketFault}
 use Rattle.rtmfp_packet.specs.Reading.{PacketReading}
 use Rattle.rtmfp_packet.proofs.Readings.{packet_reading_same}
 use Rattle.rtmfp_packet.specs.Whole.{Whole}
 use Rattle.endpoint_model.specs.Keying.{IsAmong, IsSigned, chunks_of}
 use Rattle.endpoint_laws.specs.Contexts.{Secrets, OpensUnder, OpensFirst, ReadsUnder, startup_contexts}
-use Rattle.endpoint_laws.specs.Past.{Search, IsSearch}
+use Rattle.endpoint_model.specs.Event.{Setup}
+use Rattle.endpoint_laws.specs.Lawful.{HasHello, IsTagged}
+use Rattle.endpoint_laws.specs.Past.{Past, Search, IsSearch, tag_of}
 use Rattle.rtmfp_chunks.specs.Chunk.{RHello, Spells}
 use Rattle.crypto_profile.specs.declared.keys.Context.{Context}
-use Rattle.log_packets.specs.Laws.{EachOpensUnderItsOwn, WhatOpensReads, AnAnswerIsAmongItsChunks, KeyingsAreAmongItsChunks, AHelloIsAmongItsChunks, TheHelloIsAmongItsChunks}
+use Rattle.log_packets.specs.Opening.{startup_of, IsFirstOpened}
+use Rattle.log_packets.specs.Laws.{EachOpensUnderItsOwn, BringsHello, WhatOpensReads, AnAnswerIsAmongItsChunks, KeyingsAreAmongItsChunks, AHelloIsAmongItsChunks, TheHelloIsAmongItsChunks}
 use Rattle.log_packets.proofs.Opens.{long_is, one_of}
 
 kept : (short : Bool) (id : ℕ) → short ≡ false → (if short then None else Some id) ≡ Some id
@@ -100,35 +104,53 @@ first_under secrets [] sid bytes context plain o = absurd o
 first_under secrets (first ∷ later) sid bytes context plain (inl here) = here.1
 first_under secrets (first ∷ later) sid bytes context plain (inr rest) = first_under secrets later sid bytes context plain rest.1
 
-pub among_hellos : AHelloIsAmongItsChunks
-among_hellos secrets setup past near current generation next bytes plain tag packet it contexts is reads tag_is tells =
-    let first = subst (λ (cs : List Context). OpensFirst secrets cs 0 bytes (Startup generation) plain) (sym contexts) (is.yes generation refl) in
-    record {
-      yes = λ e.
-          let s = tells.yes e in
-          record {
-            packet = packet;
-            reads = record { plain = plain; opens = first_under secrets (startup_contexts setup past) 0 bytes (Startup generation) plain first; reads = reads };
-            opens = first;
-            chunk = s.chunk;
-            among = s.among;
-            tag = tag;
-            cookie = s.is.cookie;
-            cert = s.is.cert;
-            spells = s.is.spells;
-            tag_is = tag_is;
+module _ (secrets : Secrets) (setup : Setup) (past : Past) (near current generation : ℕ) (next : Option ℕ) (bytes plain tag peer : List ℕ) (packet : Whole)
+    (contexts : startup_contexts setup past ≡ startup_of current next) (is : IsFirstOpened secrets current next 0 bytes (Some generation) plain) (reads : PacketReading plain (Ok packet)) (tag_is : tag_of near past ≡ Some tag) where
+  has_hello : BringsHello past tag peer near packet → HasHello secrets setup past peer near generation bytes
+  has_hello b =
+      let first = subst (λ (cs : List Context). OpensFirst secrets cs 0 bytes (Startup generation) plain) (sym contexts) (is.yes generation refl) in
+      let s = b.hello in
+      record {
+        packet = packet;
+        reads = record { plain = plain; opens = first_under secrets (startup_contexts setup past) 0 bytes (Startup generation) plain first; reads = reads };
+        opens = first;
+        mode = b.mode;
+        chunk = s.chunk;
+        among = s.among;
+        tag = tag;
+        cookie = s.is.cookie;
+        cert = s.is.cert;
+        spells = s.is.spells;
+        tag_is = tag_is;
+        lowest = b.lowest;
+        narrow = s.is.from.narrow;
+        is_cert = s.is.from.is_cert;
+        peer_is = s.is.from.peer_is;
+      }
+
+  brings_hello : HasHello secrets setup past peer near generation bytes → BringsHello past tag peer near packet
+  brings_hello h =
+      let found = is.no (Startup generation) h.reads.plain (subst (λ (cs : List Context). OpensFirst secrets cs 0 bytes (Startup generation) h.reads.plain) contexts h.opens) in
+      let read : PacketReading plain (Ok h.packet) = subst (λ (b : List ℕ). PacketReading b (Ok h.packet)) found.3 h.reads.reads in
+      let same : h.packet ≡ packet = same_packet plain h.packet packet read reads in
+      let same_tag : h.tag ≡ tag = one_of h.tag tag (sym h.tag_is ∙ tag_is) in
+      record {
+        mode = subst (λ (p : Whole). p.head.mode ≡ StartupMode) same h.mode;
+        lowest = subst (λ (t : List ℕ). (other : ℕ) → IsTagged past t other → near ≤ other) same_tag h.lowest;
+        hello = record {
+          chunk = h.chunk;
+          among = subst (λ (p : Whole). IsAmong h.chunk (chunks_of p)) same h.among;
+          is = record {
+            cookie = h.cookie;
+            cert = h.cert;
+            spells = subst (λ (t : List ℕ). Spells (RHello t h.cookie h.cert) h.chunk.kind h.chunk.payload) same_tag h.spells;
+            from = record { narrow = h.narrow; is_cert = h.is_cert; peer_is = h.peer_is };
           };
-      no = λ h.
-          let found = is.no (Startup generation) h.reads.plain (subst (λ (cs : List Context). OpensFirst secrets cs 0 bytes (Startup generation) h.reads.plain) contexts h.opens) in
-          let read : PacketReading plain (Ok h.packet) = subst (λ (b : List ℕ). PacketReading b (Ok h.packet)) found.3 h.reads.reads in
-          let same : h.packet ≡ packet = same_packet plain h.packet packet read reads in
-          let same_tag : h.tag ≡ tag = one_of h.tag tag (sym h.tag_is ∙ tag_is) in
-          tells.no (record {
-            chunk = h.chunk;
-            among = subst (λ (p : Whole). IsAmong h.chunk (chunks_of p)) same h.among;
-            is = record { cookie = h.cookie; cert = h.cert; spells = subst (λ (t : List ℕ). Spells (RHello t h.cookie h.cert) h.chunk.kind h.chunk.payload) same_tag h.spells };
-          });
-    }
+        };
+      }
+
+pub among_hellos : AHelloIsAmongItsChunks
+among_hellos = record { brings = brings_hello; has = has_hello }
 
 pub among_answering : TheHelloIsAmongItsChunks
 among_answering secrets generation past bytes plain peer n near search packet it is reads one size fits tells =

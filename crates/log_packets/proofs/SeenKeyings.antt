@@ -5,8 +5,8 @@ use Rattle.std.specs.Option.{option_map}
 use Rattle.std.proofs.lemmas.Bool.Decides.{nat_tests}
 use Rattle.rtmfp_packet.specs.Walk.{Placed}
 use Rattle.log_packets.specs.declared.fields.InitiatorKeying.{InitiatorKeying}
-use Rattle.log_packets.specs.Asked.{SomeChunk, IsKeyingWith, AreKeyingsOf, InitiatorFields, initiator_shown, SaysInitiator}
-use Rattle.log_packets.proofs.Chunks.{one_is, later_is, which_is, none_is}
+use Rattle.log_packets.specs.Asked.{SomeChunk, IsKeyingWith, InitiatorFields, initiator_shown, SaysInitiator}
+use Rattle.log_packets.proofs.Chunks.{one_is, later_is, which_is}
 
 abbrev has : List ℕ → ℕ → Bool
 has ids near = list_any (λ id. id == near) ids

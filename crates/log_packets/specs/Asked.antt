@@ -1,5 +1,5 @@
 -- What is asked of the chunks of a packet.
-use Rattle.std.specs.Prelude.{ℕ, List, [], ◌∷◌, drop, ◌≡◌, ◌==◌, Bool, true, Option, Some, None, Result, Ok, if◌then◌else◌}
+use Rattle.std.specs.Prelude.{ℕ, List, [], ◌∷◌, drop, length, ◌≡◌, ◌==◌, ◌≤◌, Bool, true, Option, Some, None, Result, Ok, if◌then◌else◌}
 use Rattle.std.specs.List.{list_any}
 use Rattle.sha2.specs.Sha256.{sha256}
 use Rattle.identity.specs.Certificates.{IsCertificate}
@@ -32,11 +32,19 @@ first_of kind (c ∷ cs) = if c.kind == kind then Some c else first_of kind cs
 abbrev pub IsChunk : Chunk → Placed → Type 0
 IsChunk chunk c = Spells chunk c.kind c.payload
 
--- It is a responder's hello with this tag.
-pub record IsHelloWith (tag : List ℕ) (c : Placed) : Type 0 where
+-- An attempt with this peer takes a hello with this cookie and this certificate: the cookie is short
+-- enough, and the certificate is the peer's.
+pub record IsFrom (peer cookie cert : List ℕ) : Type 0 where
+  pub narrow : length cookie ≤ 128
+  pub is_cert : IsCertificate cert
+  pub peer_is : peer ≡ sha256 cert
+
+-- It is a responder's hello with this tag that such an attempt takes.
+pub record IsHelloFrom (tag peer : List ℕ) (c : Placed) : Type 0 where
   pub cookie : List ℕ
   pub cert : List ℕ
   pub spells : Spells (RHello tag cookie cert) c.kind c.payload
+  pub from : IsFrom peer cookie cert
 
 -- It is a certificate of this name and this peer.
 pub record IsCertOf (name peer cert : List ℕ) : Type 0 where

@@ -1,19 +1,20 @@
 -- The laws of opened datagrams.
-use Rattle.std.specs.Prelude.{ℕ, List, length, ◌≡◌, ◌<◌, ◌^◌, Bool, true, Option, Some, Ok}
+use Rattle.std.specs.Prelude.{ℕ, List, length, ◌≡◌, ◌<◌, ◌≤◌, ◌^◌, Bool, true, Option, Some, Ok}
 use Rattle.std.specs.FinMap.{get}
 use Rattle.crypto_profile.specs.declared.keys.Context.{Context}
 use Rattle.crypto_profile.specs.declared.keys.Context.TheVariants.{Startup}
 use Rattle.glare_core.specs.declared.facts.Joined.{Joined}
+use Rattle.rtmfp_packet.specs.declared.head.Mode.TheVariants.{Startup as StartupMode}
 use Rattle.rtmfp_packet.specs.Reading.{PacketReading}
 use Rattle.rtmfp_packet.specs.Whole.{Whole}
 use Rattle.endpoint_model.specs.Keying.{chunks_of}
 use Rattle.endpoint_model.specs.Views.{Sending}
 use Rattle.endpoint_laws.specs.Contexts.{Secrets, OpensUnder, ReadsUnder, IsKeyingOf, startup_contexts}
-use Rattle.endpoint_laws.specs.Lawful.{AnswersAttempt, AnswersSearch, HasHello}
+use Rattle.endpoint_laws.specs.Lawful.{AnswersAttempt, AnswersSearch, HasHello, IsTagged}
 use Rattle.endpoint_laws.specs.Past.{Past, Search, IsSearch, tag_of}
 use Rattle.endpoint_model.specs.Event.{Setup}
 use Rattle.log_packets.specs.Opening.{sid_in, startup_of, IsFirstOpened, IsOpened}
-use Rattle.log_packets.specs.Asked.{Tells, SomeChunk, IsAnswer, IsHelloOf, IsHelloWith, IsKeyingWith}
+use Rattle.log_packets.specs.Asked.{Tells, SomeChunk, IsAnswer, IsHelloFrom, IsHelloOf, IsKeyingWith}
 
 -- A datagram opens under its own session ID, and one that has none opens nowhere.
 abbrev pub EachOpensUnderItsOwn : Type 0
@@ -44,16 +45,30 @@ AnAnswerIsAmongItsChunks = (secrets : Secrets) (generation : ℕ) (secret : List
     Tells (SomeChunk (IsAnswer secret j) (chunks_of packet)) it →
     Tells (AnswersAttempt secrets generation j bytes) it
 
+-- The packet has the mode of startup and a hello that an attempt with this tag and this peer takes,
+-- and of all with the tag none has a lower session ID.
+pub record BringsHello (past : Past) (tag peer : List ℕ) (near : ℕ) (packet : Whole) : Type 0 where
+  pub mode : packet.head.mode ≡ StartupMode
+  pub lowest : (other : ℕ) → IsTagged past tag other → near ≤ other
+  pub hello : SomeChunk (IsHelloFrom tag peer) (chunks_of packet)
+
 -- Where a datagram opens under session ID 0, first in startup of this generation, and reads as this
--- packet, a hello with the tag of an attempt or a search is among its chunks if it has one.
-abbrev pub AHelloIsAmongItsChunks : Type 0
-AHelloIsAmongItsChunks = (secrets : Secrets) (setup : Setup) (past : Past)
-    (near current generation : ℕ) (next : Option ℕ) (bytes plain tag : List ℕ) (packet : Whole)
-    (it : Bool) → startup_contexts setup past ≡ startup_of current next →
-    IsFirstOpened secrets current next 0 bytes (Some generation) plain →
-    PacketReading plain (Ok packet) → tag_of near past ≡ Some tag →
-    Tells (SomeChunk (IsHelloWith tag) (chunks_of packet)) it →
-    Tells (HasHello secrets setup past near generation bytes) it
+-- packet, it has a hello that an attempt with this tag takes exactly where the packet brings one.
+pub record AHelloIsAmongItsChunks : Type 0 where
+  pub brings : (secrets : Secrets) (setup : Setup) (past : Past)
+      (near current generation : ℕ) (next : Option ℕ) (bytes plain tag peer : List ℕ)
+      (packet : Whole) → startup_contexts setup past ≡ startup_of current next →
+      IsFirstOpened secrets current next 0 bytes (Some generation) plain →
+      PacketReading plain (Ok packet) → tag_of near past ≡ Some tag →
+      HasHello secrets setup past peer near generation bytes →
+      BringsHello past tag peer near packet
+  pub has : (secrets : Secrets) (setup : Setup) (past : Past)
+      (near current generation : ℕ) (next : Option ℕ) (bytes plain tag peer : List ℕ)
+      (packet : Whole) → startup_contexts setup past ≡ startup_of current next →
+      IsFirstOpened secrets current next 0 bytes (Some generation) plain →
+      PacketReading plain (Ok packet) → tag_of near past ≡ Some tag →
+      BringsHello past tag peer near packet →
+      HasHello secrets setup past peer near generation bytes
 
 -- This search and no other stands under a session ID.
 pub record IsOnlySearch (near : ℕ) (search : Search) (past : Past) : Type 0 where

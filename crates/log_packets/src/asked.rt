@@ -6,7 +6,8 @@ ghost use Rattle.rtmfp_packet.specs.Chunks.{left, shown};
 ghost use Rattle.rtmfp_chunks.specs.Chunk.{Close as CloseChunk, CloseAck};
 ghost use Rattle.endpoint_model.specs.Keying.{chunks_of, responder_part};
 ghost use Rattle.log_packets.specs.Asked.{first_of, AreKeyingsOf, IsAnswer, IsCertOf, IsChunk};
-ghost use Rattle.log_packets.specs.Asked.{IsFirstFound, IsHelloOf, IsHelloWith, SomeChunk, Tells};
+ghost use Rattle.log_packets.specs.Asked.{IsFirstFound, IsFrom, IsHelloFrom, IsHelloOf, SomeChunk};
+ghost use Rattle.log_packets.specs.Asked.{Tells};
 
 use crate::fields::{InitiatorKeying, hello_in, initiator_in, responder_in};
 use crypto_profile::Generation;
@@ -17,6 +18,9 @@ use rtmfp_chunks::kinds::{CLOSE, CLOSE_ACK, IIKEYING};
 use rtmfp_packet::{Chunks, Packet, RawChunk};
 use startup_packets::is_signed;
 use std::alloc::Global;
+
+/// The longest cookie that an attempt takes, in bytes (own).
+const COOKIE_LIMIT: usize = 128;
 
 /// The first chunk of this type.
 fn first_of<'a>(mut chunks: Chunks<'a>, kind: u8) -> Option<RawChunk<'a>>
@@ -71,22 +75,35 @@ pub fn keyings(packet: &Packet<'_>, alloc: Global) -> Result<Vec<u32>, Memory>
     Ok(ids)
 }
 
-fn is_hello_with(chunk: &RawChunk<'_>, tag: &[u8]) -> bool
-    ensures { Tells (IsHelloWith tag.now (shown chunk.now)) result }
+fn is_from(cookie: &[u8], cert: &[u8], peer: &[u8; 32]) -> bool
+    ensures { Tells (IsFrom peer.now cookie.now cert.now) result }
+{
+    if cookie.len() > COOKIE_LIMIT {
+        return false;
+    }
+    match Certificate::read(cert) {
+        Ok(cert) => cert.print() == *peer,
+        Err(_) => false,
+    }
+}
+
+fn is_hello_from(chunk: &RawChunk<'_>, tag: &[u8], peer: &[u8; 32]) -> bool
+    ensures { Tells (IsHelloFrom tag.now peer.now (shown chunk.now)) result }
 {
     match hello_in(chunk.kind, chunk.payload) {
-        Some(hello) => hello.tag == tag,
+        Some(hello) => hello.tag == tag && is_from(hello.cookie, hello.cert, peer),
         None => false,
     }
 }
 
-/// Whether a packet has a responder's hello with this tag.
-pub fn hello_with(packet: &Packet<'_>, tag: &[u8]) -> bool
-    ensures { Tells (SomeChunk (IsHelloWith tag.now) (chunks_of packet.now)) result }
+/// Whether a packet has a responder's hello that an attempt with this tag and this peer takes: its
+/// cookie has at most 128 bytes (own), and its certificate has the peer's fingerprint.
+pub fn hello_from(packet: &Packet<'_>, tag: &[u8], peer: &[u8; 32]) -> bool
+    ensures { Tells (SomeChunk (IsHelloFrom tag.now peer.now) (chunks_of packet.now)) result }
 {
     let mut chunks = packet.chunks();
     while let Some(chunk) = chunks.next() {
-        if is_hello_with(&chunk, tag) {
+        if is_hello_from(&chunk, tag, peer) {
             return true;
         }
     }

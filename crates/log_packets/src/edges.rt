@@ -1,14 +1,15 @@
 //! The edges of what opens, and of what chunks say. The functions do nothing: the contract of each
 //! states what the definitions that the other contracts cite are there.
 
-ghost use Rattle.std.specs.Prelude.{◌≡◌, ◌∷◌, ◌++◌, ℕ, List, [], replicate, true, false};
+ghost use Rattle.std.specs.Prelude.{◌≡◌, ◌≢◌, ◌∷◌, ◌++◌, ℕ, List, [], replicate, true, false};
 ghost use Rattle.std.specs.Prelude.{Some, None, Ok, Err};
+ghost use Rattle.sha2.specs.Sha256.{sha256};
 ghost use Rattle.crypto_profile.specs.declared.keys.Context.{Context};
 ghost use Rattle.crypto_profile.specs.declared.keys.Context.TheVariants.{Startup};
 ghost use Rattle.rtmfp_chunks.specs.Chunk.{IIKeying, RIKeying, RHello};
 ghost use Rattle.rtmfp_chunks.specs.declared.reading.ChunkFault.TheVariants.{Unknown};
 ghost use Rattle.endpoint_laws.specs.Contexts.{Secrets, OpensUnder, OpensFirst};
-ghost use Rattle.log_packets.specs.Asked.{first_of, hello_of, initiator_of, responder_of};
+ghost use Rattle.log_packets.specs.Asked.{first_of, hello_of, initiator_of, responder_of, IsFrom};
 ghost use Rattle.log_packets.specs.Edges.{chunk, long, towards};
 ghost use Rattle.log_packets.specs.Opening.{fits, is_sid, sid_in, startup_of};
 ghost use Rattle.log_packets.specs.Secrets.{added_to, may_have};
@@ -83,4 +84,15 @@ pub fn keyings_and_hellos_are_apart()
     ensures no_responder { responder_of (Ok (IIKeying 5 (1 ∷ []) (2 ∷ []) (3 ∷ []) (4 ∷ [])))
         ≡ None }
     ensures unread { responder_of (Err (Unknown 9)) ≡ None }
+{}
+
+/// An attempt takes a hello with a cookie of 128 bytes and none with one of 129, and with a
+/// certificate of 17 to 80 bytes, 16 of them before its name: that of its peer.
+pub fn an_attempt_takes_the_hellos_of_its_peer()
+    ensures least { IsFrom (sha256 (long 17)) (long 128) (long 17) }
+    ensures most { IsFrom (sha256 (long 80)) [] (long 80) }
+    ensures wide { (peer cert : List ℕ) → IsFrom peer (long 129) cert → ⊥ }
+    ensures nameless { (peer cookie : List ℕ) → IsFrom peer cookie (long 16) → ⊥ }
+    ensures long_named { (peer cookie : List ℕ) → IsFrom peer cookie (long 81) → ⊥ }
+    ensures another { (peer : List ℕ) → peer ≢ sha256 (long 17) → IsFrom peer [] (long 17) → ⊥ }
 {}

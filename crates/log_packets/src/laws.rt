@@ -24,7 +24,7 @@ pub fn keyings_are_among_its_chunks()
     ensures { KeyingsAreAmongItsChunks }
 {}
 
-/// Whether a datagram has a hello of an attempt or a search is told by its chunks.
+/// Whether a datagram has a hello that an attempt takes is told by its packet.
 pub fn a_hello_is_among_its_chunks()
     ensures { AHelloIsAmongItsChunks }
 {}

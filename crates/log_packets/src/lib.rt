@@ -11,7 +11,7 @@ mod opener;
 mod secrets;
 
 pub use asked::{
-    answers, first_initiator, has_close, has_close_ack, hello_of, hello_with, keyings,
+    answers, first_initiator, has_close, has_close_ack, hello_from, hello_of, keyings,
 };
 pub use contexts::{generation_of, sid_of};
 pub use fields::{InitiatorKeying, ResponderKeying, initiator_keying, responder_keying};
