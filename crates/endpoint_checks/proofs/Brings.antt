@@ -2,6 +2,7 @@
 use Rattle.std.proofs.Common.{ℕ, List, [], ◌∷◌, ◌++◌, length, ◌≡◌, inl, inr, refl, sym, ap, subst, ◌∙◌, Ok, Err, Result, Some, arith, take, drop, length-append}
 use Rattle.std.proofs.lemmas.List.{take_at}
 use Rattle.crypto_profile.specs.declared.keys.Context.{Context}
+use Rattle.crypto_profile.specs.declared.keys.Context.TheVariants.{Startup}
 use Rattle.crypto_profile.specs.Hmac.{hmac}
 use Rattle.crypto_profile.specs.Keys.{keys_of, sign_key_of}
 use Rattle.crypto_profile.specs.Opening.{plain_of}
@@ -16,7 +17,8 @@ use Rattle.rtmfp_chunks.specs.declared.reading.ChunkFault.{ChunkFault}
 use Rattle.rtmfp_chunks.specs.Chunk.{Chunk, RHello, IIKeying, RIKeying, Spells}
 use Rattle.rtmfp_chunks.proofs.ReadingLaws.{reading_same}
 use Rattle.endpoint_laws.specs.Contexts.{Secrets, generation_of, ReadsUnder}
-use Rattle.endpoint_model.specs.Keying.{IsAmong, IsFirst, IsSigned}
+use Rattle.endpoint_model.specs.Keying.{IsAmong, IsFirst, IsSigned, chunks_of}
+use Rattle.endpoint_checks.specs.Brings.{Hello, BringsHello}
 
 -- what opens in a context reads as one packet
 whole_or : Whole → Result Whole PacketFault → Whole
@@ -102,15 +104,16 @@ one_answer kind payload near near' part part' sign sign' a b =
     let e = reading_same kind payload (Ok (RIKeying near part sign)) (Ok (RIKeying near' part' sign')) a b in
     record { near_is = ap near_in e; part_is = ap part_in e; sign_is = ap sign_in e }
 
-pub record OneHello (tag tag' cert cert' : List ℕ) : Type 0 where
+pub record OneHello (tag tag' cookie cookie' cert cert' : List ℕ) : Type 0 where
   pub tag_is : tag ≡ tag'
+  pub cookie_is : cookie ≡ cookie'
   pub cert_is : cert ≡ cert'
 
-pub one_hello : (kind : ℕ) (payload : List ℕ) (tag tag' cookie cookie' cert cert' : List ℕ) → Spells (RHello tag cookie cert) kind payload → Spells (RHello tag' cookie' cert') kind payload → OneHello tag tag' cert cert'
-unfolding tag_in cert_in
+one_hello : (kind : ℕ) (payload : List ℕ) (tag tag' cookie cookie' cert cert' : List ℕ) → Spells (RHello tag cookie cert) kind payload → Spells (RHello tag' cookie' cert') kind payload → OneHello tag tag' cookie cookie' cert cert'
+unfolding tag_in cookie_in cert_in
 one_hello kind payload tag tag' cookie cookie' cert cert' a b =
     let e = reading_same kind payload (Ok (RHello tag cookie cert)) (Ok (RHello tag' cookie' cert')) a b in
-    record { tag_is = ap tag_in e; cert_is = ap cert_in e }
+    record { tag_is = ap tag_in e; cookie_is = ap cookie_in e; cert_is = ap cert_in e }
 
 -- the only chunk of a packet
 pub only_one : (c d : Placed) (cs : List Placed) → cs ≡ d ∷ [] → IsAmong c cs → c ≡ d
@@ -119,6 +122,16 @@ only_one c d cs e among = alone c d (subst (IsAmong c) e among)
     alone : (c d : Placed) → IsAmong c (d ∷ []) → c ≡ d
     alone c d (inl e) = e
     alone c d (inr none) = absurd none
+
+-- a hello that is read in a datagram is the one that is its only chunk
+module _ (secrets : Secrets) (generation : ℕ) (sent : List ℕ) (hello : Hello) (b : BringsHello secrets generation sent hello) (packet : Whole) (reads : ReadsUnder secrets (Startup generation) 0 sent packet) (chunk : Placed) (among : IsAmong chunk (chunks_of packet)) where
+  same_chunk : chunk ≡ b.chunk
+  same_chunk = only_one chunk b.chunk (chunks_of b.packet) b.only (subst (λ (p : Whole). IsAmong chunk (chunks_of p)) (one_packet secrets (Startup generation) 0 sent packet b.packet reads b.reads) among)
+
+  pub only_hello : (tag cookie cert : List ℕ) → Spells (RHello tag cookie cert) chunk.kind chunk.payload → OneHello tag hello.tag cookie hello.cookie cert hello.cert
+  only_hello tag cookie cert spells =
+      one_hello b.chunk.kind b.chunk.payload tag hello.tag cookie hello.cookie cert hello.cert
+      (subst (λ (c : Placed). Spells (RHello tag cookie cert) c.kind c.payload) same_chunk spells) b.spells
 
 -- ---- a signature
 

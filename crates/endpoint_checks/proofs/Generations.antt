@@ -1,35 +1,41 @@
--- What the table refuses of a Learnt and of an Advanced, and of what comes or goes out in another generation than it should.
-use Rattle.std.proofs.Common.{ℕ, max, drop, ◌==◌, List, [], ◌∷◌, ◌++◌, ◌≡◌, ◌⊎◌, inl, inr, refl, sym, ap, subst, ◌∙◌, true, false, Option, Some, None}
+-- What the table refuses of a Learnt and of an Advanced, of what comes or goes out in another generation than it should, and of an initiator's keying without a hello that its attempt takes.
+use Rattle.std.proofs.Common.{ℕ, max, drop, length, ◌==◌, ◌≤◌, List, [], ◌∷◌, ◌++◌, ◌≡◌, ◌⊎◌, inl, inr, refl, sym, ap, subst, ◌∙◌, cond, true, false, Option, Some, None, arith}
 use Rattle.std.specs.Prelude.{Bool, if◌then◌else◌}
+use Rattle.std.specs.Str.{bytes_eq}
 use Rattle.std.proofs.lemmas.Bool.{eq-eqb}
+use Rattle.sha2.specs.Sha256.{sha256}
+use Rattle.identity.specs.Certificates.{IsCertificate}
 use Rattle.crypto_profile.specs.declared.keys.Context.{Context}
 use Rattle.crypto_profile.specs.declared.keys.Context.TheVariants.{Startup}
 use Rattle.packet_scramble.specs.Datagram.{sid_of}
 use Rattle.rtmfp_packet.specs.Whole.{Whole}
-use Rattle.rtmfp_packet.specs.Walk.{Placed}
-use Rattle.rtmfp_chunks.specs.Chunk.{RHello, Spells}
+use Rattle.rtmfp_chunks.specs.Chunk.{IIKeying}
 use Rattle.glare_core.specs.declared.facts.Fact.{Fact}
 use Rattle.glare_core.specs.declared.facts.Fact.TheVariants.{Started, Born, Opened, Confirmed, Ended}
 use Rattle.glare_core.specs.declared.facts.Held.{Held}
 use Rattle.glare_core.specs.declared.facts.Held.TheVariants.{Opening, HalfOpen, KeptAsResponder, KeptAsInitiator}
 use Rattle.glare_core.specs.declared.facts.Joined.{Joined}
+use Rattle.glare_core.specs.Standing.{held}
 use Rattle.rtmfp_forms.specs.Address.{AddressParts}
 use Rattle.endpoint_model.specs.declared.config.Draws.{Draws}
 use Rattle.endpoint_model.specs.Event.{Setup, Call, Open, Receive, ReceiveCall, receive_in, Event}
 use Rattle.endpoint_checks.proofs.Pasts.{some_event}
 use Rattle.endpoint_model.specs.Keying.{IsAmong, chunks_of}
 use Rattle.endpoint_model.specs.declared.entry.Entry.TheVariants.{Fact as FactEntry, Learnt, Advanced, Out}
-use Rattle.endpoint_laws.specs.Past.{Past, begun, stamped, fact_done, current_of, Search, IsSearch}
-use Rattle.endpoint_laws.specs.Contexts.{Secrets, generation_of, next_contexts, startup_contexts, OpensUnder, OpensFirst, ReadsUnder, KeyingWent, IsAttemptIn, StartupContextsOf, AttemptUnder, SearchUnder, OpensInStartup, EventOpenedIn, BeganWith, Begins, BegunUnder}
-use Rattle.endpoint_laws.specs.Lawful.{IsFree, TakesHelloIn, HasHello, TakesHelloOf, KeyingGoesIn}
+use Rattle.endpoint_laws.specs.Past.{Past, begun, stamped, fact_done, facts_of, current_of, Search, IsSearch}
+use Rattle.endpoint_laws.specs.Contexts.{Secrets, generation_of, next_contexts, startup_contexts, OpensUnder, OpensFirst, KeyingWent, IsAttemptIn, StartupContextsOf, AttemptUnder, SearchUnder, OpensInStartup, EventOpenedIn, BeganWith, Begins, BegunUnder}
+use Rattle.endpoint_laws.specs.Lawful.{IsFree, TakesHelloIn, HasHello, TakesHelloOf, KeyingGoesIn, OutLine}
 use Rattle.endpoint_laws.proofs.Unique.{keying_one}
 use Rattle.endpoint_checks.specs.Logs.{doing, says}
-use Rattle.endpoint_checks.specs.Sends.{sends}
+use Rattle.endpoint_checks.specs.Sends.{HasChunk, sends}
 use Rattle.endpoint_checks.specs.Generations.{learns, advances, OpensNotIn, TheTableRefusesLearnts, TheTableRefusesAdvances, TheTableRefusesComers, TheTableRefusesKeyingsInOthers, TheTableRefusesAnswersInOthers}
 use Rattle.endpoint_checks.specs.Brings.{Hello, BringsHello}
-use Rattle.endpoint_checks.proofs.Brings.{one_packet, one_hello, only_one}
+use Rattle.endpoint_checks.proofs.Brings.{one_packet, OneHello, only_hello}
+use Rattle.endpoint_checks.proofs.Logs.{same, other}
+use Rattle.endpoint_checks.proofs.Searched.{passed}
+use Rattle.endpoint_checks.proofs.Starting.{taken as held_already}
 use Rattle.endpoint_checks.proofs.Bearing.{before_is}
-use Rattle.endpoint_checks.proofs.Sending.{attempt_of, born_of}
+use Rattle.endpoint_checks.proofs.Sending.{attempt_of, born_of, true_is}
 use Rattle.endpoint_checks.proofs.Still.{IsSilent, none_went}
 
 -- ---- learning and advancing
@@ -177,64 +183,132 @@ comers_refused secrets setup moment b c d from sent draws next j = record {
 -- ---- initiators' keyings
 
 -- where none went out before, the first one goes out in the generation of a hello
-first_goes : (secrets : Secrets) (setup : Setup) (past : Past) (call : Call) (near g : ℕ) → KeyingGoesIn secrets setup past call near g → IsSilent past → TakesHelloOf secrets setup past near g (receive_in call)
-first_goes secrets setup past call near g (inl went) quiet = absurd (none_went secrets near g past quiet went)
-first_goes secrets setup past call near g (inr first) quiet = first.1
+first_goes : (secrets : Secrets) (setup : Setup) (past : Past) (call : Call) (peer : List ℕ) (near g : ℕ) → KeyingGoesIn secrets setup past call peer near g → IsSilent past → TakesHelloOf secrets setup past peer near g (receive_in call)
+first_goes secrets setup past call peer near g (inl went) quiet = absurd (none_went secrets near g past quiet went)
+first_goes secrets setup past call peer near g (inr first) quiet = first.1
 
-goes_on : (secrets : Secrets) (setup : Setup) (past : Past) (call : Call) (near g h : ℕ) → KeyingWent secrets near h past → KeyingGoesIn secrets setup past call near g → g ≡ h
-goes_on secrets setup past call near g h went (inl is) = keying_one secrets near g h past is went
-goes_on secrets setup past call near g h went (inr first) = absurd (first.0 h went)
+goes_on : (secrets : Secrets) (setup : Setup) (past : Past) (call : Call) (peer : List ℕ) (near g h : ℕ) → KeyingWent secrets near h past → KeyingGoesIn secrets setup past call peer near g → g ≡ h
+goes_on secrets setup past call peer near g h went (inl is) = keying_one secrets near g h past is went
+goes_on secrets setup past call peer near g h went (inr first) = absurd (first.0 h went)
 
-no_such_hello : (secrets : Secrets) (setup : Setup) (past : Past) (near g k : ℕ) (hello : List ℕ) (packet : Whole) → ReadsUnder secrets (Startup g) 0 hello packet →
-    ((placed : Placed) (tag cookie cert : List ℕ) → IsAmong placed (chunks_of packet) → Spells (RHello tag cookie cert) placed.kind placed.payload → ⊥) → k ≡ g → HasHello secrets setup past near k hello → ⊥
-no_such_hello secrets setup past near g k hello packet reads none same has =
-    let there : ReadsUnder secrets (Startup g) 0 hello has.packet = subst (λ (n : ℕ). ReadsUnder secrets (Startup n) 0 hello has.packet) same has.reads in
-    none has.chunk has.tag has.cookie has.cert (subst (λ (p : Whole). IsAmong has.chunk (chunks_of p)) (one_packet secrets (Startup g) 0 hello has.packet packet there reads) has.among) has.spells
+-- the attempt under session ID 5 whose first keying goes out, and the hello that it takes
+record Heard (secrets : Secrets) (setup : Setup) (past : Past) (generation : ℕ) (hello : List ℕ) : Type 0 where
+  pub peer : List ℕ
+  pub n : ℕ
+  pub ni : List ℕ
+  pub is_held : held peer (facts_of past) ≡ Some (Opening n 5 ni)
+  pub takes : HasHello secrets setup past peer 5 generation hello
+
+heard : {secrets : Secrets} {setup : Setup} {past : Past} {from : AddressParts} {draws : Draws} {hello sent : List ℕ} {generation : ℕ} {cookie cert part sign : List ℕ} → HasChunk secrets (Startup generation) sent (IIKeying 5 cookie cert part sign) →
+    OutLine secrets setup (Receive from hello draws) past sent (Startup generation) → IsSilent past → Heard secrets setup past generation hello
+heard {secrets} {setup} {past} {from} {draws} {hello} {sent} {generation} {cookie} {cert} {part} {sign} has line quiet =
+    let k = attempt_of secrets setup _ _ sent (Startup generation) line 5 cookie cert part sign has in
+    record {
+      peer = k.peer;
+      n = k.n;
+      ni = k.ni;
+      is_held = k.is_held;
+      takes = subst (λ (g : ℕ). HasHello secrets setup past k.peer 5 g hello) (same_generation k.generation generation (sym k.startup)) (first_goes secrets setup past (Receive from hello draws) k.peer 5 k.generation k.goes quiet);
+    }
 
 same_tag : (a b : List ℕ) → Some a ≡ Some b → a ≡ b
 same_tag a b e = cc
 
--- the tag of the hello that is a datagram's only chunk
-one_tag : (secrets : Secrets) (setup : Setup) (past : Past) (near g k : ℕ) (sent : List ℕ) (hello : Hello) → BringsHello secrets g sent hello → k ≡ g → (has : HasHello secrets setup past near k sent) → has.tag ≡ hello.tag
-one_tag secrets setup past near g k sent hello b same has =
-    let there : ReadsUnder secrets (Startup g) 0 sent has.packet = subst (λ (n : ℕ). ReadsUnder secrets (Startup n) 0 sent has.packet) same has.reads in
-    let chunk : has.chunk ≡ b.chunk = only_one has.chunk b.chunk (chunks_of b.packet) b.only (subst (λ (p : Whole). IsAmong has.chunk (chunks_of p)) (one_packet secrets (Startup g) 0 sent has.packet b.packet there b.reads) has.among) in
-    (one_hello b.chunk.kind b.chunk.payload has.tag hello.tag has.cookie hello.cookie has.cert hello.cert (subst (λ (c : Placed). Spells (RHello has.tag has.cookie has.cert) c.kind c.payload) chunk has.spells) b.spells).tag_is
+-- it says what the hello says that is the datagram's only chunk
+says_so : {secrets : Secrets} {setup : Setup} {past : Past} {generation : ℕ} {sent : List ℕ} {hello : Hello} → BringsHello secrets generation sent hello → (a : Heard secrets setup past generation sent) →
+    OneHello a.takes.tag hello.tag a.takes.cookie hello.cookie a.takes.cert hello.cert
+says_so {secrets} {setup} {past} {generation} {sent} {hello} b a =
+    let takes = a.takes in
+    only_hello secrets generation sent hello b takes.packet takes.reads takes.chunk takes.among takes.tag takes.cookie takes.cert takes.spells
 
--- what was done: an attempt started; and then a datagram is taken, in whose call one goes out
+-- ---- other attempts with the tag
+
+-- the attempt that is held with one peer, where one with another was started later
+held_before : (b c : Bool) (x y : Held) → b ≡ false → c ≡ true → cond b (Some x) (cond c (Some y) None) ≡ Some y
+held_before true c x y is at = absurd (cc)
+held_before false true x y is at = refl
+held_before false false x y is at = absurd (cc)
+
+-- what was done where an attempt started, under the only session ID in use
 abbrev started : Call → List ℕ → List ℕ → Past
 started b peer ni = stamped 0 (FactEntry (Started peer 1 5 ni)) ∷ begun 0 (doing 0 b (says (Started peer 1 5 ni))) ∷ []
 
-abbrev hearing : ℕ → AddressParts → List ℕ → Draws → AddressParts → List ℕ → ℕ → Past → Past
-hearing moment from hello draws to sent generation earlier = begun (max 0 moment) (doing moment (Receive from hello draws) (sends to sent (Startup generation))) ∷ earlier
+lowest_of_one : (b : Call) (peer ni : List ℕ) (id : ℕ) → SearchUnder (started b peer ni) id ⊎ AttemptUnder (started b peer ni) id → 5 ≤ id
+lowest_of_one b peer ni id (inl sought) = absurd (passed (passed sought.stands))
+lowest_of_one b peer ni id (inr attempt) = let one = (true_is peer attempt.peer (Opening 1 5 ni) (Opening attempt.n id attempt.ni) attempt.is_held).1 in let is : id ≡ 5 = cc in omega (arith, is)
+
+-- ---- what is refused
 
 pub keyings_in_others_refused : TheTableRefusesKeyingsInOthers
 keyings_in_others_refused secrets setup moment b c d from to draws hello sent peer ni generation next cookie cert part sign has = record {
   unasked = λ none h.
       let k = attempt_of secrets setup _ _ sent (Startup generation) h.1.0.0 5 cookie cert part sign has in
       let past : Past = begun (max 0 moment) (doing moment d (sends to sent (Startup generation))) ∷ started b peer ni in
-      subst (λ (o : Option ReceiveCall). TakesHelloOf secrets setup past 5 k.generation o) none (first_goes secrets setup past d 5 k.generation k.goes (refl, (refl, (refl, tt))));
+      subst (λ (o : Option ReceiveCall). TakesHelloOf secrets setup past k.peer 5 k.generation o) none (first_goes secrets setup past d k.peer 5 k.generation k.goes (refl, (refl, (refl, tt))));
   no_hello = λ packet reads none h.
-      let k = attempt_of secrets setup _ _ sent (Startup generation) h.1.0.0 5 cookie cert part sign has in
-      no_such_hello secrets setup _ 5 generation k.generation hello packet reads none (same_generation k.generation generation (sym k.startup)) (first_goes secrets setup (hearing moment from hello draws to sent generation (started b peer ni)) (Receive from hello draws) 5 k.generation k.goes (refl, (refl, (refl, tt))));
+      let takes = (heard has h.1.0.0 (refl, (refl, (refl, tt)))).takes in
+      none takes.chunk takes.tag takes.cookie takes.cert (subst (λ (p : Whole). IsAmong takes.chunk (chunks_of p)) (one_packet secrets (Startup generation) 0 hello takes.packet packet takes.reads reads) takes.among) takes.spells;
   other_tag = λ candidates drawn says_hello brings differ h.
-      let k = attempt_of secrets setup _ _ sent (Startup generation) h.1.0.0 5 cookie cert part sign has in
-      let past : Past = hearing moment from hello draws to sent generation (started (Open peer candidates drawn) peer ni) in
-      let takes = first_goes secrets setup past (Receive from hello draws) 5 k.generation k.goes (refl, (refl, (refl, tt))) in
-      differ (sym (one_tag secrets setup past 5 generation k.generation hello says_hello brings (same_generation k.generation generation (sym k.startup)) takes) ∙ sym (same_tag drawn.tag takes.tag takes.tag_is));
+      let a = heard has h.1.0.0 (refl, (refl, (refl, tt))) in
+      differ (sym (says_so brings a).tag_is ∙ sym (same_tag drawn.tag a.takes.tag a.takes.tag_is));
+  other_peer = λ says_hello brings differ h.
+      let a = heard has h.1.0.0 (refl, (refl, (refl, tt))) in
+      differ (sym (ap sha256 (says_so brings a).cert_is) ∙ sym a.takes.peer_is ∙ sym (true_is peer a.peer (Opening 1 5 ni) (Opening a.n 5 a.ni) a.is_held).0);
+  no_certificate = λ says_hello brings none h.
+      let a = heard has h.1.0.0 (refl, (refl, (refl, tt))) in
+      none (subst IsCertificate (says_so brings a).cert_is a.takes.is_cert);
+  wide_cookie = λ says_hello brings wide h.
+      let a = heard has h.1.0.0 (refl, (refl, (refl, tt))) in
+      omega (arith, wide, a.takes.narrow, ap length (says_so brings a).cookie_is);
+  other_mode = λ packet reads differ h.
+      let takes = (heard has h.1.0.0 (refl, (refl, (refl, tt)))).takes in
+      differ (ap (λ (p : Whole). p.head.mode) (one_packet secrets (Startup generation) 0 hello packet takes.packet reads takes.reads) ∙ takes.mode);
+  higher_than_attempt = λ towards nonce others candidates other_draws drawn tag h.
+      let takes = (heard has h.1.1.0.0 (refl, (refl, (refl, (refl, (refl, tt)))))).takes in
+      let free : bytes_eq peer towards ≡ false = other peer towards (λ e. held_already (bytes_eq towards peer) (Opening 1 4 nonce) (same towards peer (sym e)) h.1.0.0.0.free) in
+      let held_there = held_before (bytes_eq peer towards) (bytes_eq towards towards) (Opening 2 5 ni) (Opening 1 4 nonce) free (same towards towards refl) in
+      omega (arith, takes.lowest 4 (inr (record { peer = towards; n = 1; ni = nonce; is_held = held_there }), ap (λ (t : List ℕ). Some t) tag ∙ takes.tag_is));
+  higher_than_search = λ name others candidates other_draws drawn tag h.
+      let takes = (heard has h.1.1.0.0 (refl, (refl, (refl, (refl, (refl, tt)))))).takes in
+      omega (
+        arith,
+        takes.lowest 4 (
+          inl (record {
+            which = record { name = name; tag = other_draws.tag; ni = other_draws.nonce };
+            at = 0;
+            stands = inr (tt, tt, inr (tt, (λ e. omega (arith, e)), inr (tt, tt, inl ((refl, refl, (refl, refl)), refl))));
+          }),
+          ap (λ (t : List ℕ). Some t) tag ∙ takes.tag_is,
+        ),
+      );
   in_the_current = λ none is h.
-      let k = attempt_of secrets setup _ _ sent (Startup generation) h.1.1.0.0 5 cookie cert part sign has in
-      let takes = first_goes secrets setup (hearing moment from hello draws to sent generation (stamped 0 (Learnt next) ∷ begun 0 (learns c next) ∷ started b peer ni)) (Receive from hello draws) 5 k.generation k.goes (refl, (refl, (refl, (refl, (refl, tt))))) in
-      none takes.reads.plain (subst (λ (g : ℕ). OpensUnder secrets (Startup g) 0 hello takes.reads.plain) (same_generation k.generation generation (sym k.startup) ∙ is) takes.reads.opens);
+      let takes = (heard has h.1.1.0.0 (refl, (refl, (refl, (refl, (refl, tt)))))).takes in
+      none takes.reads.plain (subst (λ (g : ℕ). OpensUnder secrets (Startup g) 0 hello takes.reads.plain) is takes.reads.opens);
   in_the_next = λ plain opens differ h.
-      let k = attempt_of secrets setup _ _ sent (Startup generation) h.1.1.0.0 5 cookie cert part sign has in
-      let takes = first_goes secrets setup (hearing moment from hello draws to sent generation (stamped 0 (Learnt next) ∷ begun 0 (learns c next) ∷ started b peer ni)) (Receive from hello draws) 5 k.generation k.goes (refl, (refl, (refl, (refl, (refl, tt))))) in
-      differ (same_generation generation k.generation k.startup ∙ in_the_first secrets setup.generation next k.generation 0 hello takes.reads.plain plain opens takes.opens);
+      let takes = (heard has h.1.1.0.0 (refl, (refl, (refl, (refl, (refl, tt)))))).takes in
+      differ (in_the_first secrets setup.generation next generation 0 hello takes.reads.plain plain opens takes.opens);
   other_than_before = λ first before differ went h.
       let k = attempt_of secrets setup _ _ sent (Startup generation) h.1.0.0 5 cookie cert part sign has in
       let past : Past = begun (max 0 moment) (doing moment d (sends to sent (Startup generation))) ∷ stamped 0 (Out to first (Startup before)) ∷ stamped 0 (FactEntry (Started peer 1 5 ni)) ∷ begun 0 (doing 0 b (FactEntry (Started peer 1 5 ni) ∷ Out to first (Startup before) ∷ [])) ∷ [] in
       let there : KeyingWent secrets 5 before past = inr ((λ other none. none), tt, tt, inl went) in
-      differ (same_generation generation k.generation k.startup ∙ goes_on secrets setup past d 5 k.generation before there k.goes);
+      differ (same_generation generation k.generation k.startup ∙ goes_on secrets setup past d k.peer 5 k.generation before there k.goes);
+  fitting = λ candidates drawn says_hello brings mode tag narrow is_cert peer_is. record {
+    packet = brings.packet;
+    reads = brings.reads;
+    opens = inl (refl, brings.reads.opens);
+    mode = mode;
+    chunk = brings.chunk;
+    among = subst (IsAmong brings.chunk) (sym brings.only) (inl refl);
+    tag = says_hello.tag;
+    cookie = says_hello.cookie;
+    cert = says_hello.cert;
+    spells = brings.spells;
+    tag_is = ap (λ (t : List ℕ). Some t) (sym tag);
+    lowest = λ id tagged. lowest_of_one (Open peer candidates drawn) peer ni id tagged.0;
+    narrow = omega (arith, narrow);
+    is_cert = is_cert;
+    peer_is = peer_is;
+  };
 }
 
 -- ---- what a session began with

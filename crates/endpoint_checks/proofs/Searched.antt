@@ -1,22 +1,17 @@
 -- What the table refuses of a Sought, of an Unsought, and of a Started by the answer to a search.
 use Rattle.std.proofs.Common.{ℕ, ◌==◌, ◌≢◌, List, [], ◌∷◌, drop, inl, inr, ◌⊎◌, ◌≡◌, sym, ap, subst, refl, true, false, ◌∙◌, arith}
 use Rattle.std.specs.List.{list_any}
-use Rattle.crypto_profile.specs.declared.keys.Context.TheVariants.{Startup}
-use Rattle.rtmfp_packet.specs.Whole.{Whole}
-use Rattle.rtmfp_packet.specs.Walk.{Placed}
-use Rattle.rtmfp_chunks.specs.Chunk.{RHello, Spells}
 use Rattle.sha2.specs.Sha256.{sha256}
 use Rattle.identity.specs.Certificates.{IsCertificate}
 use Rattle.glare_core.specs.declared.facts.Why.{Why}
 use Rattle.glare_core.specs.declared.facts.Why.TheVariants.{Cancelled, Expired, Glare, Override, Unconfirmed, Near, Far, Idle}
 use Rattle.endpoint_model.specs.Event.{Call}
-use Rattle.endpoint_model.specs.Keying.{IsAmong, chunks_of}
 use Rattle.endpoint_laws.specs.Contexts.{Secrets}
 use Rattle.endpoint_laws.specs.Past.{Past}
 use Rattle.endpoint_laws.specs.Lawful.{AnswersSearch, SearchEnds}
 use Rattle.endpoint_checks.specs.Brings.{Hello, BringsHello}
 use Rattle.endpoint_checks.specs.Searches.{TheTableRefusesSeeks, TheTableRefusesUnseeks, TheTableRefusesSearches, TheTableRefusesHellos}
-use Rattle.endpoint_checks.proofs.Brings.{one_packet, one_hello, OneHello, only_one}
+use Rattle.endpoint_checks.proofs.Brings.{OneHello, only_hello}
 use Rattle.endpoint_checks.proofs.Ending.{young}
 use Rattle.endpoint_checks.proofs.Opening.{too_short}
 use Rattle.endpoint_checks.proofs.Still.{still_answer}
@@ -39,7 +34,7 @@ seeks_refused secrets setup moment candidates draws name near = record {
 -- ---- the search that stands, looked for through what was done
 
 -- no search began here
-passed : {A B C D : Type 0} → (⊥ × A) ⊎ (B × C × D) → D
+pub passed : {A B C D : Type 0} → (⊥ × A) ⊎ (B × C × D) → D
 passed (inl own) = absurd own.0
 passed (inr later) = later.2
 
@@ -119,15 +114,8 @@ searches_refused secrets setup moment candidates drawn draws name from sent peer
 
 -- what the hello of the datagram says
 module _ (secrets : Secrets) (generation : ℕ) (past : Past) (sent peer : List ℕ) (n near : ℕ) (ni : List ℕ) (hello : Hello) (b : BringsHello secrets generation sent hello) (line : AnswersSearch secrets generation past sent peer n near ni) where
-  same_chunk : line.chunk ≡ b.chunk
-  same_chunk =
-      only_one line.chunk b.chunk (chunks_of b.packet) b.only
-      (subst (λ (p : Whole). IsAmong line.chunk (chunks_of p)) (one_packet secrets (Startup generation) 0 sent line.packet b.packet line.reads b.reads) line.among)
-
-  one : OneHello line.tag hello.tag line.cert hello.cert
-  one =
-      one_hello b.chunk.kind b.chunk.payload line.tag hello.tag line.cookie hello.cookie line.cert hello.cert
-      (subst (λ (c : Placed). Spells (RHello line.tag line.cookie line.cert) c.kind c.payload) same_chunk line.spells) b.spells
+  one : OneHello line.tag hello.tag line.cookie hello.cookie line.cert hello.cert
+  one = only_hello secrets generation sent hello b line.packet line.reads line.chunk line.among line.tag line.cookie line.cert line.spells
 
 pub hellos_refused : TheTableRefusesHellos
 hellos_refused secrets setup moment candidates drawn draws name from sent peer hello b = record {

@@ -80,7 +80,7 @@ numbers_refused secrets setup moment c d first second sent again e = record {
 
 -- ---- what is held where one thing was begun
 
-true_is : (p q : List ℕ) (x y : Held) → cond (bytes_eq p q) (Some x) None ≡ Some y → (p ≡ q) × (x ≡ y)
+pub true_is : (p q : List ℕ) (x y : Held) → cond (bytes_eq p q) (Some x) None ≡ Some y → (p ≡ q) × (x ≡ y)
 true_is p q x y e = by (bytes_eq p q) refl e
   where
     by : (b : Bool) → bytes_eq p q ≡ b → cond b (Some x) None ≡ Some y → (p ≡ q) × (x ≡ y)
@@ -143,8 +143,8 @@ module _ (secrets : Secrets) (setup : Setup) (call : Call) (past : Past) (sent :
 pub keyings_sent_refused : TheTableRefusesKeyingsSent
 unfolding near_in part_with
 keyings_sent_refused secrets setup moment c d to sent context peer ni near cookie cert part sign has = record {
-  other_context = λ differ h. let k = attempt_of secrets setup _ _ sent context h.1.0.0 near cookie cert part sign has in differ (k.startup ∙ ap Startup (first k.generation k.goes));
-  other_generation = λ generation is differ h. let k = attempt_of secrets setup _ _ sent context h.1.0.0 near cookie cert part sign has in differ (ap generation_of (sym is ∙ k.startup) ∙ first k.generation k.goes);
+  other_context = λ differ h. let k = attempt_of secrets setup _ _ sent context h.1.0.0 near cookie cert part sign has in differ (k.startup ∙ ap Startup (first k.peer k.generation k.goes));
+  other_generation = λ generation is differ h. let k = attempt_of secrets setup _ _ sent context h.1.0.0 near cookie cert part sign has in differ (ap generation_of (sym is ∙ k.startup) ∙ first k.peer k.generation k.goes);
   other_cert = λ differ h. differ (attempt_of secrets setup _ _ sent context h.1.0.0 near cookie cert part sign has).own;
   no_attempt = λ h. let k = attempt_of secrets setup _ _ sent context h.0.0 near cookie cert part sign has in nothing (Opening k.n near k.ni) k.is_held;
   other_id = λ differ h.
@@ -160,8 +160,8 @@ keyings_sent_refused secrets setup moment c d to sent context peer ni near cooki
       no_opening (bytes_eq j.peer k.peer) (bytes_eq peer k.peer) j 1 5 k.n near ni k.ni (ap (λ (p : List ℕ). bytes_eq p k.peer) e) k.is_held;
 }
   where
-    first : (g : ℕ) → KeyingGoesIn secrets setup (begun (max 0 moment) (doing moment d (sends to sent context)) ∷ stamped 0 (FactEntry (Started peer 1 5 ni)) ∷ begun 0 (doing 0 c (says (Started peer 1 5 ni))) ∷ []) d near g → g ≡ setup.generation
-    first g goes = still_goes secrets setup _ d near g (refl, refl, refl, (refl, refl, refl, (refl, refl, refl, tt))) goes
+    first : (p : List ℕ) (g : ℕ) → KeyingGoesIn secrets setup (begun (max 0 moment) (doing moment d (sends to sent context)) ∷ stamped 0 (FactEntry (Started peer 1 5 ni)) ∷ begun 0 (doing 0 c (says (Started peer 1 5 ni))) ∷ []) d p near g → g ≡ setup.generation
+    first p g goes = still_goes secrets setup _ d p near g (refl, refl, refl, (refl, refl, refl, (refl, refl, refl, tt))) goes
 
 -- ---- sessions that were born
 

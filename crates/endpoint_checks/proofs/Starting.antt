@@ -14,7 +14,7 @@ use Rattle.endpoint_laws.specs.Lawful.{AnswersSearch}
 use Rattle.endpoint_checks.proofs.Logs.{same, last_lawful}
 use Rattle.endpoint_checks.proofs.Bearing.{kept_in_use}
 
-taken : (b : Bool) (h : Held) → b ≡ true → cond b (Some h) None ≡ None → ⊥
+pub taken : (b : Bool) (h : Held) → b ≡ true → cond b (Some h) None ≡ None → ⊥
 taken true h e none = cc
 taken false h e none = cc
 

@@ -106,14 +106,14 @@ still_admissible secrets setup past now from datagram offer still a =
     one_context secrets a.generation setup.generation 0 datagram a.reads.plain
     (subst (λ (cs : List Context). OpensFirst secrets cs 0 datagram (Startup a.generation) a.reads.plain) (still_contexts setup past still) a.opens)
 
-still_hello : (secrets : Secrets) (setup : Setup) (past : Past) (near g : ℕ) (o : Option ReceiveCall) → IsStill past → TakesHelloOf secrets setup past near g o → g ≡ setup.generation
-still_hello secrets setup past near g None still takes = absurd takes
-still_hello secrets setup past near g (Some r) still takes =
+still_hello : (secrets : Secrets) (setup : Setup) (past : Past) (peer : List ℕ) (near g : ℕ) (o : Option ReceiveCall) → IsStill past → TakesHelloOf secrets setup past peer near g o → g ≡ setup.generation
+still_hello secrets setup past peer near g None still takes = absurd takes
+still_hello secrets setup past peer near g (Some r) still takes =
     one_context secrets g setup.generation 0 r.datagram takes.reads.plain (subst (λ (cs : List Context). OpensFirst secrets cs 0 r.datagram (Startup g) takes.reads.plain) (still_contexts setup past still) takes.opens)
 
-pub still_goes : (secrets : Secrets) (setup : Setup) (past : Past) (call : Call) (near g : ℕ) → IsStill past → KeyingGoesIn secrets setup past call near g → g ≡ setup.generation
-still_goes secrets setup past call near g still (inl went) = absurd (no_keying secrets near g past still went)
-still_goes secrets setup past call near g still (inr first) = still_hello secrets setup past near g (receive_in call) still first.1
+pub still_goes : (secrets : Secrets) (setup : Setup) (past : Past) (call : Call) (peer : List ℕ) (near g : ℕ) → IsStill past → KeyingGoesIn secrets setup past call peer near g → g ≡ setup.generation
+still_goes secrets setup past call peer near g still (inl went) = absurd (no_keying secrets near g past still went)
+still_goes secrets setup past call peer near g still (inr first) = still_hello secrets setup past peer near g (receive_in call) still first.1
 
 -- the lines of answers, in the first generation
 pub still_answer : (secrets : Secrets) (setup : Setup) (past : Past) (sent : List ℕ) (P : ℕ → Type 0) → IsStill past → (g : ℕ) × OpensInStartup secrets setup past sent g × P g → P setup.generation

@@ -1,8 +1,11 @@
--- What the table refuses of a Learnt and of an Advanced, and of what comes or goes out in another
--- generation than it should.
-use Rattle.std.specs.Prelude.{ℕ, ◌≡◌, ◌≢◌, ◌+◌, List, [], ◌∷◌, None, false}
+-- What the table refuses of a Learnt and of an Advanced, of what comes or goes out in another
+-- generation than it should, and of an initiator's keying without a hello that its attempt takes.
+use Rattle.std.specs.Prelude.{ℕ, ◌≡◌, ◌≢◌, ◌+◌, ◌<◌, List, [], ◌∷◌, length, None, false}
+use Rattle.sha2.specs.Sha256.{sha256}
+use Rattle.identity.specs.Certificates.{IsCertificate}
 use Rattle.crypto_profile.specs.declared.keys.Context.TheVariants.{Startup}
 use Rattle.rtmfp_forms.specs.Address.{AddressParts}
+use Rattle.rtmfp_packet.specs.declared.head.Mode.TheVariants.{Startup as StartupMode}
 use Rattle.rtmfp_packet.specs.Whole.{Whole}
 use Rattle.rtmfp_packet.specs.Walk.{Placed}
 use Rattle.rtmfp_chunks.specs.Chunk.{RHello, IIKeying, RIKeying, Spells}
@@ -10,13 +13,13 @@ use Rattle.glare_core.specs.declared.facts.Fact.TheVariants.{Started, Born, Open
 use Rattle.glare_core.specs.declared.facts.Joined.{Joined}
 use Rattle.glare_core.specs.Tells.{as_responder}
 use Rattle.endpoint_model.specs.declared.config.Draws.{Draws}
-use Rattle.endpoint_model.specs.declared.entry.Entry.TheVariants.{Fact as FactEntry, Learnt, Advanced, Out}
-use Rattle.endpoint_model.specs.Event.{Setup, own_of, Call, Open, Cancel, Close, Learn, Advance, Receive, Tick, receive_in, Event}
+use Rattle.endpoint_model.specs.declared.entry.Entry.TheVariants.{Fact as FactEntry, Learnt, Advanced, Out, Sought}
+use Rattle.endpoint_model.specs.Event.{Setup, own_of, Call, Open, Seek, Cancel, Close, Learn, Advance, Receive, Tick, receive_in, Searching, Event}
 use Rattle.endpoint_model.specs.Keying.{IsAmong, chunks_of}
-use Rattle.endpoint_laws.specs.Past.{nothing_done, with_entry}
+use Rattle.endpoint_laws.specs.Past.{nothing_done, with_entry, with_event}
 use Rattle.endpoint_laws.specs.Contexts.{Secrets, session_context, OpensUnder, ReadsUnder, IsKeyingOf}
-use Rattle.endpoint_laws.specs.Lawful.{LearntLine, AdvancedLine}
-use Rattle.endpoint_checks.specs.Logs.{doing, says, IsRefused}
+use Rattle.endpoint_laws.specs.Lawful.{LearntLine, AdvancedLine, HasHello}
+use Rattle.endpoint_checks.specs.Logs.{answering, doing, says, IsRefused}
 use Rattle.endpoint_checks.specs.Births.{born_in}
 use Rattle.endpoint_checks.specs.Brings.{Hello, BringsHello}
 use Rattle.endpoint_checks.specs.Sends.{HasChunk, sends}
@@ -134,7 +137,12 @@ pub record ComersRefused (secrets : Secrets) (setup : Setup) (moment : ℕ) (b c
       ∷ Out to keying (Startup generation) ∷ [])
       ∷ doing moment (Receive from sent draws) (says (Opened j)) ∷ [])
 
--- ---- what goes out in another generation
+-- ---- what goes out in another generation, or without a hello
+
+-- an attempt with this number, session ID and nonce, which an open towards its peer starts
+abbrev pub attempting : List ℕ → List AddressParts → Draws → ℕ → ℕ → List ℕ → Event
+attempting peer candidates drawn n near ni =
+    doing 0 (Open peer candidates drawn) (says (Started peer n near ni))
 
 -- Of a datagram with an initiator's keying of the attempt under session ID 5, in this generation.
 pub record KeyingsInOthersRefused (secrets : Secrets) (setup : Setup) (moment : ℕ) (b c d : Call)
@@ -154,6 +162,38 @@ pub record KeyingsInOthersRefused (secrets : Secrets) (setup : Setup) (moment : 
   pub other_tag : (candidates : List AddressParts) (drawn : Draws) (says_hello : Hello) →
       BringsHello secrets generation hello says_hello → says_hello.tag ≢ drawn.tag →
       IsRefused secrets setup (doing 0 (Open peer candidates drawn) (says (Started peer 1 5 ni))
+      ∷ doing moment (Receive from hello draws) (sends to sent (Startup generation)) ∷ [])
+  -- to one whose certificate has another fingerprint than the attempt's peer, or is none
+  pub other_peer : (says_hello : Hello) → BringsHello secrets generation hello says_hello →
+      sha256 says_hello.cert ≢ peer →
+      IsRefused secrets setup (doing 0 b (says (Started peer 1 5 ni))
+      ∷ doing moment (Receive from hello draws) (sends to sent (Startup generation)) ∷ [])
+  pub no_certificate : (says_hello : Hello) → BringsHello secrets generation hello says_hello →
+      (IsCertificate says_hello.cert → ⊥) →
+      IsRefused secrets setup (doing 0 b (says (Started peer 1 5 ni))
+      ∷ doing moment (Receive from hello draws) (sends to sent (Startup generation)) ∷ [])
+  -- to one with a cookie of more than 128 bytes
+  pub wide_cookie : (says_hello : Hello) → BringsHello secrets generation hello says_hello →
+      128 < length says_hello.cookie →
+      IsRefused secrets setup (doing 0 b (says (Started peer 1 5 ni))
+      ∷ doing moment (Receive from hello draws) (sends to sent (Startup generation)) ∷ [])
+  -- in a packet that isn't one of startup
+  pub other_mode : (packet : Whole) → ReadsUnder secrets (Startup generation) 0 hello packet →
+      packet.head.mode ≢ StartupMode →
+      IsRefused secrets setup (doing 0 b (says (Started peer 1 5 ni))
+      ∷ doing moment (Receive from hello draws) (sends to sent (Startup generation)) ∷ [])
+  -- where an attempt towards another peer, or a search, stands under a lower session ID, whose
+  -- open or seek drew the same tag
+  pub higher_than_attempt : (towards nonce : List ℕ) (others candidates : List AddressParts)
+      (other drawn : Draws) → other.tag ≡ drawn.tag →
+      IsRefused secrets setup (attempting towards others other 1 4 nonce
+      ∷ attempting peer candidates drawn 2 5 ni
+      ∷ doing moment (Receive from hello draws) (sends to sent (Startup generation)) ∷ [])
+  pub higher_than_search : (name : List ℕ) (others candidates : List AddressParts)
+      (other drawn : Draws) → other.tag ≡ drawn.tag →
+      IsRefused secrets setup (answering 0 (Seek name others other) (Searching 4) (Sought 4 name
+      ∷ [])
+      ∷ attempting peer candidates drawn 1 5 ni
       ∷ doing moment (Receive from hello draws) (sends to sent (Startup generation)) ∷ [])
   -- in a generation in which the hello doesn't open, though that is the current one, and in the
   -- next one where the hello opens in the current one
@@ -175,6 +215,15 @@ pub record KeyingsInOthersRefused (secrets : Secrets) (setup : Setup) (moment : 
       }) → IsRefused secrets setup (doing 0 b (FactEntry (Started peer 1 5 ni)
       ∷ Out to first (Startup before) ∷ [])
       ∷ doing moment d (sends to sent (Startup generation)) ∷ [])
+  -- A hello with the attempt's tag, a cookie of 128 bytes and its peer's certificate is taken.
+  pub fitting : (candidates : List AddressParts) (drawn : Draws) (says_hello : Hello)
+      (brings : BringsHello secrets setup.generation hello says_hello) →
+      brings.packet.head.mode ≡ StartupMode → says_hello.tag ≡ drawn.tag →
+      length says_hello.cookie ≡ 128 → IsCertificate says_hello.cert →
+      peer ≡ sha256 says_hello.cert →
+      HasHello secrets setup
+      (with_event 0 (attempting peer candidates drawn 1 5 ni) nothing_done) peer 5
+      setup.generation hello
 
 -- Of a session that was born of a keying where a next generation was known: its own keying, and a
 -- datagram in it.

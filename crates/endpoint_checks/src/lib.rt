@@ -172,7 +172,10 @@ pub fn comers()
 {}
 
 /// Initiators' keyings that go out in another generation than the responder's hello came in, or
-/// than the first keying of their attempt went out in.
+/// than the first keying of their attempt went out in. First ones that go out in a call without a
+/// responder's hello, or with one that their attempt doesn't take: with another tag, the certificate
+/// of another end or none, or a cookie of more than 128 bytes, in a packet of another mode than
+/// startup, or where an attempt or a search under a lower session ID has its tag as well.
 pub fn keyings_in_others()
     ensures { TheTableRefusesKeyingsInOthers }
 {}
