@@ -5,3 +5,6 @@ pub mod Going
 pub mod Takings
 pub mod Births
 pub mod Told
+pub mod Tagged
+pub mod Walked
+pub mod Noted

@@ -1,5 +1,5 @@
 -- The laws of what is kept of session IDs.
-use Rattle.std.specs.Prelude.{ℕ, List, ◌≡◌, ◌≤◌, false, Option, Some, None}
+use Rattle.std.specs.Prelude.{ℕ, List, ◌≡◌, ◌≤◌, true, false, Option, Some, None}
 use Rattle.std.specs.FinMap.{get}
 use Rattle.crypto_profile.specs.declared.keys.Context.TheVariants.{Startup as InStartup}
 use Rattle.packet_scramble.specs.Datagram.{sid_of}
@@ -11,13 +11,14 @@ use Rattle.endpoint_model.specs.Views.{fact_in}
 use Rattle.endpoint_laws.specs.Past.{Past, before_event, is_in_use, last_call, nothing_done, taken_since, with_begun, with_entry}
 use Rattle.endpoint_laws.specs.Contexts.{Secrets, BegunUnder, EventOpenedIn, IsInHello, KeyingWent, OpensFirst, OpensInStartup, OpensUnder, StandsUnder, inward, startup_contexts}
 use Rattle.endpoint_laws.specs.Taken.{TookAt}
-use Rattle.endpoint_laws.specs.Lawful.{Line}
+use Rattle.endpoint_laws.specs.Lawful.{IsTagged, Line}
 use Rattle.log_digest.specs.Kept.{Digested}
 use Rattle.log_digest.specs.Digest.{IsDigestOf}
 use Rattle.log_contexts.specs.declared.taking.Taking.{Taking}
 use Rattle.log_contexts.specs.declared.taking.Taking.TheVariants.{Session}
-use Rattle.log_contexts.specs.Kept.{KeptContexts, generation_in, keying_at, last_in}
+use Rattle.log_contexts.specs.Kept.{KeptContexts, generation_in, keying_at, last_in, tag_at}
 use Rattle.log_contexts.specs.Changes.{begun_id}
+use Rattle.log_contexts.specs.Lowest.{is_underway}
 use Rattle.log_contexts.specs.Contexts.{AreContextsOf, OpensInNone}
 use Rattle.log_contexts.specs.Taking.{IsOutside, IsTakingOf, contexts_in}
 
@@ -96,6 +97,17 @@ pub record KeptTells : Type 0 where
       IsSession thing →
       IsToldOf secrets setup past near thing (generation_in (get c.sessions near))
       (last_in (get c.sessions near))
+
+-- An attempt or a search stands under a session ID with this tag exactly where what is kept says so.
+pub record TaggedTell : Type 0 where
+  pub kept : (secrets : Secrets) (setup : Setup) (last : ℕ) (past : Past) (d : Digested)
+      (c : KeptContexts) (tag : List ℕ) (near : ℕ) → AreContextsOf secrets setup past c →
+      IsDigestOf last past d → IsTagged past tag near →
+      (is_underway d near ≡ true) × (tag_at near c.threads ≡ Some tag)
+  pub stands : (secrets : Secrets) (setup : Setup) (last : ℕ) (past : Past) (d : Digested)
+      (c : KeptContexts) (tag : List ℕ) (near : ℕ) → AreContextsOf secrets setup past c →
+      IsDigestOf last past d → is_underway d near ≡ true → tag_at near c.threads ≡ Some tag →
+      IsTagged past tag near
 
 -- Nothing has session ID 0 in a lawful log: not at first, and not after an event or an entry where
 -- nothing had it before.

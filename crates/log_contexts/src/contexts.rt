@@ -12,21 +12,23 @@ ghost use Rattle.log_digest.specs.Kept.{Digested};
 ghost use Rattle.log_digest.specs.Changes.{MayCome};
 ghost use Rattle.log_digest.specs.Digest.{IsDigestOf};
 ghost use Rattle.log_contexts.specs.Kept.{generation_in, keying_at, last_in, nothing_kept, tag_at};
+ghost use Rattle.log_contexts.specs.Lowest.{TellsLowest};
 ghost use Rattle.log_contexts.specs.Changes.{added, begun_id, begun_in_session, begun_with, sent_in, stated, takes_if, with_session, with_start, with_threads};
 ghost use Rattle.log_contexts.specs.Contexts.{AreContextsOf, AreKeyingsOf, BeginsIn, HearsThere, OpensInNone, OpensThere};
 
+use crate::begun::Begun;
 use crate::sessions::Sessions;
-use crate::threads::Threads;
 use crypto_profile::Context;
 use endpoint_model::Entry;
 use glare_core::Fact;
+use log_digest::Digest;
 use rtmfp_base::Memory;
 use std::alloc::Global;
 use std::marker::Model;
 
 /// What a checker keeps of the session IDs of one end, which is given to it event by event and
-/// entry by entry (own). Each question is one look at a map. It keeps no secret: whoever gives the
-/// events and entries says what opens and reads how.
+/// entry by entry (own). Each question is one look at a map, where no two session IDs had one tag.
+/// It keeps no secret: whoever gives the events and entries says what opens and reads how.
 ///
 /// Contracts see the tags that the last call drew, the tag and the keying of what began last under
 /// each session ID, and the session that began last there. It is that of a log: `new` of an empty
@@ -36,7 +38,7 @@ use std::marker::Model;
 pub struct Contexts {
     opened: Option<[u8; 16]>,
     sought: Option<[u8; 16]>,
-    threads: Threads,
+    threads: Begun,
     sessions: Sessions,
 }
 
@@ -67,7 +69,7 @@ impl Contexts {
         Contexts {
             opened: None,
             sought: None,
-            threads: Threads::new(alloc),
+            threads: Begun::new(alloc),
             sessions: Sessions::new(alloc),
         }
     }
@@ -84,6 +86,15 @@ impl Contexts {
         ensures { result ≡ keying_at near self.now.threads }
     {
         self.threads.keying(near)
+    }
+
+    /// Whether, of the attempts and searches with this tag, none has a lower session ID than this
+    /// one. Where something began under another session ID with the tag, it goes through what began
+    /// under each.
+    pub fn is_lowest(&self, digest: &Digest, near: u32, tag: &[u8; 16]) -> bool
+        ensures { TellsLowest self.now.threads digest.now tag.now near result }
+    {
+        self.threads.is_lowest(digest, near, tag)
     }
 
     /// The generation in which the session under this session ID began.

@@ -1,13 +1,18 @@
 //! What begins under a session ID, what goes out and begins there later, and in which generation it
 //! takes datagrams. The functions do nothing: the contract of each is a table. A tag is a byte here.
 
-ghost use Rattle.std.specs.Prelude.{◌≡◌, ◌∷◌, [], true, false, Some, None};
-ghost use Rattle.std.specs.FinMap.{get};
+ghost use Rattle.std.specs.Prelude.{◌≡◌, ◌∷◌, ℕ, [], true, false, Some, None};
+ghost use Rattle.std.specs.FinMap.{empty, get};
 ghost use Rattle.crypto_profile.specs.declared.keys.Context.TheVariants.{Startup as InStartup};
 ghost use Rattle.glare_core.specs.declared.facts.Fact.TheVariants.{Started, Born, Opened, Confirmed, Ended};
 ghost use Rattle.glare_core.specs.declared.facts.Held.TheVariants.{Opening, HalfOpen, KeptAsResponder, KeptAsInitiator};
 ghost use Rattle.glare_core.specs.declared.facts.Why.TheVariants.{Near, Idle};
-ghost use Rattle.log_contexts.specs.Kept.{KeptContexts, generation_in, last_in};
+ghost use Rattle.fact_digest.specs.Roll.{Rolled};
+ghost use Rattle.log_digest.specs.declared.spot.Spot.TheVariants.{Closing, Searching};
+ghost use Rattle.log_digest.specs.Kept.{Digested};
+ghost use Rattle.log_contexts.specs.Kept.{KeptContexts, ThreadTable, generation_in, last_in, tag_at};
+ghost use Rattle.log_contexts.specs.Lowest.{IsLowest, is_attempt, is_underway, underway_in};
+ghost use Rattle.log_contexts.specs.Alone.{noted};
 ghost use Rattle.log_contexts.specs.Changes.{begun_id, begun_in, heard_by, keyed, sent_in, started, stated, takes_if, with_session};
 ghost use Rattle.log_contexts.specs.Edges.{known, session, thread, towards};
 ghost use Rattle.log_contexts.specs.Taking.{closing_in, held_in};
@@ -84,4 +89,34 @@ pub fn each_thing_takes_datagrams_in_its_generation()
     ensures closing { closing_in (KeptAsInitiator session) (Some 6)
         ≡ Session (KeptAsInitiator session) 6 }
     ensures none { closing_in (Opening 2 3 (7 ∷ [])) (Some 6) ≡ Nothing }
+{}
+
+/// Attempts and searches are underway, and nothing else is. Of those with a tag the one with the
+/// lowest session ID counts: one that is higher, or that has the tag and is over, is none of them.
+pub fn the_lowest_with_a_tag_counts()
+    ensures search { (roll : Rolled) →
+        underway_in roll (Some (Searching (65 ∷ []) (1 ∷ []) (2 ∷ []) 9)) ≡ true }
+    ensures attempt { is_attempt (Some (Opening 2 3 (7 ∷ []))) ≡ true }
+    ensures half_open { is_attempt (Some (HalfOpen session)) ≡ false }
+    ensures confirmed { is_attempt (Some (KeptAsResponder session)) ≡ false }
+    ensures opened { is_attempt (Some (KeptAsInitiator session)) ≡ false }
+    ensures closing { (roll : Rolled) → underway_in roll (Some (Closing (HalfOpen session) 9))
+        ≡ false }
+    ensures nothing { (roll : Rolled) → underway_in roll None ≡ false }
+    ensures lower { (threads : ThreadTable) (d : Digested) → is_underway d 2 ≡ true →
+        tag_at 2 threads ≡ Some (1 ∷ []) → IsLowest threads d (1 ∷ []) 3 → ⊥ }
+    ensures itself { (threads : ThreadTable) (d : Digested) →
+        ((other : ℕ) → tag_at other threads ≡ Some (1 ∷ []) → other ≡ 3) →
+        IsLowest threads d (1 ∷ []) 3 }
+    ensures over { (threads : ThreadTable) (d : Digested) →
+        ((other : ℕ) → is_underway d other ≡ true → other ≡ 3) → IsLowest threads d (1 ∷ []) 3 }
+    ensures none { (d : Digested) → IsLowest empty d (1 ∷ []) 3 }
+{}
+
+/// A tag is that of a session ID alone, until something begins with it under another one.
+pub fn a_tag_of_two_session_ids_is_no_ones()
+    ensures first { noted 3 None ≡ Some 3 }
+    ensures again { noted 3 (Some (Some 3)) ≡ Some 3 }
+    ensures another { noted 3 (Some (Some 4)) ≡ None }
+    ensures more { noted 3 (Some None) ≡ None }
 {}

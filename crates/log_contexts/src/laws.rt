@@ -1,7 +1,7 @@
 //! The laws of what is kept of session IDs. The functions do nothing: the contract of each states a
 //! law.
 
-ghost use Rattle.log_contexts.specs.Laws.{BirthsOpen, GenerationsAreOne, KeptTells, NoIdIsZero, OneThingStands, TakingTells};
+ghost use Rattle.log_contexts.specs.Laws.{BirthsOpen, GenerationsAreOne, KeptTells, NoIdIsZero, OneThingStands, TaggedTell, TakingTells};
 
 /// What is said of a generation is said of one alone.
 pub fn generations_are_one()
@@ -29,6 +29,11 @@ pub fn births_open()
 /// in which generation they began, and when they took the last datagram.
 pub fn what_is_kept_tells()
     ensures { KeptTells }
+{}
+
+/// What is kept tells which attempts and searches stand with a tag.
+pub fn tagged_ones_are_told()
+    ensures { TaggedTell }
 {}
 
 /// Nothing has session ID 0 in a lawful log.

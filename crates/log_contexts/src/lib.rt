@@ -3,9 +3,12 @@
 //! out, and of a session the generation in which it began and what it took since then.
 #![tactic(auto)]
 
+mod alone;
+mod begun;
 mod contexts;
 pub mod edges;
 pub mod laws;
+mod lowest;
 mod sessions;
 mod taking;
 mod threads;

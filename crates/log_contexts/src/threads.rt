@@ -3,8 +3,11 @@
 ghost use Rattle.std.specs.Prelude.{◌≡◌, ◌<◌, ◌≤◌, ◌+◌, length, OnOk, OnErr, IsOk};
 ghost use Rattle.std.specs.FinMap.{empty, get, insert};
 ghost use Rattle.log_contexts.specs.Kept.{keying_at, tag_at, tag_in};
+ghost use Rattle.log_contexts.specs.Lowest.{TellsLowest};
 ghost use Rattle.log_contexts.specs.Changes.{drawn_or, with_keying, with_keyings, with_start};
 
+use crate::lowest::is_before;
+use log_digest::Digest;
 use rtmfp_base::Memory;
 use std::alloc::Global;
 use std::collections::HashMap;
@@ -75,6 +78,19 @@ impl Threads {
             Some(thread) => thread.keying,
             None => None,
         }
+    }
+
+    /// Whether, of the attempts and searches with this tag, none has a lower session ID than this
+    /// one.
+    pub(crate) fn is_lowest(&self, digest: &Digest, near: u32, tag: &[u8; 16]) -> bool
+        ensures { TellsLowest self.now.table digest.now tag.now near result }
+    {
+        for (other, thread) in self.map.iter() {
+            if is_before(digest, near, tag, *other, *thread) {
+                return false;
+            }
+        }
+        true
     }
 
     /// Puts one under a session ID.

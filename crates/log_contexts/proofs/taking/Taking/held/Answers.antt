@@ -1,1 +1,0 @@
-use Rattle.log_contexts.proofs.taking.Taking.held.Goals as goal
