@@ -10,13 +10,13 @@ use Rattle.rtmfp_packet.specs.declared.head.PacketFault.{PacketFault}
 use Rattle.endpoint_model.specs.Keying.{IsAmong, chunks_of}
 use Rattle.log_packets.specs.declared.fields.InitiatorKeying.{InitiatorKeying}
 use Rattle.log_packets.specs.declared.fields.ResponderKeying.{ResponderKeying}
-use Rattle.log_packets.specs.Asked.{Tells, SomeChunk, IsHelloWith, SaysInitiator, SaysResponder, ResponderFields, initiator_shown, responder_shown}
+use Rattle.log_packets.specs.Asked.{Tells, SaysInitiator, SaysResponder, ResponderFields, initiator_shown, responder_shown}
 use Rattle.log_packets.proofs.Chunks.{only_true}
 use Rattle.log_packets.proofs.Asking.{for_some}
 use Rattle.log_outs.specs.declared.sender.Sender.{Sender}
 use Rattle.log_outs.specs.declared.sender.Cause.{Cause}
 use Rattle.log_outs.specs.Answers.{TellsUnder}
-use Rattle.log_outs.specs.Keyings.{IsGreeting, InitiatorMay, InitiatorsMay, responder_may, RespondersMay, ChunkMay, Each, fields_i, fields_r}
+use Rattle.log_outs.specs.Keyings.{IsGreeting, Welcomes, InitiatorMay, InitiatorsMay, responder_may, RespondersMay, ChunkMay, Each, fields_i, fields_r}
 use Rattle.log_outs.specs.Sessions.{is_in_session}
 use Rattle.log_outs.specs.Numbers.{is_new}
 use Rattle.log_outs.specs.Outs.{KeyingsMay, MayGoOut}
@@ -129,11 +129,11 @@ module _ (s : Sender) (why : Cause) (plain : List ℕ) (context : Context) (sid 
 
 -- ---- the hello of the event
 
-pub greeting : (tag plain : List ℕ) (r : Result Whole PacketFault) → PacketReading plain r → ((other : Result Whole PacketFault) → PacketReading plain other → other ≡ r) → (p : Whole) → r ≡ Ok p → (it : Bool) →
-    Tells (SomeChunk (IsHelloWith tag) (chunks_of p)) it → Tells (IsGreeting tag plain) it
-greeting tag plain r reads only p is it tells = record {
-  yes = λ e. record { packet = p; reads = subst (PacketReading plain) is reads; hello = tells.yes e };
-  no = λ g. tells.no (subst (λ (q : Whole). SomeChunk (IsHelloWith tag) (chunks_of q)) (same_ok g.packet p (only (Ok g.packet) g.reads ∙ is)) g.hello);
+pub greeting : (tag peer plain : List ℕ) (r : Result Whole PacketFault) → PacketReading plain r → ((other : Result Whole PacketFault) → PacketReading plain other → other ≡ r) → (p : Whole) → r ≡ Ok p → (it : Bool) →
+    Tells (Welcomes tag peer p) it → Tells (IsGreeting tag peer plain) it
+greeting tag peer plain r reads only p is it tells = record {
+  yes = λ e. record { packet = p; reads = subst (PacketReading plain) is reads; welcomes = tells.yes e };
+  no = λ g. tells.no (subst (Welcomes tag peer) (same_ok g.packet p (only (Ok g.packet) g.reads ∙ is)) g.welcomes);
 }
 
 -- ---- all that is asked

@@ -6,6 +6,8 @@ use Rattle.glare_core.specs.Tells.{as_initiator, as_responder}
 use Rattle.endpoint_model.specs.Keying.{responder_part}
 use Rattle.endpoint_laws.specs.Contexts.{session_context}
 use Rattle.log_digest.specs.Nonces.{NonceSet}
+use Rattle.log_packets.specs.Asked.{InitiatorFields}
+use Rattle.log_outs.specs.declared.attempts.Attempt.{Attempt}
 
 -- a session with the peer 5, under the session ID 3
 abbrev pub session : Joined
@@ -28,6 +30,13 @@ opened_here generation to_responder =
 -- the responder's component of its keying, with this count
 abbrev pub component : ℕ → List ℕ
 component k = responder_part (8 ∷ []) k here (7 ∷ [])
+
+-- an attempt with the peer 5 and this component, and a keying with this certificate and component
+abbrev pub attempt : List ℕ → Attempt
+attempt part = record { peer = 5 ∷ []; part = part }
+
+abbrev pub keying : List ℕ → List ℕ → InitiatorFields
+keying cert part = record { near = 3; cookie = []; cert = cert; part = part; sign = [] }
 
 -- nonces that are all different, or aren't
 abbrev pub nonces : Bool → NonceSet

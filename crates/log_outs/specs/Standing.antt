@@ -10,6 +10,7 @@ use Rattle.endpoint_model.specs.Keying.{initiator_part}
 use Rattle.log_digest.specs.declared.spot.Spot.{Spot}
 use Rattle.log_digest.specs.declared.spot.Spot.TheVariants.{Searching, Holding, Closing}
 use Rattle.log_digest.specs.Kept.{Digested}
+use Rattle.log_outs.specs.declared.attempts.Attempt.{Attempt}
 
 -- what is held or closing
 abbrev pub standing_in : Rolled → Option Spot → Option Held
@@ -21,23 +22,24 @@ standing_in roll (Some (Closing thing at)) = Some thing
 abbrev pub standing_at : ℕ → Digested → Option Held
 standing_at near d = standing_in d.roll (get d.spots near)
 
--- the component of the keying of an attempt with this peer, where this is one
-abbrev pub part_in : List ℕ → Option Held → Option (List ℕ)
-part_in peer None = None
-part_in peer (Some (Opening n near ni)) = Some (initiator_part ni n peer)
-part_in peer (Some (HalfOpen j)) = None
-part_in peer (Some (KeptAsResponder j)) = None
-part_in peer (Some (KeptAsInitiator j)) = None
+-- the attempt with this peer, where this is one: the peer, and the component of its keying
+abbrev pub attempt_in : List ℕ → Option Held → Option Attempt
+attempt_in peer None = None
+attempt_in peer (Some (Opening n near ni)) =
+    Some (record { peer = peer; part = initiator_part ni n peer })
+attempt_in peer (Some (HalfOpen j)) = None
+attempt_in peer (Some (KeptAsResponder j)) = None
+attempt_in peer (Some (KeptAsInitiator j)) = None
 
--- that of the attempt that is held
-abbrev pub part_under : Rolled → Option Spot → Option (List ℕ)
-part_under roll None = None
-part_under roll (Some (Searching name tag ni at)) = None
-part_under roll (Some (Holding peer at)) = part_in peer (row_in roll.rows peer).held
-part_under roll (Some (Closing thing at)) = None
+-- the one that is held
+abbrev pub attempt_under : Rolled → Option Spot → Option Attempt
+attempt_under roll None = None
+attempt_under roll (Some (Searching name tag ni at)) = None
+attempt_under roll (Some (Holding peer at)) = attempt_in peer (row_in roll.rows peer).held
+attempt_under roll (Some (Closing thing at)) = None
 
-abbrev pub part_at : ℕ → Digested → Option (List ℕ)
-part_at near d = part_under d.roll (get d.spots near)
+abbrev pub attempt_at : ℕ → Digested → Option Attempt
+attempt_at near d = attempt_under d.roll (get d.spots near)
 
 -- a session that was born here
 abbrev pub born_in : Option Held → Option Joined

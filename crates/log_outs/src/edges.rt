@@ -2,6 +2,8 @@
 //! nothing: the contract of each is a table. A nonce and a fingerprint are a byte here.
 
 ghost use Rattle.std.specs.Prelude.{◌≡◌, ◌∷◌, ℕ, List, [], true, false, Option, Some, None};
+ghost use Rattle.rtmfp_packet.specs.declared.head.Mode.TheVariants.{Initiator, Responder};
+ghost use Rattle.rtmfp_packet.specs.Whole.{Whole};
 ghost use Rattle.crypto_profile.specs.declared.keys.Context.TheVariants.{Startup};
 ghost use Rattle.glare_core.specs.declared.facts.Held.TheVariants.{Opening, HalfOpen};
 ghost use Rattle.glare_core.specs.declared.facts.Held.TheVariants.{KeptAsResponder};
@@ -13,12 +15,18 @@ ghost use Rattle.log_arrivals.specs.declared.arrival.Arrival.TheVariants.{Sessio
 ghost use Rattle.log_arrivals.specs.declared.arrival.Arrival.TheVariants.{Startup as InStartup};
 ghost use Rattle.log_digest.specs.declared.spot.Spot.TheVariants.{Searching, Closing};
 ghost use Rattle.log_digest.specs.Numbers.{stamp_of};
+ghost use Rattle.log_contexts.specs.Kept.{tag_at};
+ghost use Rattle.log_contexts.specs.Lowest.{is_underway};
 ghost use Rattle.log_outs.specs.declared.sender.Cause.{Cause};
-ghost use Rattle.log_outs.specs.Edges.{born_here, component, here, nonces, opened_here, session};
-ghost use Rattle.log_outs.specs.Keyings.{GoesIn, has_part, is_of_birth, is_to_zero};
+ghost use Rattle.log_outs.specs.declared.sender.Sender.{Sender};
+ghost use Rattle.log_outs.specs.Edges.{attempt, born_here, component, here, keying, nonces};
+ghost use Rattle.log_outs.specs.Edges.{opened_here, session};
+ghost use Rattle.log_outs.specs.Keyings.{AttemptMay, GoesIn, TakesHello, Welcomes};
+ghost use Rattle.log_outs.specs.Keyings.{is_of_attempt, is_of_birth, is_to_zero};
 ghost use Rattle.log_outs.specs.Numbers.{is_new};
 ghost use Rattle.log_outs.specs.Sessions.{is_in_way};
-ghost use Rattle.log_outs.specs.Standing.{born_in, born_under, part_in, part_under, standing_in};
+ghost use Rattle.log_outs.specs.Standing.{attempt_in, attempt_under, born_in, born_under};
+ghost use Rattle.log_outs.specs.Standing.{standing_in};
 
 /// A session sends away from its end, in the generation in which it began, under its far ID.
 pub fn a_session_sends_away_from_its_end()
@@ -51,10 +59,10 @@ pub fn a_closing_session_sends_no_keying()
         ≡ Some (HalfOpen session) }
     ensures keying { (roll : Rolled) → born_under roll (Some (Closing (HalfOpen session) 9))
         ≡ None }
-    ensures attempt { (roll : Rolled) → part_under roll (Some (Closing (HalfOpen session) 9))
+    ensures attempt { (roll : Rolled) → attempt_under roll (Some (Closing (HalfOpen session) 9))
         ≡ None }
     ensures search { (roll : Rolled) →
-        part_under roll (Some (Searching (65 ∷ []) (1 ∷ []) (2 ∷ []) 9)) ≡ None }
+        attempt_under roll (Some (Searching (65 ∷ []) (1 ∷ []) (2 ∷ []) 9)) ≡ None }
 {}
 
 /// A number goes out once in a context; in a session that is asked only where the end's nonces are
@@ -92,30 +100,47 @@ pub fn a_birth_answers_its_peer()
     ensures opened { born_in (Some (KeptAsInitiator session)) ≡ None }
 {}
 
-/// The keying of an attempt has its nonce, its number and its peer, and only an attempt has one.
+/// The keying of an attempt has its nonce, its number and its peer, and the end's certificate; only
+/// an attempt has one.
 pub fn an_attempt_has_its_component()
-    ensures attempt { part_in (5 ∷ []) (Some (Opening 2 3 (7 ∷ [])))
-        ≡ Some (initiator_part (7 ∷ []) 2 (5 ∷ [])) }
-    ensures opened { part_in (5 ∷ []) (Some (KeptAsInitiator session)) ≡ None }
-    ensures nothing { part_in (5 ∷ []) None ≡ None }
-    ensures same { has_part (Some (1 ∷ [])) (1 ∷ []) ≡ true }
-    ensures other { has_part (Some (1 ∷ [])) (2 ∷ []) ≡ false }
-    ensures none { has_part None [] ≡ false }
+    ensures attempt { attempt_in (5 ∷ []) (Some (Opening 2 3 (7 ∷ [])))
+        ≡ Some (attempt (initiator_part (7 ∷ []) 2 (5 ∷ []))) }
+    ensures opened { attempt_in (5 ∷ []) (Some (KeptAsInitiator session)) ≡ None }
+    ensures nothing { attempt_in (5 ∷ []) None ≡ None }
+    ensures same { is_of_attempt (9 ∷ []) (attempt (1 ∷ [])) (keying (9 ∷ []) (1 ∷ [])) ≡ true }
+    ensures other { is_of_attempt (9 ∷ []) (attempt (1 ∷ [])) (keying (9 ∷ []) (2 ∷ [])) ≡ false }
+    ensures cert { is_of_attempt (9 ∷ []) (attempt (1 ∷ [])) (keying (8 ∷ []) (1 ∷ [])) ≡ false }
+    ensures none { (s : Sender) (why : Cause) →
+        AttemptMay s why 2 (keying (9 ∷ []) (1 ∷ [])) None → ⊥ }
 {}
 
 /// A keying goes out in the generation of the one before it. In the hello stage it goes out where
 /// the event's datagram opened under session ID 0, in its generation, with a hello that has the
 /// tag.
 pub fn a_keying_follows_a_hello()
-    ensures again { (why : Cause) (tag : Option (List ℕ)) → GoesIn why (Some 2) tag 2 }
-    ensures other { (why : Cause) (tag : Option (List ℕ)) → GoesIn why (Some 2) tag 3 → ⊥ }
-    ensures nowhere { (why : Cause) (tag : Option (List ℕ)) → why.arrival ≡ Nowhere →
-        GoesIn why None tag 2 → ⊥ }
-    ensures in_session { (why : Cause) (tag : Option (List ℕ)) → why.arrival ≡ InSession →
-        GoesIn why None tag 2 → ⊥ }
-    ensures later { (why : Cause) (tag : Option (List ℕ)) → why.arrival ≡ InStartup 2 →
-        GoesIn why None tag 3 → ⊥ }
-    ensures elsewhere { (why : Cause) (tag : Option (List ℕ)) → is_to_zero why.call.now ≡ false →
-        GoesIn why None tag 2 → ⊥ }
-    ensures no_tag { (why : Cause) → GoesIn why None None 2 → ⊥ }
+    ensures again { (s : Sender) (why : Cause) (tag : Option (List ℕ)) →
+        GoesIn s why 3 (Some 2) tag (5 ∷ []) 2 }
+    ensures other { (s : Sender) (why : Cause) (tag : Option (List ℕ)) →
+        GoesIn s why 3 (Some 2) tag (5 ∷ []) 3 → ⊥ }
+    ensures nowhere { (s : Sender) (why : Cause) (tag : Option (List ℕ)) →
+        why.arrival ≡ Nowhere → GoesIn s why 3 None tag (5 ∷ []) 2 → ⊥ }
+    ensures in_session { (s : Sender) (why : Cause) (tag : Option (List ℕ)) →
+        why.arrival ≡ InSession → GoesIn s why 3 None tag (5 ∷ []) 2 → ⊥ }
+    ensures later { (s : Sender) (why : Cause) (tag : Option (List ℕ)) →
+        why.arrival ≡ InStartup 2 → GoesIn s why 3 None tag (5 ∷ []) 3 → ⊥ }
+    ensures elsewhere { (s : Sender) (why : Cause) (tag : Option (List ℕ)) →
+        is_to_zero why.call.now ≡ false → GoesIn s why 3 None tag (5 ∷ []) 2 → ⊥ }
+    ensures no_tag { (s : Sender) (why : Cause) → GoesIn s why 3 None None (5 ∷ []) 2 → ⊥ }
+{}
+
+/// A hello is one of a packet of startup, and the attempt or search with the lowest session ID of
+/// those with its tag takes it.
+pub fn the_lowest_with_the_tag_takes_a_hello()
+    ensures lower { (s : Sender) (why : Cause) → is_underway s.digest.now 2 ≡ true →
+        tag_at 2 s.contexts.now.threads ≡ Some (1 ∷ []) →
+        TakesHello s why 3 (1 ∷ []) (5 ∷ []) → ⊥ }
+    ensures initiator { (packet : Whole) → packet.head.mode ≡ Initiator →
+        Welcomes (1 ∷ []) (5 ∷ []) packet → ⊥ }
+    ensures responder { (packet : Whole) → packet.head.mode ≡ Responder →
+        Welcomes (1 ∷ []) (5 ∷ []) packet → ⊥ }
 {}
