@@ -234,46 +234,37 @@ def opened_last(log):
 
 
 def generation_of(log, attempt):
-    """The generation of an attempt in the keying stage; none of one in the hello stage. An attempt that a search came
-    to is in that in which the rhello of its Started opened. Any other takes it from the first rhello that is taken."""
-    if log.events[attempt.place].call != "open":
-        return opened(log.before(attempt.place), log.events[attempt.place]).context[1]
-    for place in range(attempt.place + 1, len(log.events)):
-        generation = keying_begins(log, place, attempt)
-        if generation is not None:
-            return generation
-    return None
+    """The generation of an attempt in the keying stage: that of the last Out with its iikeying since it began. None of one
+    in the hello stage, of which none went out."""
+    entries = [entry for _, entry in log.entries()]
+    begins = [at for at, entry in enumerate(entries) if entry is attempt.fact][0]
+    found = [entry.context[1] for entry in entries[begins:] if has_keying(log, entry, attempt.fact.near)]
+    return found[-1] if found else None
 
 
-def keying_begins(log, place, attempt):
-    """The generation in which an event brings an rhello that an attempt in the hello stage takes. The attempt is the one
-    with the lowest near id among the attempts and searches with the rhello's tag; the certificate is the peer's, and
-    neither the tag nor the cookie is wide."""
-    event = log.events[place]
-    if event.call != "receive" or len(event.datagram) < 36 or session_id(event.datagram) != 0:
+def has_keying(log, entry, near):
+    """Whether an entry is an Out in a startup context with an iikeying of this near id."""
+    if entry.kind != "out" or entry.context[0] != "startup" or entry.context[1] not in log.secrets:
+        return False
+    found = unsealed(log.secrets[entry.context[1]], entry.context, entry.datagram)
+    return found is not None and near in [it.near for it in chunks_of(packet_of(found[1]), IIKEYING, iikeying)]
+
+
+def keying_begins(log, attempt):
+    """The generation in which the last event brings an rhello that an attempt takes. Its packet has mode 3, under session 0.
+    The attempt is the one with the lowest near id among the attempts and searches with the rhello's tag; the certificate
+    is the peer's, and the cookie isn't wide."""
+    came = opened_last(log)
+    if not came or came.sid != 0 or not came.packet or came.packet.mode != STARTUP:
         return None
-    came = opened(log.before(place), event)
-    if not came or not came.packet or came.packet.mode != STARTUP:
-        return None
-    for index, (kind, payload) in enumerate(came.packet.chunks):
-        for hello in chunks_of(Record(chunks=[(kind, payload)]), RHELLO, rhello):
-            is_taken = is_certificate(hello.cert) and max(len(hello.tag), len(hello.cookie)) <= WIDE
-            upto = before_chunk(log, place, came.packet, index)
-            tagged = [it.near for it in searches(upto) if it.tag == hello.tag]
-            tagged += [it.fact.near for it in attempts(upto) if tag_of(upto, it) == hello.tag]
-            is_lowest = min(tagged, default=None) == attempt.fact.near
-            if is_taken and is_lowest and sha256(hello.cert) == attempt.fact.peer:
-                return came.context[1]
+    for hello in chunks_of(came.packet, RHELLO, rhello):
+        tagged = [it.near for it in searches(log) if it.tag == hello.tag]
+        tagged += [it.fact.near for it in attempts(log) if tag_of(log, it) == hello.tag]
+        is_lowest = min(tagged, default=None) == attempt.fact.near
+        is_narrow = len(hello.cookie) <= WIDE
+        if is_lowest and is_narrow and is_certificate(hello.cert) and sha256(hello.cert) == attempt.fact.peer:
+            return came.context[1]
     return None
-
-
-def before_chunk(log, place, packet, index):
-    """The log before an rhello: before its event, but for a birth by an iikeying that stands before it in the packet."""
-    births = [at for at, it in enumerate(log.events[place].entries) if it.kind == "born"]
-    if not births or not has_chunk(Record(chunks=packet.chunks[:index]), IIKEYING):
-        return log.before(place)
-    upto = log.before(place + 1)
-    return upto.without_last_entries(len(log.events[place].entries) - births[0] - 1)
 
 
 def passes(log, near):
@@ -594,16 +585,20 @@ def nonces_of(log):
 
 
 def out_with_iikeying(log, entry, keying):
-    """The context is the startup one of the attempt's generation; certificate, near id and component are those of this end
-    and of an attempt that is held as opening."""
+    """The context is the startup one of the attempt's generation: of the iikeying that went out before, or for the first
+    one that in which the event brings an rhello that the attempt takes. Certificate, near id and component are those of
+    this end and of an attempt that is held as opening."""
     yield "an iikeying has the certificate of this end", keying.cert == log.end.cert
     found = [it for it in attempts(log) if it.fact.near == keying.near]
     yield "an iikeying has the near id of an attempt", bool(found)
     attempt = found[0]
     component = attempt.fact.ni + be(attempt.fact.n, 8) + attempt.fact.peer
     yield "an iikeying has the component of the attempt", keying.part == component
-    yield "the attempt is in the keying stage", generation_of(log, attempt) is not None
-    yield "the context is the startup of its generation", entry.context == ("startup", generation_of(log, attempt))
+    generation = generation_of(log, attempt)
+    if generation is None:
+        generation = keying_begins(log, attempt)
+        yield "the attempt is in the keying stage, or takes an rhello of the event", generation is not None
+    yield "the context is the startup of its generation", entry.context == ("startup", generation)
 
 
 def out_with_rikeying(log, entry, sid, answer):
