@@ -9,9 +9,9 @@ use Rattle.std.proofs.lemmas.Slice.Eq.{bytes_eq-Decides}
 use Rattle.rtmfp_words.specs.CommandLine.{BeginsWith, IsFaulty, Says, SaysNode}
 use Rattle.rtmfp_words.specs.Node.{IsMeet, IsServe, Serving}
 use Rattle.rtmfp_words.specs.Reading.{head_of}
-use Rattle.rtmfp_words.specs.Words.{IsAudit, IsGenerate, IsOther, IsReplay, IsShow, Reads}
+use Rattle.rtmfp_words.specs.Words.{IsAudit, IsGenerate, IsJournal, IsOther, IsReplay, IsShow, Reads}
 use Rattle.rtmfp_words.specs.declared.command.Command.{Command}
-use Rattle.rtmfp_words.specs.declared.command.Command.TheVariants.{Show, Replay, Generate, Audit}
+use Rattle.rtmfp_words.specs.declared.command.Command.TheVariants.{Show, Replay, Journal, Generate, Audit}
 use Rattle.rtmfp_words.specs.declared.command_line.CommandLine.{CommandLine}
 use Rattle.rtmfp_words.specs.declared.command_line.CommandLine.TheVariants.{Lines, Serve, Meet}
 use Rattle.rtmfp_words.specs.declared.fault.WordsFault.{WordsFault}
@@ -32,6 +32,9 @@ show_first words says = ([], says)
 
 pub replay_first : (words : List (String Global)) → IsReplay words → BeginsWith (codes "replay") words
 replay_first words says = ([], says)
+
+pub journal_first : (words : List (String Global)) → IsJournal words → BeginsWith (codes "replay") words
+journal_first words says = (codes "--journal" ∷ [], says)
 
 pub generate_first : (words : List (String Global)) (seed steps : ℕ) → IsGenerate words seed steps → BeginsWith (codes "replay") words
 generate_first words seed steps says = elim says.order [
@@ -76,6 +79,7 @@ pub no_command : (words : List (String Global)) → IsOther words → ((v : Serv
 no_command words other serve meet = record {
   not_show = other.not_show;
   not_replay = other.not_replay;
+  not_journal = other.not_journal;
   not_generate = other.not_generate;
   not_audit = other.not_audit;
   not_serve = serve;
@@ -144,6 +148,7 @@ audit_no_serve e = let first : 97 ≡ 115 = ap letter e in omega (arith, first)
 reads_no_serve : (words : List (String Global)) (command : Command) → Reads words (Some command) → BeginsWith (codes "serve") words → ⊥
 reads_no_serve words Show reads begins = not_two words (codes "show") (codes "serve") (λ e. cc) (show_first words reads) begins
 reads_no_serve words Replay reads begins = not_two words (codes "replay") (codes "serve") (λ e. cc) (replay_first words reads) begins
+reads_no_serve words Journal reads begins = not_two words (codes "replay") (codes "serve") (λ e. cc) (journal_first words reads) begins
 reads_no_serve words (Generate seed steps) reads begins = not_two words (codes "replay") (codes "serve") (λ e. cc) (generate_first words seed steps reads) begins
 reads_no_serve words Audit reads begins = not_two words (codes "audit") (codes "serve") audit_no_serve (audit_first words reads) begins
 
@@ -153,6 +158,7 @@ show_no_meet e = let first : 115 ≡ 109 = ap letter e in omega (arith, first)
 reads_no_meet : (words : List (String Global)) (command : Command) → Reads words (Some command) → BeginsWith (codes "meet") words → ⊥
 reads_no_meet words Show reads begins = not_two words (codes "show") (codes "meet") show_no_meet (show_first words reads) begins
 reads_no_meet words Replay reads begins = not_two words (codes "replay") (codes "meet") (λ e. cc) (replay_first words reads) begins
+reads_no_meet words Journal reads begins = not_two words (codes "replay") (codes "meet") (λ e. cc) (journal_first words reads) begins
 reads_no_meet words (Generate seed steps) reads begins = not_two words (codes "replay") (codes "meet") (λ e. cc) (generate_first words seed steps reads) begins
 reads_no_meet words Audit reads begins = not_two words (codes "audit") (codes "meet") (λ e. cc) (audit_first words reads) begins
 
@@ -163,20 +169,22 @@ same_command r command other is also =
     subst P same (inl refl)
 
 -- a command over lines
-pub lines_only : (words : List (String Global)) (r : Option Command) (command : Command) → r ≡ Some command → Reads words (Some command) → (IsShow words → r ≡ Some Show) → (IsReplay words → r ≡ Some Replay) →
+pub lines_only : (words : List (String Global)) (r : Option Command) (command : Command) → r ≡ Some command → Reads words (Some command) → (IsShow words → r ≡ Some Show) → (IsReplay words → r ≡ Some Replay) → (IsJournal words → r ≡ Some Journal) →
     ((seed steps : ℕ) → IsGenerate words seed steps → r ≡ Some (Generate seed steps)) → (IsAudit words → r ≡ Some Audit) → (line : CommandLine) → Says words line → Finds (Ok (Lines command)) line
-lines_only words r command is reads show replay generate audit (Lines Show) says = same_command r command Show is (show says)
-lines_only words r command is reads show replay generate audit (Lines Replay) says = same_command r command Replay is (replay says)
-lines_only words r command is reads show replay generate audit (Lines (Generate seed steps)) says = same_command r command (Generate seed steps) is (generate seed steps says)
-lines_only words r command is reads show replay generate audit (Lines Audit) says = same_command r command Audit is (audit says)
-lines_only words r command is reads show replay generate audit (Serve v) says = absurd (reads_no_serve words command reads (serve_first words v says))
-lines_only words r command is reads show replay generate audit (Meet m) says = absurd (reads_no_meet words command reads (meet_first words m.port m.turns says))
+lines_only words r command is reads show replay journal generate audit (Lines Show) says = same_command r command Show is (show says)
+lines_only words r command is reads show replay journal generate audit (Lines Replay) says = same_command r command Replay is (replay says)
+lines_only words r command is reads show replay journal generate audit (Lines Journal) says = same_command r command Journal is (journal says)
+lines_only words r command is reads show replay journal generate audit (Lines (Generate seed steps)) says = same_command r command (Generate seed steps) is (generate seed steps says)
+lines_only words r command is reads show replay journal generate audit (Lines Audit) says = same_command r command Audit is (audit says)
+lines_only words r command is reads show replay journal generate audit (Serve v) says = absurd (reads_no_serve words command reads (serve_first words v says))
+lines_only words r command is reads show replay journal generate audit (Meet m) says = absurd (reads_no_meet words command reads (meet_first words m.port m.turns says))
 
 -- words that say no command over lines
 by_node : (Goal : CommandLine → Type 0) (words : List (String Global)) → IsOther words → ((v : Serving) → IsServe words v → Goal (Serve v)) → ((m : MeetWords) → IsMeet words m.port m.turns → Goal (Meet m)) →
     (line : CommandLine) → Says words line → Goal line
 by_node Goal words other serve meet (Lines Show) says = absurd (other.not_show says)
 by_node Goal words other serve meet (Lines Replay) says = absurd (other.not_replay says)
+by_node Goal words other serve meet (Lines Journal) says = absurd (other.not_journal says)
 by_node Goal words other serve meet (Lines (Generate seed steps)) says = absurd (other.not_generate seed steps says)
 by_node Goal words other serve meet (Lines Audit) says = absurd (other.not_audit says)
 by_node Goal words other serve meet (Serve v) says = serve v says
@@ -186,6 +194,7 @@ by_node Goal words other serve meet (Meet m) says = meet m says
 pub faulty_only : (words : List (String Global)) (result : Result CommandLine WordsFault) → IsFaulty words → (line : CommandLine) → Says words line → Finds result line
 faulty_only words result faulty (Lines Show) says = absurd (faulty.not_show says)
 faulty_only words result faulty (Lines Replay) says = absurd (faulty.not_replay says)
+faulty_only words result faulty (Lines Journal) says = absurd (faulty.not_journal says)
 faulty_only words result faulty (Lines (Generate seed steps)) says = absurd (faulty.not_generate seed steps says)
 faulty_only words result faulty (Lines Audit) says = absurd (faulty.not_audit says)
 faulty_only words result faulty (Serve v) says = absurd (faulty.not_serve v says)

@@ -1,5 +1,5 @@
 -- Commands: what a reader finds is said, and what is said is found.
-use Rattle.std.proofs.Common.{◌≡◌, ◌⊎◌, ℕ, ◌^◌, ◌<◌, ◌≤◌, List, [], ◌∷◌, ◌++◌, Option, Some, None, refl, sym, ap, ◌∙◌, subst, inl, inr, codes, append-nil}
+use Rattle.std.proofs.Common.{◌≡◌, ◌⊎◌, ℕ, ◌^◌, ◌<◌, ◌≤◌, Bool, true, false, List, [], ◌∷◌, ◌++◌, Option, Some, None, refl, sym, ap, ◌∙◌, subst, inl, inr, codes, append-nil}
 use Rattle.std.specs.Prelude.{decimal, if◌then◌else◌, map, String, string_bytes}
 use Rattle.std.specs.declared.alloc.Global.{Global}
 use Rattle.std.specs.Str.{bytes_eq}
@@ -7,11 +7,11 @@ use Rattle.std.proofs.lemmas.Slice.Eq.{bytes_eq-Decides}
 use Rattle.rtmfp_script.specs.Fields.{◌>>=◌}
 use Rattle.rtmfp_script.proofs.Splits.{some_some, bind_some, only_if-some}
 use Rattle.rtmfp_words.specs.Words.{OptionSpells, IsGenerate, Reads}
-use Rattle.rtmfp_words.specs.Reading.{head_of, is_empty, option_of, both, generate_of, replay_of, show_of, audit_of, command_of}
+use Rattle.rtmfp_words.specs.Reading.{head_of, is_empty, behind_of, setting_of, joined_of, apart_of, option_of, both, generate_of, journal_of, options_of, replay_of, show_of, audit_of, command_of}
 use Rattle.rtmfp_words.specs.declared.option.Setting.{Setting}
 use Rattle.rtmfp_words.specs.declared.option.Setting.TheVariants.{Seed, Steps}
 use Rattle.rtmfp_words.specs.declared.command.Command.{Command}
-use Rattle.rtmfp_words.specs.declared.command.Command.TheVariants.{Show, Replay, Generate, Audit}
+use Rattle.rtmfp_words.specs.declared.command.Command.TheVariants.{Show, Replay, Journal, Generate, Audit}
 use Rattle.rtmfp_words.proofs.Texts.{if-some, head-some, no_part}
 use Rattle.rtmfp_words.proofs.Options.{Stands, option-some, option-gives}
 
@@ -28,6 +28,7 @@ record Generates (parts : List (List ℕ)) (seed steps : ℕ) : Type 0 where
 abbrev Said : List (List ℕ) → Command → Type 0
 Said parts Show = parts ≡ codes "show" ∷ []
 Said parts Replay = parts ≡ codes "replay" ∷ []
+Said parts Journal = parts ≡ codes "replay" ∷ codes "--journal" ∷ []
 Said parts (Generate seed steps) = (rest : List (List ℕ)) × (parts ≡ codes "replay" ∷ rest) × Generates rest seed steps
 Said parts Audit = parts ≡ codes "audit" ∷ []
 
@@ -87,13 +88,34 @@ generate-some parts command h =
 made_said : (rest : List (List ℕ)) (command : Command) → Made rest command → Said (codes "replay" ∷ rest) command
 made_said rest command made = subst (λ (c : Command). Said (codes "replay" ∷ rest) c) made.2 (rest, refl, made.3)
 
+journal-some : (rest : List (List ℕ)) (command : Command) → journal_of rest ≡ Some command → Said (codes "replay" ∷ codes "--journal" ∷ rest) command
+unfolding journal_of
+journal-some rest command h =
+    let found = only_if-some (is_empty rest) Journal command h in
+    subst (λ (c : Command). Said (codes "replay" ∷ codes "--journal" ∷ rest) c) found.1 (ap (λ (ps : List (List ℕ)). codes "replay" ∷ codes "--journal" ∷ ps) (no_part rest found.0))
+
+-- the words behind `replay`, of which the first is this one
+replay_so : (parts rest : List (List ℕ)) (word text : List ℕ) (command : Command) → parts ≡ word ∷ rest → word ≡ text → Said (codes "replay" ∷ text ∷ rest) command → Said (codes "replay" ∷ parts) command
+replay_so parts rest word text command is same said =
+    subst (λ (ps : List (List ℕ)). Said (codes "replay" ∷ ps) command) (sym (is ∙ ap (λ (w : List ℕ). w ∷ rest) same)) said
+
+options-some : (parts : List (List ℕ)) (command : Command) → options_of parts ≡ Some command → Said (codes "replay" ∷ parts) command
+unfolding options_of
+options-some parts command h =
+    let next = bind_some (head_of parts) (λ p. (if bytes_eq p.0 (codes "--journal") then journal_of p.1 else generate_of parts)) command h in
+    let is : parts ≡ next.0.0 ∷ next.0.1 = head-some parts next.0 next.1 in
+    elim (if-some (bytes_eq next.0.0 (codes "--journal")) (journal_of next.0.1) (generate_of parts) command next.2) [
+      | inl journal ↦ replay_so parts next.0.1 next.0.0 (codes "--journal") command is ((bytes_eq-Decides next.0.0 (codes "--journal")).0 journal.0) (journal-some next.0.1 command journal.1)
+      | inr more ↦ made_said parts command (generate-some parts command more.1)
+    ]
+
 replay-some : (rest : List (List ℕ)) (command : Command) → replay_of rest ≡ Some command → Said (codes "replay" ∷ rest) command
 unfolding replay_of
-replay-some rest command h = elim (if-some (is_empty rest) (Some Replay) (generate_of rest) command h) [
+replay-some rest command h = elim (if-some (is_empty rest) (Some Replay) (options_of rest) command h) [
   | inl alone ↦
       let e : Replay ≡ command = some_some _ _ alone.1 in
       subst (λ (c : Command). Said (codes "replay" ∷ rest) c) e (ap (λ (ps : List (List ℕ)). codes "replay" ∷ ps) (no_part rest alone.0))
-  | inr more ↦ made_said rest command (generate-some rest command more.1)
+  | inr more ↦ options-some rest command more.1
 ]
 
 show-some : (rest : List (List ℕ)) (command : Command) → show_of rest ≡ Some command → Said (codes "show" ∷ rest) command
@@ -142,6 +164,10 @@ pub replay-gives : (parts : List (List ℕ)) → parts ≡ codes "replay" ∷ []
 unfolding command_of head_of replay_of
 replay-gives parts is = ap command_of is
 
+pub journal-gives : (parts : List (List ℕ)) → parts ≡ codes "replay" ∷ codes "--journal" ∷ [] → command_of parts ≡ Some Journal
+unfolding command_of head_of replay_of options_of journal_of
+journal-gives parts is = ap command_of is
+
 pub audit-gives : (parts : List (List ℕ)) → parts ≡ codes "audit" ∷ [] → command_of parts ≡ Some Audit
 unfolding command_of head_of audit_of
 audit-gives parts is = ap command_of is
@@ -164,10 +190,26 @@ generate-gives parts seed steps g = elim g.order [
       (ap option_of (sym (append-nil g.seed_parts)) ∙ option-gives (Seed seed) g.seed_parts [] g.seed_spells g.seed_fits) refl
 ]
 
+-- `--journal` is none of the two options
+no_option : (rest : List (List ℕ)) (command : Command) → generate_of (codes "--journal" ∷ rest) ≡ Some command → ⊥
+unfolding generate_of option_of head_of joined_of behind_of apart_of setting_of
+no_option [] command h = let e : ◌≡◌ {A = Option Command} None (Some command) = h in cc
+no_option (value ∷ rest) command h = let e : ◌≡◌ {A = Option Command} None (Some command) = h in cc
+
+not_first : {A : Type 0} (test : Bool) (x y : A) → (test ≡ true → ⊥) → (if test then x else y) ≡ y
+not_first true x y h = absurd (h refl)
+not_first false x y h = refl
+
+no_journal : (part : List ℕ) (rest : List (List ℕ)) (command : Command) → generate_of (part ∷ rest) ≡ Some command → bytes_eq part (codes "--journal") ≡ true → ⊥
+no_journal part rest command h is =
+    let same : part ≡ codes "--journal" = (bytes_eq-Decides part (codes "--journal")).0 is in
+    no_option rest command (sym (ap (λ (w : List ℕ). generate_of (w ∷ rest)) same) ∙ h)
+
 replay_with : (rest : List (List ℕ)) (command : Command) → generate_of rest ≡ Some command → replay_of rest ≡ Some command
-unfolding replay_of generate_of option_of head_of
+unfolding replay_of options_of generate_of option_of head_of
 replay_with [] command h = absurd (cc)
-replay_with (part ∷ rest) command h = h
+replay_with (part ∷ rest) command h =
+    not_first (bytes_eq part (codes "--journal")) (journal_of rest) (generate_of (part ∷ rest)) (no_journal part rest command h) ∙ h
 
 options-give : (parts rest : List (List ℕ)) (command : Command) → parts ≡ codes "replay" ∷ rest → generate_of rest ≡ Some command → command_of parts ≡ Some command
 unfolding command_of head_of
@@ -206,6 +248,7 @@ ordered parts rest a b is order = elim order [
 read_said : (words : List (String Global)) (command : Command) → Said (map string_bytes words) command → Reads words (Some command)
 read_said words Show said = said
 read_said words Replay said = said
+read_said words Journal said = said
 read_said words Audit said = said
 read_said words (Generate seed steps) said = let g = said.2 in record {
   seed_parts = g.seed_parts;
@@ -224,6 +267,7 @@ pub reads_of : (words : List (String Global)) (o : Option Command) → o ≡ com
 reads_of words None is = record {
   not_show = λ show. none_found (map string_bytes words) Show is (show-gives (map string_bytes words) show);
   not_replay = λ replay. none_found (map string_bytes words) Replay is (replay-gives (map string_bytes words) replay);
+  not_journal = λ journal. none_found (map string_bytes words) Journal is (journal-gives (map string_bytes words) journal);
   not_generate = λ seed steps g. none_found (map string_bytes words) (Generate seed steps) is (generate-said words seed steps g);
   not_audit = λ audit. none_found (map string_bytes words) Audit is (audit-gives (map string_bytes words) audit);
 }

@@ -3,7 +3,7 @@ use Rattle.std.specs.Prelude.{◌≡◌, ◌⊎◌, ℕ, List, ◌∷◌, map, c
 use Rattle.std.specs.declared.result.Result.TheVariants.{Ok, Err}
 use Rattle.std.specs.declared.alloc.Global.{Global}
 use Rattle.rtmfp_words.specs.Node.{IsMeet, IsServe, Serving}
-use Rattle.rtmfp_words.specs.Words.{IsAudit, IsGenerate, IsReplay, IsShow, Reads}
+use Rattle.rtmfp_words.specs.Words.{IsAudit, IsGenerate, IsJournal, IsReplay, IsShow, Reads}
 use Rattle.rtmfp_words.specs.declared.command_line.CommandLine.{CommandLine}
 use Rattle.rtmfp_words.specs.declared.command_line.CommandLine.TheVariants.{Lines, Serve, Meet}
 use Rattle.rtmfp_words.specs.declared.fault.WordsFault.{WordsFault}
@@ -13,6 +13,7 @@ use Rattle.rtmfp_words.specs.declared.fault.WordsFault.TheVariants.{Faulty, Memo
 pub record IsFaulty (words : List (String Global)) : Type 0 where
   pub not_show : IsShow words → ⊥
   pub not_replay : IsReplay words → ⊥
+  pub not_journal : IsJournal words → ⊥
   pub not_generate : (seed steps : ℕ) → IsGenerate words seed steps → ⊥
   pub not_audit : IsAudit words → ⊥
   pub not_serve : (v : Serving) → IsServe words v → ⊥

@@ -5,7 +5,7 @@ use Rattle.rtmfp_script.specs.Fields.{number_of, ◌>>=◌, either, only_if}
 use Rattle.rtmfp_words.specs.declared.option.Setting.{Setting}
 use Rattle.rtmfp_words.specs.declared.option.Setting.TheVariants.{Seed, Steps}
 use Rattle.rtmfp_words.specs.declared.command.Command.{Command}
-use Rattle.rtmfp_words.specs.declared.command.Command.TheVariants.{Show, Replay, Generate, Audit}
+use Rattle.rtmfp_words.specs.declared.command.Command.TheVariants.{Show, Replay, Journal, Generate, Audit}
 
 -- the first word, and the words behind it
 unfoldable pub head_of : List (List ℕ) → Option (List ℕ × List (List ℕ))
@@ -63,8 +63,17 @@ unfoldable pub generate_of : List (List ℕ) → Option Command
 generate_of parts = option_of parts >>= λ a. option_of a.1 >>= λ b. (if is_empty b.1 then
     both a.0 b.0 else None)
 
+unfoldable pub journal_of : List (List ℕ) → Option Command
+journal_of parts = only_if (is_empty parts) Journal
+
+-- the options of `replay`
+unfoldable pub options_of : List (List ℕ) → Option Command
+options_of parts = head_of parts >>= λ p.
+    (if bytes_eq p.0 (codes "--journal") then journal_of p.1
+    else generate_of parts)
+
 unfoldable pub replay_of : List (List ℕ) → Option Command
-replay_of parts = if is_empty parts then Some Replay else generate_of parts
+replay_of parts = if is_empty parts then Some Replay else options_of parts
 
 unfoldable pub show_of : List (List ℕ) → Option Command
 show_of parts = only_if (is_empty parts) Show

@@ -2,7 +2,7 @@
 use Rattle.std.specs.Prelude.{◌≡◌, ◌⊎◌, ℕ, ◌^◌, ◌<◌, ◌≤◌, List, [], ◌∷◌, ◌++◌, map, codes, decimal, Option, Some, None, String, string_bytes}
 use Rattle.std.specs.declared.alloc.Global.{Global}
 use Rattle.rtmfp_words.specs.declared.command.Command.{Command}
-use Rattle.rtmfp_words.specs.declared.command.Command.TheVariants.{Show, Replay, Generate, Audit}
+use Rattle.rtmfp_words.specs.declared.command.Command.TheVariants.{Show, Replay, Journal, Generate, Audit}
 
 -- the one word `show`
 abbrev pub IsShow : List (String Global) → Type 0
@@ -11,6 +11,10 @@ IsShow words = map string_bytes words ≡ codes "show" ∷ []
 -- the one word `replay`
 abbrev pub IsReplay : List (String Global) → Type 0
 IsReplay words = map string_bytes words ≡ codes "replay" ∷ []
+
+-- the two words `replay` and `--journal`
+abbrev pub IsJournal : List (String Global) → Type 0
+IsJournal words = map string_bytes words ≡ codes "replay" ∷ codes "--journal" ∷ []
 
 -- the one word `audit`
 abbrev pub IsAudit : List (String Global) → Type 0
@@ -37,6 +41,7 @@ pub record IsGenerate (words : List (String Global)) (seed steps : ℕ) : Type 0
 pub record IsOther (words : List (String Global)) : Type 0 where
   pub not_show : IsShow words → ⊥
   pub not_replay : IsReplay words → ⊥
+  pub not_journal : IsJournal words → ⊥
   pub not_generate : (seed steps : ℕ) → IsGenerate words seed steps → ⊥
   pub not_audit : IsAudit words → ⊥
 
@@ -45,5 +50,6 @@ abbrev pub Reads : List (String Global) → Option Command → Type 0
 Reads words None = IsOther words
 Reads words (Some Show) = IsShow words
 Reads words (Some Replay) = IsReplay words
+Reads words (Some Journal) = IsJournal words
 Reads words (Some (Generate seed steps)) = IsGenerate words seed steps
 Reads words (Some Audit) = IsAudit words

@@ -1,7 +1,7 @@
 //! The commands.
 ghost use Rattle.std.specs.Prelude.{◌≡◌, ℕ, map, string_bytes, Some};
-ghost use Rattle.rtmfp_words.specs.Words.{IsShow, IsReplay, IsGenerate, IsAudit, Reads};
-ghost use Rattle.rtmfp_words.specs.Reading.{command_of, show_of, replay_of, generate_of, audit_of, both};
+ghost use Rattle.rtmfp_words.specs.Words.{IsShow, IsReplay, IsJournal, IsGenerate, IsAudit, Reads};
+ghost use Rattle.rtmfp_words.specs.Reading.{command_of, show_of, replay_of, options_of, journal_of, generate_of, audit_of, both};
 
 use crate::option::{Setting, read_option};
 use crate::words::{is_end, next_word};
@@ -13,6 +13,8 @@ pub enum Command {
     Show,
     /// `replay`: a script is read and done.
     Replay,
+    /// `replay --journal`: a script is read and done, and the logs of its ends are written.
+    Journal,
     /// `replay --generate N --steps K`: a script is made of a seed and done.
     Generate {
         /// The seed.
@@ -26,14 +28,16 @@ pub enum Command {
 
 /// The command that the words after the program's name say (own).
 ///
-/// They are `show`; or `replay`; or `replay` with the options `--generate N` and `--steps K`, each
-/// once, in either order; or `audit`. An option is two words, or one with `=` between the name and
-/// the value. N and K are decimal numbers without leading zeros; N is below 2^64, and K is at most
-/// 100,000. All other words are faulty, also where one stands behind `show` or `audit`.
+/// They are `show`; or `replay`; or `replay --journal`; or `replay` with the options `--generate N`
+/// and `--steps K`, each once, in either order; or `audit`. An option with a value is two words, or
+/// one with `=` between the name and the value. N and K are decimal numbers without leading zeros; N
+/// is below 2^64, and K is at most 100,000. All other words are faulty, also where one stands behind
+/// `show`, `--journal` or `audit`.
 pub fn read_command(words: &[String]) -> Option<Command>
     ensures reads { Reads words.now result }
     ensures show { IsShow words.now → result ≡ Some Command.Show }
     ensures replay { IsReplay words.now → result ≡ Some Command.Replay }
+    ensures journal { IsJournal words.now → result ≡ Some Command.Journal }
     ensures generate { (seed steps : ℕ) → IsGenerate words.now seed steps →
         result ≡ Some (Command.Generate seed steps) }
     ensures audit { IsAudit words.now → result ≡ Some Command.Audit }
@@ -88,7 +92,30 @@ fn replay(words: &[String]) -> Option<Command>
     if is_end(words) {
         return Some(Command::Replay);
     }
+    options(words)
+}
+
+/// What the options behind `replay` make it.
+#[tactic(auto, unfolding(crate::specs::Reading::options_of))]
+fn options(words: &[String]) -> Option<Command>
+    ensures { result ≡ options_of (map string_bytes words.now) }
+{
+    let (word, rest) = next_word(words)?;
+    if word == b"--journal".as_slice() {
+        return journal(rest);
+    }
     generate(words)
+}
+
+/// What the words behind `replay --journal` make it.
+#[tactic(auto, unfolding(crate::specs::Reading::journal_of))]
+fn journal(words: &[String]) -> Option<Command>
+    ensures { result ≡ journal_of (map string_bytes words.now) }
+{
+    if !is_end(words) {
+        return None;
+    }
+    Some(Command::Journal)
 }
 
 /// The two options, and nothing behind them.

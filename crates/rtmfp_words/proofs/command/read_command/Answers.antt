@@ -1,6 +1,6 @@
 use Rattle.std.proofs.Common.{◌∙◌}
 use Rattle.std.specs.Prelude.{map, string_bytes}
-use Rattle.rtmfp_words.proofs.Said.{reads_of, show-gives, replay-gives, generate-said, audit-gives}
+use Rattle.rtmfp_words.proofs.Said.{reads_of, show-gives, replay-gives, journal-gives, generate-said, audit-gives}
 use Rattle.rtmfp_words.proofs.command.read_command.Goals as goal
 
 pub returns-clause-reads : goal.returns-clause-reads
@@ -11,6 +11,9 @@ returns-clause-show c = λ show. c.find_command.ensures ∙ show-gives (map stri
 
 pub returns-clause-replay : goal.returns-clause-replay
 returns-clause-replay c = λ replay. c.find_command.ensures ∙ replay-gives (map string_bytes c.args.words.now) replay
+
+pub returns-clause-journal : goal.returns-clause-journal
+returns-clause-journal c = λ journal. c.find_command.ensures ∙ journal-gives (map string_bytes c.args.words.now) journal
 
 pub returns-clause-generate : goal.returns-clause-generate
 returns-clause-generate c = λ seed steps g. c.find_command.ensures ∙ generate-said c.args.words.now seed steps g
