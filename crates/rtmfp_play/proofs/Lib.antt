@@ -4,5 +4,8 @@ pub mod Placing
 pub mod OneText
 pub mod Losing
 pub mod Reported
+pub mod Happening
+pub mod LogsTold
+pub mod Journaled
 pub mod Generation
 pub mod OneGenerated

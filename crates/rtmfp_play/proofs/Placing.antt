@@ -109,7 +109,7 @@ told_both w t n lost after sent at old mid new after_is sent_is at_is first last
 
 -- ---- the step of its own that the world takes
 
-flat_as : (w : Seen) (n : ℕ) (o : Outcome) (lost : Option LostLine) (t : PlacedSeen) → DoneAs w n o lost t → SteppedFlat w n (step_in o) t.world
+pub flat_as : (w : Seen) (n : ℕ) (o : Outcome) (lost : Option LostLine) (t : PlacedSeen) → DoneAs w n o lost t → SteppedFlat w n (step_in o) t.world
 flat_as w n (Refuses fault) lost t done = absurd done
 flat_as w n (Changes places) lost t done = ap (λ (p : PlacedSeen). p.world) done.1
 flat_as w n (Loses places told) lost t done = ap (λ (p : PlacedSeen). p.world) done.1

@@ -21,13 +21,13 @@ below_next [] number below = tt
 below_next (line ∷ lines) number below = (let lt : line.line < number = below.0 in omega arith, below_next lines number below.1)
 
 -- another thing can't be said of the line
-said_is : (line : List ℕ) (said other : ScriptLine) → ((o : LineSaid) → Says line o → SaidStep said ≡ o) → IsLineOf line other → said ≡ other
+pub said_is : (line : List ℕ) (said other : ScriptLine) → ((o : LineSaid) → Says line o → SaidStep said ≡ o) → IsLineOf line other → said ≡ other
 said_is line said other only is = let same : SaidStep said ≡ SaidStep other = only (SaidStep other) is in cc
 
 step_is : (w : PlacedSeen) (line : List ℕ) (said other : ScriptLine) (step : PlacedStep) → ((o : LineSaid) → Says line o → SaidStep said ≡ o) → IsLineOf line other → placed_said w other ≡ Some step → placed_said w said ≡ Some step
 step_is w line said other step only is e = ap (placed_said w) (said_is line said other only is) ∙ e
 
-not_nothing : (line : List ℕ) (said : ScriptLine) → ((o : LineSaid) → Says line o → SaidStep said ≡ o) → IsSkipped line → ⊥
+pub not_nothing : (line : List ℕ) (said : ScriptLine) → ((o : LineSaid) → Says line o → SaidStep said ≡ o) → IsSkipped line → ⊥
 not_nothing line said only skipped = let same : SaidStep said ≡ Nothing = only Nothing skipped in cc
 
 same_some : (a b : PlacedStep) (o : Option PlacedStep) → o ≡ Some a → o ≡ Some b → a ≡ b

@@ -15,6 +15,7 @@ use Rattle.rendezvous_world.specs.declared.step.Step.{Step}
 use Rattle.rtmfp_report.specs.LostText.{lost_line}
 use Rattle.rendezvous_world.specs.Sent.{sent_in}
 use Rattle.rtmfp_play.specs.Generated.{Generates, summary_of}
+use Rattle.rtmfp_play.specs.Journaling.{Journals, end_text, logs_text, written_so_far}
 use Rattle.rtmfp_play.specs.Play.{Plays, name_at, names_of, told_of}
 
 -- This line of a script carries a datagram, which doesn't arrive where the ends stand now.
@@ -75,3 +76,20 @@ EachLineIsFlat = (w : PlacedSeen) (n : ℕ) (line : List ℕ) (t : PlacedSeen) (
 abbrev pub EachGeneratedRunIsOne : Type 0
 EachGeneratedRunIsOne = (seed steps : ℕ) (w t : Seen) → Generates seed steps w →
     Generates seed steps t → AreSameWorlds w t × (summary_of steps w ≡ summary_of steps t)
+
+-- ---- the text of the logs
+
+-- A line of a script adds its text to what is written of the logs.
+abbrev pub EachLineAddsItsText : Type 0
+EachLineAddsItsText = (w : PlacedSeen) (n : ℕ) (line : List ℕ) (t : PlacedSeen) (text : List ℕ) →
+    Journals w n line t text → written_so_far t.world ≡ written_so_far w.world ++ text
+
+-- And it does to the world what it does where its report is written.
+abbrev pub EachJournaledLineIsPlayed : Type 0
+EachJournaledLineIsPlayed =
+    (w : PlacedSeen) (n : ℕ) (line : List ℕ) (t : PlacedSeen) (text : List ℕ) →
+    Journals w n line t text → (report : List ℕ) × Plays w n line t report
+
+-- What is written so far and what is written at the end are the text of the logs of all ends.
+abbrev pub WhatIsWrittenIsTheLogs : Type 0
+WhatIsWrittenIsTheLogs = (w : Seen) → written_so_far w ++ end_text w ≡ logs_text w

@@ -5,7 +5,7 @@ ghost use Rattle.rendezvous_world.specs.Seen.{Seen};
 ghost use Rattle.rendezvous_world.specs.declared.step.Step.TheVariants.{At, Cancel, Deliver, End, Open, Tick};
 ghost use Rattle.rtmfp_play.specs.Generated.{end_at, end_cert, end_count, end_name, end_address, end_step, number_after};
 ghost use Rattle.rtmfp_play.specs.Generated.{delivery, delivery_or_tick, generated_step, picked};
-ghost use Rattle.rtmfp_play.specs.Laws.{EachGeneratedRunIsOne, EachLineIsFlat, EachLineIsTold};
+ghost use Rattle.rtmfp_play.specs.Laws.{EachGeneratedRunIsOne, EachLineIsFlat, EachLineIsTold, EachLineAddsItsText, EachJournaledLineIsPlayed, WhatIsWrittenIsTheLogs};
 
 /// A line of a script adds one line to the journal, with its own number, and tells of it, or none.
 /// Then it tells of the datagram that it carries where that is lost, and else of nothing.
@@ -17,6 +17,23 @@ pub fn each_line_is_told()
 /// its ends are placed: what holds of worlds holds of runs with translators.
 pub fn each_line_is_flat()
     ensures { EachLineIsFlat }
+{}
+
+/// A line of a script adds its text to what is written of the logs of its ends.
+pub fn each_line_adds_its_text()
+    ensures { EachLineAddsItsText }
+{}
+
+/// Where logs are written, a line of a script does to the world what it does where reports are
+/// written. So what holds of all runs with reports holds of those with logs.
+pub fn each_journaled_line_is_played()
+    ensures { EachJournaledLineIsPlayed }
+{}
+
+/// What is written of the logs line by line, and at the end of the script, is the text of the logs
+/// of all ends: what they were given first, and the events.
+pub fn what_is_written_is_the_logs()
+    ensures { WhatIsWrittenIsTheLogs }
 {}
 
 /// A seed and a count of steps decide a generated run and the line that is written of it. Left open

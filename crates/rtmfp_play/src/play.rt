@@ -121,7 +121,7 @@ pub fn sent_so_far(world: &World) -> Result<u64, AllocError>
 
 /// The step that a line says, among the ends and translators of a world; none where one that it
 /// names isn't there.
-fn step_said(
+pub(crate) fn step_said(
     alloc: Global,
     world: &PlacedWorld,
     said: ScriptLine,
@@ -468,7 +468,7 @@ fn push_done(
 }
 
 /// The name of the end with this number; no name where it isn't there.
-fn name_at(ends: &[Named], who: usize) -> Name
+pub(crate) fn name_at(ends: &[Named], who: usize) -> Name
     ensures { result ≡ name_at ends.now who }
 {
     match ends.get(who) {
