@@ -446,13 +446,16 @@ fn run_datagrams() -> io::Result<Result<(), (StepFault, u64)>> {
     Ok(done)
 }
 
-/// Does a script line by line, and prints its ends' logs. An end that comes after an event is refused.
+/// Does a script line by line, and prints its ends' logs: the lines of ends at the first event, or at the end of a script
+/// that has none. An end that comes after an event is refused.
 fn run_journal() -> io::Result<Result<(), (StepFault, u64)>> {
     let mut out = BufWriter::with_capacity(1 << 16, io::stdout().lock());
     let logs = RefCell::new(Logs::new());
     let write = |world: &World, done: &JournalLine| logs.borrow_mut().write_line(&mut out, world, done);
     let (world, done) = each_line(write, |step| !logs.borrow().are_begun() || !matches!(step, Step::End { .. }))?;
-    logs.borrow_mut().begin(&mut out, &world)?;
+    if done.is_ok() {
+        logs.borrow_mut().begin(&mut out, &world)?;
+    }
     out.flush().map(|()| done)
 }
 

@@ -2,7 +2,8 @@
 //! is written is the report beside it. Its words are the names of the examples. All are scripts,
 //! but for `packets`, whose lines are packets, for texts of rows, each of which is a script with its
 //! report (`flows.rows` and the like), for texts of logs with what an audit says of each
-//! (`glare.audits`), for texts of tables, of rows of two ends by hand (`flows.tables`), and for
+//! (`logs.audits`), for texts of scripts, each with the logs that are written of it
+//! (`logs.journals`), for texts of tables, of rows of two ends by hand (`flows.tables`), and for
 //! tables of a script with one of its calls failing (`handshake.faults`).
 //! The word `library` is no file: it has an end as a library do what README shows, and tells how
 //! much it is to send, tells and drops then.
@@ -10,6 +11,7 @@
 
 mod audits;
 mod faults;
+mod journals;
 mod rows;
 mod running;
 mod tables;
@@ -33,6 +35,9 @@ fn play(rt: &HostRuntime, name: &str) -> Result<(), Fail> {
     }
     if name.ends_with(".audits") {
         return Ok(play_audits(rt, name)?);
+    }
+    if name.ends_with(".journals") {
+        return Ok(play_journals(rt, name)?);
     }
     if name.ends_with(".tables") {
         return play_tables(rt, name);
@@ -64,6 +69,12 @@ fn play_rows(rt: &HostRuntime, name: &str) -> io::Result<()> {
 fn play_audits(rt: &HostRuntime, name: &str) -> io::Result<()> {
     let text = fs::read_to_string(rt, name)?;
     audits::tell_rows(rt, text.as_str())
+}
+
+fn play_journals(rt: &HostRuntime, name: &str) -> io::Result<()> {
+    let text = fs::read_to_string(rt, name)?;
+    let audits = fs::read_to_string(rt, "logs.audits")?;
+    journals::tell_rows(rt, text.as_str(), audits.as_str())
 }
 
 fn play_tables(rt: &HostRuntime, name: &str) -> Result<(), Fail> {

@@ -25,6 +25,15 @@ fn run_words<S: Source, K: Sink>(
     )
 }
 
+/// The words of a command, which stand in a text with blanks between them.
+fn words_of(alloc: Global, command: &str) -> Result<Vec<String>, AllocError> {
+    let mut words = Vec::new(alloc);
+    for word in command.split(' ') {
+        words.push(String::from_str(alloc, word)?)?;
+    }
+    Ok(words)
+}
+
 /// A run of a command over a source and a sink.
 pub(crate) fn run_over<S: Source, K: Sink>(
     alloc: Global,
@@ -32,8 +41,7 @@ pub(crate) fn run_over<S: Source, K: Sink>(
     source: &mut S,
     sink: &mut K,
 ) -> Result<Status, AllocError> {
-    let word = String::from_str(alloc, command)?;
-    let words = Vec::from_array(alloc, [word])?;
+    let words = words_of(alloc, command)?;
     Ok(run_words(alloc, words.as_slice(), source, sink))
 }
 

@@ -20,7 +20,8 @@ pub(crate) fn tell_rows(rt: &HostRuntime) -> io::Result<()> {
     Ok(())
 }
 
-/// The name by which this program was started.
+/// The name by which this program was started. The machine's link to it leads elsewhere where
+/// sources run unproved.
 fn own_name(rt: &HostRuntime) -> io::Result<String> {
     match env::args(rt)?.next() {
         Some(name) => Ok(name),

@@ -6,7 +6,7 @@ use Rattle.placed_world.specs.Seen.{PlacedSeen}
 use Rattle.rtmfp_play.specs.Play.{empty_placed}
 use Rattle.rtmfp_play.proofs.Placing.{each_line_is_flat}
 use Rattle.rtmfp_cli.specs.declared.doing.Doing.{Doing}
-use Rattle.rtmfp_cli.specs.declared.doing.Doing.TheVariants.{Showing, Playing}
+use Rattle.rtmfp_cli.specs.declared.doing.Doing.TheVariants.{Playing}
 use Rattle.rtmfp_cli.specs.Doing.{Does}
 use Rattle.rtmfp_cli.specs.Script.{Runs}
 use Rattle.rtmfp_cli.specs.Laws.{EachRunIsFlat, StepsOn}
@@ -19,11 +19,11 @@ record IsFlat (n count : ℕ) (w t : Seen) : Type 0 where
 
 one_step : (n count : ℕ) (u w : PlacedSeen) (line : List ℕ) (lines : List (List ℕ)) (middle : Doing) (first rest : List ℕ) → Does (Playing u) n line middle first → Runs (n + 1) middle lines (Playing w) rest →
     ((m : PlacedSeen) → Runs (n + 1) (Playing m) lines (Playing w) rest → IsFlat (n + 1) count m.world w.world) → IsFlat n (suc count) u.world w.world
-one_step n count u w line lines Showing first rest does ran later = absurd does
 one_step n count u w line lines (Playing m) first rest does ran later =
     let step = each_line_is_flat u n line m first does in
     let next = later m ran in
     record { steps = step.0 ∷ next.steps; size = ap suc next.size; on = (m.world, step.1, next.on) }
+one_step n count u w line lines _ first rest does ran later = absurd does
 
 same_world : (u w : PlacedSeen) → Playing w ≡ Playing u → w ≡ u
 same_world u w e = cc

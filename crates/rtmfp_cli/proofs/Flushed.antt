@@ -1,5 +1,6 @@
 -- Passing on the last bytes changes nothing of what was done.
-use Rattle.std.proofs.Common.{◌≡◌, ℕ, inl, inr, List, [], ◌∷◌, ◌++◌, refl, sym, ◌∙◌, append-nil, subst}
+use Rattle.std.proofs.Common.{◌≡◌, ℕ, ◌+◌, inl, inr, List, [], ◌∷◌, ◌++◌, length, sym, ◌∙◌, append-nil, subst}
+use Rattle.std.proofs.Math.Seq.{take-length}
 use Rattle.rtmfp_host.specs.Faults.{Rose}
 use Rattle.rtmfp_host.specs.Writing.{Appends}
 use Rattle.rtmfp_lines.specs.declared.status.Status.{Status as RunStatus}
@@ -10,9 +11,10 @@ use Rattle.rtmfp_lines.specs.Lines.{lines_of}
 use Rattle.rtmfp_lines.proofs.Handled.{told_map}
 use Rattle.rtmfp_lines.proofs.Streams.{appends_still}
 use Rattle.rtmfp_cli.specs.declared.doing.Doing.{Doing}
-use Rattle.rtmfp_cli.specs.Doing.{IsBadLine, IsForgedLine}
+use Rattle.rtmfp_cli.specs.Doing.{IsBadLine, IsForgedLine, ending_of}
 use Rattle.rtmfp_cli.specs.Script.{HasDone, HasTaken, AllDone, SomeDone, StopsOn, TooMany, CutShort, EndsWhere, IsWhole, ScriptEnds}
 use Rattle.rtmfp_cli.specs.Run.{Finishes, PassesOn, Stays}
+use Rattle.rtmfp_cli.proofs.Going.{no_part}
 
 -- the lines are done, and their text is written, as before
 flushed : (doing : Doing) (start mid : Outside) (sink : SinkSeen) (lines : List (List ℕ)) → Appends mid.sink.written sink.written [] → HasDone doing start mid lines → HasDone doing start (outside mid.source sink) lines
@@ -34,9 +36,39 @@ cut doing start mid sink script lines more split took kept has =
       ran = has.ran;
       holds = has.holds;
       part = [];
-      next = inl refl;
+      next = no_part has.left (length lines + 1) more;
       written = subst P (sym (append-nil has.text)) (appends_still start.sink.written mid.sink.written sink.written has.text has.written kept);
     }
+
+-- the same of all lines and the ending
+all_flushed : (doing : Doing) (start mid : Outside) (sink : SinkSeen) (script : List ℕ) → Appends mid.sink.written sink.written [] → AllDone doing script start mid → AllDone doing script start (outside mid.source sink)
+all_flushed doing start mid sink script kept all = record {
+  read = all.read;
+  count = all.count;
+  took = all.took;
+  has = record {
+    left = all.has.left;
+    text = all.has.text;
+    ran = all.has.ran;
+    holds = all.has.holds;
+    written = appends_still start.sink.written mid.sink.written sink.written (all.has.text ++ ending_of all.has.left) all.has.written kept;
+  };
+}
+
+all_cut : (doing : Doing) (start mid : Outside) (sink : SinkSeen) (script : List ℕ) → Appends mid.sink.written sink.written [] → AllDone doing script start mid → CutShort doing script start (outside mid.source sink)
+all_cut doing start mid sink script kept all = record {
+  lines = lines_of script;
+  more = [];
+  split = sym (append-nil (lines_of script));
+  took = all.took;
+  left = all.has.left;
+  text = all.has.text;
+  ran = all.has.ran;
+  holds = all.has.holds;
+  part = ending_of all.has.left;
+  next = (length (ending_of all.has.left), sym (take-length (ending_of all.has.left)));
+  written = appends_still start.sink.written mid.sink.written sink.written (all.has.text ++ ending_of all.has.left) all.has.written kept;
+}
 
 stopped : (Kind : Doing → ℕ → List ℕ → Type 0) (doing : Doing) (n : ℕ) (start mid : Outside) (sink : SinkSeen) (script : List ℕ) → Appends mid.sink.written sink.written [] → StopsOn Kind doing script n start mid →
     StopsOn Kind doing script n start (outside mid.source sink)
@@ -82,17 +114,9 @@ run_ends doing status.Done result start mid sink finishes ends =
     let after = outside mid.source sink in
     let kept = finishes.written in
     answered doing status.Done result start mid sink finishes ends.0 (
-    λ good. (
-      good,
-      told_map start.source.left (λ script. AllDone doing script start mid) (λ script. AllDone doing script start after)
-          (λ script all. record { read = all.read; count = all.count; took = all.took; has = flushed doing start mid sink (lines_of script) kept all.has }) ends.1,
-    )
+    λ good. (good, told_map start.source.left (λ script. AllDone doing script start mid) (λ script. AllDone doing script start after) (λ script all. all_flushed doing start mid sink script kept all) ends.1)
     ) (
-    λ bad. (
-      bad,
-      told_map start.source.left (λ script. AllDone doing script start mid) (λ script. CutShort doing script start after)
-          (λ script all. cut doing start mid sink script (lines_of script) [] (sym (append-nil (lines_of script))) all.took kept all.has) ends.1,
-    )
+    λ bad. (bad, told_map start.source.left (λ script. AllDone doing script start mid) (λ script. CutShort doing script start after) (λ script all. all_cut doing start mid sink script kept all) ends.1)
     )
 run_ends doing status.Memory result start mid sink finishes ends =
     let after = outside mid.source sink in

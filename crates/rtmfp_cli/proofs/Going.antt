@@ -12,7 +12,7 @@ use Rattle.rtmfp_lines.specs.Lines.{lines_of}
 use Rattle.rtmfp_lines.specs.Reading.{IsPart, NextLine}
 use Rattle.rtmfp_cli.specs.declared.doing.Doing.{Doing}
 use Rattle.rtmfp_cli.specs.Doing.{Does, Holds, IsBadLine, IsForgedLine, limit_of}
-use Rattle.rtmfp_cli.specs.Script.{Runs, HasDone, HasTaken, AllDone, SomeDone, StopsOn, TooMany, TakenDone, CutShort, IsPartOfNext, Told, EndsWhere, max_lines}
+use Rattle.rtmfp_cli.specs.Script.{Runs, HasDone, HasTaken, SomeDone, StopsOn, TooMany, TakenDone, CutShort, IsPartOfNext, Told, EndsWhere, max_lines}
 use Rattle.rtmfp_cli.specs.Turning.{Takes, DoesOne, Turned, Closed}
 use Rattle.rtmfp_lines.proofs.Fronts.{next_of}
 use Rattle.rtmfp_lines.proofs.Handled.{Handled, Known, handled_none, handled_on, handled_more, known, known_all, part_lines, told_from}
@@ -124,26 +124,34 @@ done_so_far : (first doing : Doing) (start now after : Outside) (n : ℕ) (old :
 done_so_far first doing start now after n old going none =
     record { left = doing; text = going.text; ran = going.ran; holds = going.holds; written = appends_still start.sink.written now.sink.written after.sink.written going.text going.written none }
 
+-- All lines of a script were done and their text was written, the source is at its end, and the
+-- ending comes next.
+pub record AllRan (first left : Doing) (script : List ℕ) (start now : Outside) : Type 0 where
+  pub read : now.source.left ≡ Some []
+  pub count : length (lines_of script) ≤ max_lines
+  pub took : HasTaken first script (lines_of script) now.source
+  pub text : List ℕ
+  pub ran : Runs 1 first (lines_of script) left text
+  pub holds : Holds left
+  pub written : Appends start.sink.written now.sink.written text
+
 -- the script ends behind these bytes
-all_done : (first doing left : Doing) (start now after : Outside) (n : ℕ) (old bytes text : List ℕ) (going : Going first doing start now n old) → Ahead first start after going.handled bytes → IsAtEnd after.source.left →
-    Runs (n + 1) doing (lines_of bytes) left text → Appends now.sink.written after.sink.written text → n + length (lines_of bytes) ≤ max_lines → Told start (λ script. AllDone first script start after)
-all_done first doing left start now after n old bytes text going ahead end ran written fits =
-    told_from start.source.left (λ script. AllDone first script start after) (λ script e.
+all_ran : (first doing left : Doing) (start now after : Outside) (n : ℕ) (old bytes text : List ℕ) (going : Going first doing start now n old) → Ahead first start after going.handled bytes → IsAtEnd after.source.left →
+    Runs (n + 1) doing (lines_of bytes) left text → Appends now.sink.written after.sink.written text → n + length (lines_of bytes) ≤ max_lines → Told start (λ script. AllRan first left script start after)
+all_ran first doing left start now after n old bytes text going ahead end ran written fits =
+    told_from start.source.left (λ script. AllRan first left script start after) (λ script e.
     let it = known_of first script start after going.handled bytes e ahead in
     let all = known_all (limit_of first) max_lines script after.source going.handled bytes it end in
     let lines : lines_of script ≡ going.handled ++ lines_of bytes = all.1 in
-    let P : List (List ℕ) → Type 0 = λ ls. HasDone first start after ls in
+    let P : List (List ℕ) → Type 0 = λ ls. Runs 1 first ls left (going.text ++ text) in
     record {
       read = all.0;
       count = omega (arith, ap (λ (ls : List (List ℕ)). length ls) lines, length-append going.handled (lines_of bytes), going.count, fits);
       took = has_taken first script after going.handled bytes (lines_of bytes) (lines_of script) it lines;
-      has = subst P (sym lines) record {
-        left = left;
-        text = going.text ++ text;
-        ran = runs_append 1 (n + 1) first doing left going.handled (lines_of bytes) going.text text (omega (arith, going.count)) going.ran ran;
-        holds = runs_hold (n + 1) doing left (lines_of bytes) text going.holds ran;
-        written = appends_more start.sink.written now.sink.written after.sink.written going.text text going.written written;
-      };
+      text = going.text ++ text;
+      ran = subst P (sym lines) (runs_append 1 (n + 1) first doing left going.handled (lines_of bytes) going.text text (omega (arith, going.count)) going.ran ran);
+      holds = runs_hold (n + 1) doing left (lines_of bytes) text going.holds ran;
+      written = appends_more start.sink.written now.sink.written after.sink.written going.text text going.written written;
     })
 
 some_done : (first doing : Doing) (start now after : Outside) (n : ℕ) (old bytes : List ℕ) (going : Going first doing start now n old) → Ahead first start after going.handled bytes → Appends now.sink.written after.sink.written [] →
@@ -203,6 +211,11 @@ taken_done first doing start now after n old bytes going ahead none part few =
 part_of : (doing : Doing) (n m : ℕ) (more : List (List ℕ)) (part : List ℕ) → n ≡ m → IsPartOfNext doing n more part → IsPartOfNext doing m more part
 part_of doing n m more part e next = let P : ℕ → Type 0 = λ k. IsPartOfNext doing k more part in subst P e next
 
+-- nothing is a first part of what comes next
+pub no_part : (doing : Doing) (n : ℕ) (more : List (List ℕ)) → IsPartOfNext doing n more []
+no_part doing n [] = (0, refl)
+no_part doing n (line ∷ later) = inl refl
+
 -- what was written of the next line
 abbrev pub PartWritten : Doing → ℕ → Outside → List ℕ → List ℕ → Type 0
 PartWritten doing n after bytes part = (part ≡ []) ⊎ ((left : Doing) × (text : List ℕ) × (k : ℕ) × (part ≡ take k text) × NextLine (λ line. Does doing n line left text) after.source.left bytes)
@@ -223,10 +236,10 @@ cut_short first doing start now after n old bytes part going ahead next written 
       holds = going.holds;
       part = part;
       next = part_of doing (n + 1) (length going.handled + 1) (lines_of (bytes ++ it.rest)) part (omega (arith, going.count)) (elim next [
-        | inl none ↦ inl none
+        | inl none ↦ subst (λ (p : List ℕ). IsPartOfNext doing (n + 1) (lines_of (bytes ++ it.rest)) p) (sym none) (no_part doing (n + 1) (lines_of (bytes ++ it.rest)))
         | inr some ↦ (
             let line = next_of (λ line. Does doing (n + 1) line some.0 some.1) after.source.left bytes it.rest it.left some.4 in
-            inr (line.0, line.1, some.0, some.1, some.2, line.2, line.3, some.3))
+            subst (λ (ls : List (List ℕ)). IsPartOfNext doing (n + 1) ls part) (sym line.2) (inr (some.0, some.1, some.2, line.3, some.3)))
       ]);
       written = appends_more start.sink.written now.sink.written after.sink.written going.text part going.written written;
     })
@@ -236,11 +249,16 @@ cut_short first doing start now after n old bytes part going ahead next written 
 abbrev pub Ends : Doing → RunStatus → Outside → Outside → Type 0
 Ends doing s before after = EndsWhere NothingFailed doing s before after
 
+-- how the lines end: as the run, but where all were done the ending comes next
+abbrev pub LinesEnd : Doing → Doing → RunStatus → Outside → Outside → Type 0
+LinesEnd first left status.Done before after = NothingFailed before after × Told before (λ script. AllRan first left script before after)
+LinesEnd first left s before after = Ends first s before after
+
 -- the last turn
-pub going_ends : (s : RunStatus) (first doing left : Doing) (start now after : Outside) (n : ℕ) (old new : List ℕ) → Going first doing start now n old → n + 1 ≤ max_lines → Turned (Ended s) doing left (n + 1) now after old new → Ends first s start after
+pub going_ends : (s : RunStatus) (first doing left : Doing) (start now after : Outside) (n : ℕ) (old new : List ℕ) → Going first doing start now n old → n + 1 ≤ max_lines → Turned (Ended s) doing left (n + 1) now after old new → LinesEnd first left s start after
 going_ends status.Done first doing left start now after n old new going fits turned = (
   still_calm start now after going.calm turned.calm,
-  all_done first doing turned.left start now after n old turned.bytes turned.text going (ahead_by first doing start now after n old turned.bytes going fits turned.takes) turned.end turned.ran turned.written (omega (arith, fits, turned.count)),
+  all_ran first doing left start now after n old turned.bytes turned.text going (ahead_by first doing start now after n old turned.bytes going fits turned.takes) turned.end turned.ran turned.written (omega (arith, fits, turned.count)),
 )
 going_ends status.Memory first doing left start now after n old new going fits turned = (
   still_calm start now after going.calm turned.0,
@@ -273,10 +291,10 @@ going_ends status.SourceFault first doing left start now after n old new going f
 going_ends _ first doing left start now after n old new going fits turned = absurd turned
 
 -- the end behind the last line that may be
-pub going_closed : (s : RunStatus) (first doing : Doing) (start now after : Outside) (old : List ℕ) → Going first doing start now max_lines old → Closed s now after old → Ends first s start after
+pub going_closed : (s : RunStatus) (first doing : Doing) (start now after : Outside) (old : List ℕ) → Going first doing start now max_lines old → Closed s now after old → LinesEnd first doing s start after
 going_closed status.Done first doing start now after old going closed = (
   still_calm start now after going.calm closed.0,
-  all_done first doing doing start now after max_lines old [] [] going (ahead_closed first doing start now after old [] going closed.1.takes) closed.2 (refl, refl) closed.1.written (lit≤ tt),
+  all_ran first doing doing start now after max_lines old [] [] going (ahead_closed first doing start now after old [] going closed.1.takes) closed.2 (refl, refl) closed.1.written (lit≤ tt),
 )
 going_closed status.SinkFault first doing start now after old going closed =
     let bytes : List ℕ = closed.1.0 in (

@@ -11,9 +11,10 @@ use Rattle.rendezvous_world.proofs.Keeping.{new_world}
 use Rattle.rendezvous_world.proofs.Sounds.{every_world_is_sound}
 use Rattle.rendezvous_world.proofs.Agreeing.{agreed}
 use Rattle.rendezvous_world.proofs.Handing.{hands_over}
+use Rattle.rtmfp_play.specs.Journaling.{Journals}
 use Rattle.rtmfp_play.specs.Play.{HistoryHolds, Plays, empty_placed}
 use Rattle.rtmfp_cli.specs.declared.doing.Doing.{Doing}
-use Rattle.rtmfp_cli.specs.declared.doing.Doing.TheVariants.{Showing, Playing}
+use Rattle.rtmfp_cli.specs.declared.doing.Doing.TheVariants.{Showing, Playing, Journaling}
 use Rattle.rtmfp_cli.specs.Doing.{Does, Holds, playing}
 use Rattle.rtmfp_cli.specs.Laws.{EveryRunIsAgreed, EveryRunHandsOver, HandsInItsOrder}
 use Rattle.rtmfp_cli.specs.Script.{Runs}
@@ -32,12 +33,19 @@ plays_holds w n line t text holds plays =
       | inr step ↦ step.holds
     ]
 
+journals_holds : (w : PlacedSeen) (n : ℕ) (line : List ℕ) (t : PlacedSeen) (text : List ℕ) → HistoryHolds w.world → Journals w n line t text → HistoryHolds t.world
+journals_holds w n line t text holds journals =
+    elim journals [
+      | inl nothing ↦ subst (λ (p : PlacedSeen). HistoryHolds p.world) (sym nothing.same) holds
+      | inr step ↦ step.holds
+    ]
+
 -- one line more
 pub does_hold : (doing : Doing) (n : ℕ) (line : List ℕ) (left : Doing) (text : List ℕ) → Holds doing → Does doing n line left text → Holds left
 does_hold Showing n line Showing text holds does = tt
-does_hold Showing n line (Playing t) text holds does = absurd does
-does_hold (Playing w) n line Showing text holds does = tt
 does_hold (Playing w) n line (Playing t) text holds does = plays_holds w n line t text holds does
+does_hold (Journaling w) n line (Journaling t) text holds does = journals_holds w n line t text holds does
+does_hold _ n line _ text holds does = absurd does
 
 -- many lines
 pub runs_hold : (n : ℕ) (doing left : Doing) (lines : List (List ℕ)) (text : List ℕ) → Holds doing → Runs n doing lines left text → Holds left

@@ -5,9 +5,9 @@ use Rattle.rtmfp_lines.specs.Lines.{lines_of, whole_lines, put_first, put_whole}
 use Rattle.rtmfp_lines.specs.Outside.{Outside}
 use Rattle.rtmfp_cli.specs.declared.doing.Doing.{Doing}
 use Rattle.rtmfp_cli.specs.Script.{AllDone, CutShort, HasDone, IsPartOfNext, Runs, SomeDone, StopsAt, StopsOn, TakenDone, Told, TooMany}
-use Rattle.rtmfp_cli.specs.Doing.{IsBadLine, IsForgedLine}
+use Rattle.rtmfp_cli.specs.Doing.{IsBadLine, IsForgedLine, ending_of}
 use Rattle.rtmfp_cli.specs.Laws.{AreSame, EachRunWritesInOrder, WritesAPart, WritesBefore}
-use Rattle.rtmfp_cli.proofs.OneRun.{IsOne, both_do, each_script_has_one_run}
+use Rattle.rtmfp_cli.proofs.OneRun.{IsOne, both_do, each_script_has_one_run, one_ending}
 
 -- ---- a run over lines and others is one run after another
 
@@ -59,24 +59,33 @@ known doing left end all lines more done text split ran whole =
 
 -- ---- a part of the text
 
+-- what stands behind a first part, with the ending
+with_ending : (text done rest ending : List ℕ) → text ≡ done ++ rest → text ++ ending ≡ done ++ (rest ++ ending)
+with_ending text done rest ending e = ap (λ xs. xs ++ ending) e ∙ append_assoc done rest ending
+
 some_part : (doing : Doing) (script : List ℕ) (before after : Outside) → SomeDone doing script before after → WritesAPart doing (lines_of script) before after
 some_part doing script before after some left text ran =
     let known_so = known doing some.has.left left (lines_of script) some.lines some.more some.has.text text some.split some.has.ran ran in
-    (some.has.text, known_so.rest, known_so.texts, some.has.written)
+    (some.has.text, known_so.rest ++ ending_of left, with_ending text some.has.text known_so.rest (ending_of left) known_so.texts, some.has.written)
 
--- a part of the text of the next line, which is first in what is left of the text
+-- a part of a text, and the rest of it
+taken_of : (text part : List ℕ) (k : ℕ) → part ≡ take k text → text ≡ part ++ drop k text
+taken_of text part k e = sym (take-append-drop k text) ∙ ap (λ xs. xs ++ drop k text) (sym e)
+
+-- a part of what comes next, which is first in what is left of the text and the ending
 next_part : (n : ℕ) (left middle end : Doing) (more : List (List ℕ)) (part rest : List ℕ) → AreSame middle left → Runs n middle more end rest → IsPartOfNext left n more part →
-    (later : List ℕ) × (rest ≡ part ++ later)
-next_part n left middle end more part rest same runs (inl none) = (rest, ap (λ xs. xs ++ rest) (sym none))
-next_part n left middle end more part rest same runs (inr h) =
-    let line = h.0 in
-    let text = h.3 in
-    let ran : Runs n middle (line ∷ h.1) end rest = subst (λ ls. Runs n middle ls end rest) h.5 runs in
-    let one : IsOne ran.0 h.2 ran.1 text = both_do n line middle left ran.0 h.2 ran.1 text same ran.3 h.6 in
-    let cut : text ≡ part ++ drop h.4 text = sym (take-append-drop h.4 text) ∙ ap (λ xs. xs ++ drop h.4 text) (sym h.7) in (
-      drop h.4 text ++ ran.2,
-      ran.5 ∙ ap (λ xs. xs ++ ran.2) (one.texts ∙ cut) ∙ append_assoc part (drop h.4 text) ran.2,
+    (later : List ℕ) × (rest ++ ending_of end ≡ part ++ later)
+next_part n left middle end [] part rest same ran h =
+    let ending : ending_of end ≡ ending_of left = ap ending_of ran.0 ∙ one_ending middle left same in (
+      drop h.0 (ending_of left),
+      ap (λ xs. xs ++ ending_of end) ran.1 ∙ ending ∙ taken_of (ending_of left) part h.0 h.1,
     )
+next_part n left middle end (line ∷ more) part rest same ran (inl none) = (rest ++ ending_of end, ap (λ xs. xs ++ (rest ++ ending_of end)) (sym none))
+next_part n left middle end (line ∷ more) part rest same ran (inr h) =
+    let one : IsOne ran.0 h.0 ran.1 h.1 = both_do n line middle left ran.0 h.0 ran.1 h.1 same ran.3 h.3 in
+    let after : List ℕ = drop h.2 h.1 ++ ran.2 in
+    let split : rest ≡ part ++ after = ran.5 ∙ ap (λ xs. xs ++ ran.2) (one.texts ∙ taken_of h.1 part h.2 h.4) ∙ append_assoc part (drop h.2 h.1) ran.2 in
+    (after ++ ending_of end, with_ending rest part after (ending_of end) split)
 
 cut_part : (doing : Doing) (script : List ℕ) (before after : Outside) → CutShort doing script before after → WritesAPart doing (lines_of script) before after
 cut_part doing script before after cut left text ran =
@@ -84,7 +93,7 @@ cut_part doing script before after cut left text ran =
     let next = next_part (length cut.lines + 1) cut.left so.middle left cut.more cut.part so.rest so.same so.later cut.next in (
       cut.text ++ cut.part,
       next.0,
-      so.texts ∙ ap (λ xs. cut.text ++ xs) next.1 ∙ sym (append_assoc cut.text cut.part next.0),
+      with_ending text cut.text so.rest (ending_of left) so.texts ∙ ap (λ xs. cut.text ++ xs) next.1 ∙ sym (append_assoc cut.text cut.part next.0),
       cut.written,
     )
 
@@ -106,7 +115,7 @@ taken_part doing script before after taken left text ran =
     let begin = lines_of_more taken.took.taken taken.took.rest in
     let split = ap lines_of taken.took.split ∙ begin.1 ∙ ap (λ ls. ls ++ begin.0) (sym taken.took.whole) in
     let so = known doing taken.has.left left (lines_of script) taken.lines begin.0 taken.has.text text split taken.has.ran ran in
-    (taken.has.text, so.rest, so.texts, taken.has.written)
+    (taken.has.text, so.rest ++ ending_of left, with_ending text taken.has.text so.rest (ending_of left) so.texts, taken.has.written)
 
 -- ---- the lines before a line
 

@@ -7,3 +7,6 @@ pub mod Going
 pub mod Flushed
 pub mod Running
 pub mod Flat
+pub mod Journals
+pub mod Logs
+pub mod Ending

@@ -17,7 +17,7 @@ use Rattle.rtmfp_play.specs.Laws.{Adds, AddsLoss, AddsNone, AddsOne, IsLostOn}
 use Rattle.rtmfp_play.proofs.Losing.{AreThere, adds_there, lost_below, one_loss, same_loss}
 use Rattle.rtmfp_play.proofs.Reported.{each_line_is_told}
 use Rattle.rtmfp_cli.specs.declared.doing.Doing.{Doing}
-use Rattle.rtmfp_cli.specs.declared.doing.Doing.TheVariants.{Showing, Playing}
+use Rattle.rtmfp_cli.specs.declared.doing.Doing.TheVariants.{Playing}
 use Rattle.rtmfp_cli.specs.Doing.{Does, playing}
 use Rattle.rtmfp_cli.specs.Script.{Runs}
 use Rattle.rtmfp_cli.specs.Laws.{AreSame, EachTextIsTheReport, HasPlayed, IsReport, IsThere, Line, Loss, LostAt, Rises, Told, done_on, journal_in}
@@ -248,12 +248,12 @@ module _ (all : List (List ℕ)) (count : ℕ) (u m w : PlacedSeen) (line : List
 one_more : (all : List (List ℕ)) (count : ℕ) (u w : PlacedSeen) (line : List ℕ) (lines : List (List ℕ)) (middle : Doing) (first rest : List ℕ) → HasPlayed all count u (line ∷ lines) → AreThere u.world →
     Does (Playing u) (count + 1) line middle first → Runs (count + 1 + 1) middle lines (Playing w) rest →
     ((m : PlacedSeen) → HasPlayed all (count + 1) m lines → AreThere m.world → Runs (count + 1 + 1) (Playing m) lines (Playing w) rest → Reports all (count + 1) m.world w.world rest) → Reports all count u.world w.world (first ++ rest)
-one_more all count u w line lines Showing first rest has there does ran later = absurd does
 one_more all count u w line lines (Playing m) first rest has there does ran later =
     let adds : Adds u (count + 1) line m first = each_line_is_told u (count + 1) line m first does in
     let played : HasPlayed all (count + 1) m lines = played_more all count u m line lines first has does in
     let reports : Reports all (count + 1) m.world w.world rest = later m played (adds_there u (count + 1) line m first adds there) ran in
     behind all count u m w line lines first rest (record { has = has; there = there; played = played; ends = adds.ends; names = adds.names; reports = reports }) adds
+one_more all count u w line lines _ first rest has there does ran later = absurd does
 
 same_world : (u w : PlacedSeen) → Playing w ≡ Playing u → w ≡ u
 same_world u w e = cc

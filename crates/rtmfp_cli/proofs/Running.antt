@@ -15,15 +15,15 @@ use Rattle.rtmfp_node.specs.declared.served.Served.{Served}
 use Rattle.rtmfp_node.specs.declared.served.Served.TheVariants as served
 use Rattle.rtmfp_node.specs.Outside.{Counted}
 use Rattle.rtmfp_words.specs.Node.{IsMeet, IsServe, Serving}
-use Rattle.rtmfp_words.specs.Words.{IsAudit, IsReplay, IsShow}
-use Rattle.rtmfp_words.specs.declared.command.Command.TheVariants.{Show, Replay, Generate, Audit}
+use Rattle.rtmfp_words.specs.Words.{IsAudit, IsJournal, IsReplay, IsShow}
+use Rattle.rtmfp_words.specs.declared.command.Command.TheVariants.{Show, Replay, Journal, Generate, Audit}
 use Rattle.rtmfp_words.specs.declared.command_line.CommandLine.{CommandLine}
 use Rattle.rtmfp_words.specs.declared.command_line.CommandLine.TheVariants.{Lines, Serve, Meet}
 use Rattle.rtmfp_words.specs.declared.fault.WordsFault.{WordsFault}
 use Rattle.rtmfp_words.specs.declared.fault.WordsFault.TheVariants.{Faulty, Memory}
 use Rattle.rtmfp_words.proofs.Commanding.{Finds, faulty_only, not_read}
 use Rattle.rtmfp_cli.specs.Commands.{CommandEnds, Fits, HasRisen, Objects, NodeEnds, around, reads_lines, serves, starts_nodes, status_of}
-use Rattle.rtmfp_cli.specs.Doing.{playing, showing}
+use Rattle.rtmfp_cli.specs.Doing.{journaling, playing, showing}
 use Rattle.rtmfp_cli.specs.declared.doing.Doing.{Doing}
 use Rattle.rtmfp_cli.specs.Script.{ScriptEnds}
 
@@ -43,6 +43,7 @@ not_faulty words line says faulty = not_read {A = CommandLine} (Err Faulty) line
 pub fits_of : (words : List (String Global)) (line : CommandLine) → Says words line → Fits line
 fits_of words (Lines Show) says = tt
 fits_of words (Lines Replay) says = tt
+fits_of words (Lines Journal) says = tt
 fits_of words (Lines (Generate seed steps)) says = says.few_steps
 fits_of words (Lines Audit) says = tt
 fits_of words (Serve v) says = says.name
@@ -93,6 +94,7 @@ served_well served.EntropyFault is = absurd (cc)
 bad_so : (words : List (String Global)) (line : CommandLine) (before after : Objects) → Says words line → CommandEnds line status.BadWords before after → IsFaulty words
 bad_so words (Lines Show) before after says ends = absurd ends
 bad_so words (Lines Replay) before after says ends = absurd ends
+bad_so words (Lines Journal) before after says ends = absurd ends
 bad_so words (Lines (Generate seed steps)) before after says ends = absurd ends
 bad_so words (Lines Audit) before after says ends = absurd ends
 bad_so words (Serve v) before after says ends = absurd (served_well ends.how ends.is)
@@ -154,6 +156,7 @@ served_risen v s before after ends = let P : RunStatus → Type 0 = λ x. HasRis
 pub risen : (line : CommandLine) (s : RunStatus) (before after : Objects) → CommandEnds line s before after → HasRisen s before after
 risen (Lines Show) s before after ends = script_risen s showing before after ends
 risen (Lines Replay) s before after ends = script_risen s playing before after ends
+risen (Lines Journal) s before after ends = script_risen s journaling before after ends
 risen (Lines (Generate seed steps)) s before after ends = generated_risen s seed steps before after ends
 risen (Lines Audit) s before after ends = audit_risen s before after ends
 risen (Serve v) s before after ends = served_risen v s before after ends
@@ -185,6 +188,8 @@ child_told (Lines Show) s before after none same ends =
     ap (λ p. p.status) (same refl) ∙ none ∙ sym (script_child s showing (outside before.source before.sink) (outside after.source after.sink) ends)
 child_told (Lines Replay) s before after none same ends =
     ap (λ p. p.status) (same refl) ∙ none ∙ sym (script_child s playing (outside before.source before.sink) (outside after.source after.sink) ends)
+child_told (Lines Journal) s before after none same ends =
+    ap (λ p. p.status) (same refl) ∙ none ∙ sym (script_child s journaling (outside before.source before.sink) (outside after.source after.sink) ends)
 child_told (Lines (Generate seed steps)) s before after none same ends =
     ap (λ p. p.status) (same refl) ∙ none ∙ sym (generated_child s seed steps before.sink after.sink ends)
 child_told (Lines Audit) s before after none same ends =
@@ -195,17 +200,19 @@ child_told (Meet m) s before after none same ends = ends.first
 
 -- ---- what a command doesn't need
 
-pub reads_none : (words : List (String Global)) (line : CommandLine) → Says words line → (IsShow words → ⊥) → (IsReplay words → ⊥) → (IsAudit words → ⊥) → reads_lines line ≡ false
-reads_none words (Lines Show) says show replay audit = absurd (show says)
-reads_none words (Lines Replay) says show replay audit = absurd (replay says)
-reads_none words (Lines (Generate seed steps)) says show replay audit = refl
-reads_none words (Lines Audit) says show replay audit = absurd (audit says)
-reads_none words (Serve v) says show replay audit = refl
-reads_none words (Meet m) says show replay audit = refl
+pub reads_none : (words : List (String Global)) (line : CommandLine) → Says words line → (IsShow words → ⊥) → (IsReplay words → ⊥) → (IsJournal words → ⊥) → (IsAudit words → ⊥) → reads_lines line ≡ false
+reads_none words (Lines Show) says show replay journal audit = absurd (show says)
+reads_none words (Lines Replay) says show replay journal audit = absurd (replay says)
+reads_none words (Lines Journal) says show replay journal audit = absurd (journal says)
+reads_none words (Lines (Generate seed steps)) says show replay journal audit = refl
+reads_none words (Lines Audit) says show replay journal audit = absurd (audit says)
+reads_none words (Serve v) says show replay journal audit = refl
+reads_none words (Meet m) says show replay journal audit = refl
 
 pub starts_none : (words : List (String Global)) (line : CommandLine) → Says words line → ((port turns : ℕ) → IsMeet words port turns → ⊥) → starts_nodes line ≡ false
 starts_none words (Lines Show) says meet = refl
 starts_none words (Lines Replay) says meet = refl
+starts_none words (Lines Journal) says meet = refl
 starts_none words (Lines (Generate seed steps)) says meet = refl
 starts_none words (Lines Audit) says meet = refl
 starts_none words (Serve v) says meet = refl
@@ -214,6 +221,7 @@ starts_none words (Meet m) says meet = absurd (meet m.port m.turns says)
 pub serves_none : (words : List (String Global)) (line : CommandLine) → Says words line → ((v : Serving) → IsServe words v → ⊥) → serves line ≡ false
 serves_none words (Lines Show) says serve = refl
 serves_none words (Lines Replay) says serve = refl
+serves_none words (Lines Journal) says serve = refl
 serves_none words (Lines (Generate seed steps)) says serve = refl
 serves_none words (Lines Audit) says serve = refl
 serves_none words (Serve v) says serve = absurd (serve v says)

@@ -13,7 +13,7 @@ use Rattle.rtmfp_lines.specs.Outside.{NothingFailed, Outside, SinkFailed, Source
 use Rattle.rtmfp_lines.specs.Lines.{NoLf, lines_of}
 use Rattle.rtmfp_lines.specs.Reading.{Asks, HasRead, IsPart, StartsWithLine, IsTooLong}
 use Rattle.rtmfp_cli.specs.declared.doing.Doing.{Doing}
-use Rattle.rtmfp_cli.specs.declared.doing.Doing.TheVariants.{Showing, Playing}
+use Rattle.rtmfp_cli.specs.declared.doing.Doing.TheVariants.{Showing, Playing, Journaling}
 use Rattle.rtmfp_cli.specs.Doing.{Does, IsBadLine, IsForgedLine, limit_of}
 use Rattle.rtmfp_script.specs.Grammar.{line_limit}
 use Rattle.placed_world.specs.Seen.{PlacedSeen}
@@ -95,11 +95,10 @@ one_done doing left n line text lines e does =
     subst P (sym e) (left, text, [], does, (refl, refl), sym (append-nil text))
 
 pub last_done : (doing left : Doing) (n : ℕ) (before mid : Outside) (sink : SinkSeen) (old bytes : List ℕ) → Between (limit_of doing) before mid old bytes → NothingFailed before mid → IsPart (limit_of doing) bytes → bytes ≢ [] →
-    IsAtEnd mid.source.left → Printed Went doing left n bytes mid.sink sink → DoesRest doing n before (outside mid.source sink) old
+    IsAtEnd mid.source.left → Printed Went doing left n bytes mid.sink sink → DoesRest doing left n before (outside mid.source sink) old
 last_done doing left n before mid sink old bytes between still part some end printed =
     record {
       bytes = bytes;
-      left = left;
       text = printed.0;
       takes = takes (limit_of doing) before mid sink old bytes between;
       end = end;
@@ -136,11 +135,10 @@ last_turned status.SourceFault doing left n before mid sink old bytes new betwee
 last_turned _ doing left n before mid sink old bytes new between still free some end printed = printed
 
 -- nothing is left
-pub end_turned : (doing : Doing) (n : ℕ) (before after : Outside) (old bytes : List ℕ) → Between (limit_of doing) before after old bytes → NothingFailed before after → bytes ≡ [] → IsAtEnd after.source.left → DoesRest doing n before after old
+pub end_turned : (doing : Doing) (n : ℕ) (before after : Outside) (old bytes : List ℕ) → Between (limit_of doing) before after old bytes → NothingFailed before after → bytes ≡ [] → IsAtEnd after.source.left → DoesRest doing doing n before after old
 end_turned doing n before after old bytes between still none end =
     record {
       bytes = [];
-      left = doing;
       text = [];
       takes = subst (Takes (limit_of doing) before after old) none (takes (limit_of doing) before after after.sink old bytes between);
       end = end;
@@ -169,6 +167,7 @@ too_long_to_play w front tail long = record {
 long_is_bad : (doing : Doing) (n : ℕ) (front tail : List ℕ) → limit_of doing < length front → IsBadLine doing n (front ++ tail)
 long_is_bad Showing n front tail long = too_long_to_show front tail long
 long_is_bad (Playing w) n front tail long = too_long_to_play w front tail long
+long_is_bad (Journaling w) n front tail long = inl (too_long_to_play w front tail long)
 
 pub long_turned : (doing left : Doing) (n : ℕ) (before after : Outside) (old bytes new : List ℕ) → Between (limit_of doing) before after old bytes → NothingFailed before after → IsTooLong (limit_of doing) bytes →
     Turned (Ended (status.BadScript n)) doing left n before after old new

@@ -19,11 +19,11 @@ use Rattle.rtmfp_node.specs.Whole.{Ends}
 use Rattle.rtmfp_play.specs.Generated.{GeneratedEnds}
 use Rattle.rtmfp_words.specs.CommandLine.{NamesNode}
 use Rattle.rtmfp_words.specs.Node.{IsMeet, IsNodeName, IsServe, Serving}
-use Rattle.rtmfp_words.specs.Words.{IsAudit, IsReplay, IsShow}
-use Rattle.rtmfp_words.specs.declared.command.Command.TheVariants.{Show, Replay, Generate, Audit}
+use Rattle.rtmfp_words.specs.Words.{IsAudit, IsJournal, IsReplay, IsShow}
+use Rattle.rtmfp_words.specs.declared.command.Command.TheVariants.{Show, Replay, Journal, Generate, Audit}
 use Rattle.rtmfp_words.specs.declared.command_line.CommandLine.{CommandLine}
 use Rattle.rtmfp_words.specs.declared.command_line.CommandLine.TheVariants.{Lines, Serve, Meet}
-use Rattle.rtmfp_cli.specs.Doing.{playing, showing}
+use Rattle.rtmfp_cli.specs.Doing.{journaling, playing, showing}
 use Rattle.rtmfp_cli.specs.Script.{ScriptEnds}
 
 -- what is seen of the six objects
@@ -81,6 +81,8 @@ CommandEnds (Lines Show) result before after = ScriptEnds showing result
     (outside before.source before.sink) (outside after.source after.sink)
 CommandEnds (Lines Replay) result before after = ScriptEnds playing result
     (outside before.source before.sink) (outside after.source after.sink)
+CommandEnds (Lines Journal) result before after = ScriptEnds journaling result
+    (outside before.source before.sink) (outside after.source after.sink)
 CommandEnds (Lines (Generate seed steps)) result before after =
     GeneratedEnds seed steps result before.sink after.sink
 CommandEnds (Lines Audit) result before after = AuditEnds result
@@ -93,6 +95,7 @@ CommandEnds (Meet m) result before after = MeetEnds m.port m.turns result
 abbrev pub Fits : CommandLine → Type 0
 Fits (Lines Show) = Unit {0}
 Fits (Lines Replay) = Unit {0}
+Fits (Lines Journal) = Unit {0}
 Fits (Lines (Generate seed steps)) = steps ≤ 100000
 Fits (Lines Audit) = Unit {0}
 Fits (Serve v) = IsNodeName v.name
@@ -109,6 +112,7 @@ IsRefused result words = (result ≡ status.BadWords) ⊎
 abbrev pub reads_lines : CommandLine → Bool
 reads_lines (Lines Show) = true
 reads_lines (Lines Replay) = true
+reads_lines (Lines Journal) = true
 reads_lines (Lines (Generate seed steps)) = false
 reads_lines (Lines Audit) = true
 reads_lines (Serve v) = false
@@ -126,7 +130,8 @@ abbrev pub NeedsNoNetwork : List (String Global) → Type 0
 NeedsNoNetwork words = (v : Serving) → IsServe words v → ⊥
 
 abbrev pub NeedsNoSource : List (String Global) → Type 0
-NeedsNoSource words = (IsShow words → ⊥) × (IsReplay words → ⊥) × (IsAudit words → ⊥)
+NeedsNoSource words = (IsShow words → ⊥) × (IsReplay words → ⊥) × (IsJournal words → ⊥) ×
+    (IsAudit words → ⊥)
 
 abbrev pub NeedsNoSpawner : List (String Global) → Type 0
 NeedsNoSpawner words = (port turns : ℕ) → IsMeet words port turns → ⊥

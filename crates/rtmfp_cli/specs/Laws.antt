@@ -27,12 +27,13 @@ use Rattle.rtmfp_lines.specs.Outside.{Outside}
 use Rattle.rtmfp_lines.specs.Status.{status_code}
 use Rattle.rtmfp_node.specs.declared.served.Served.TheVariants as served
 use Rattle.rtmfp_report.specs.LostText.{lost_line}
+use Rattle.rtmfp_play.specs.Journaling.{logs_text}
 use Rattle.rtmfp_play.specs.Laws.{IsLostOn}
 use Rattle.rtmfp_play.specs.Play.{name_at, names_of, told_of}
 use Rattle.rtmfp_cli.specs.declared.doing.Doing.{Doing}
-use Rattle.rtmfp_cli.specs.declared.doing.Doing.TheVariants.{Playing, Showing}
+use Rattle.rtmfp_cli.specs.declared.doing.Doing.TheVariants.{Journaling, Playing, Showing}
 use Rattle.rtmfp_cli.specs.Commands.{status_of}
-use Rattle.rtmfp_cli.specs.Doing.{Holds, limit_of, playing, showing}
+use Rattle.rtmfp_cli.specs.Doing.{Holds, ending_of, journaling, limit_of, playing, showing}
 use Rattle.rtmfp_cli.specs.Script.{Runs, ScriptEnds, max_lines}
 
 -- Whatever the lines of a script are, the history of the world that they leave holds, also where
@@ -172,9 +173,32 @@ EachRunIsFlat = (lines : List (List ℕ)) (w : PlacedSeen) (text : List ℕ) →
 -- matter of memory; the places are the same.
 abbrev pub AreSame : Doing → Doing → Type 0
 AreSame Showing Showing = Unit {0}
-AreSame Showing (Playing t) = ⊥
-AreSame (Playing w) Showing = ⊥
 AreSame (Playing w) (Playing t) = AreSameWorlds w.world t.world × (w.places ≡ t.places)
+AreSame (Journaling w) (Journaling t) = AreSameWorlds w.world t.world × (w.places ≡ t.places)
+AreSame left other = ⊥
+
+-- ---- the logs of a script
+
+-- What is written of a script by its journal is, with the ending, the text of the logs of all ends
+-- of the world that it leaves.
+abbrev pub EachJournalIsTheLogs : Type 0
+EachJournalIsTheLogs = (lines : List (List ℕ)) (w : PlacedSeen) (text : List ℕ) →
+    Runs 1 journaling lines (Journaling w) text →
+    text ++ ending_of (Journaling w) ≡ logs_text w.world
+
+-- And that is the world which a run that reports on these lines leaves.
+abbrev pub EachJournalIsPlayed : Type 0
+EachJournalIsPlayed = (lines : List (List ℕ)) (w : PlacedSeen) (text : List ℕ) →
+    Runs 1 journaling lines (Journaling w) text →
+    (words : List ℕ) × Runs 1 playing lines (Playing w) words
+
+-- So no journal has the logs of ends that keep different sessions with each other.
+abbrev pub EachJournalIsAgreed : Type 0
+EachJournalIsAgreed = (lines : List (List ℕ)) (w : PlacedSeen) (text : List ℕ) →
+    Runs 1 journaling lines (Journaling w) text →
+    IsAgreed group_secrets (setup_at w.world.ends) (history_of w.world)
+
+-- ---- all runs over lines
 
 -- What lines leave, and the text that is written of them, are decided by the lines.
 abbrev pub EachScriptHasOneRun : Type 0
@@ -183,12 +207,19 @@ EachScriptHasOneRun =
     Runs n doing lines left text → Runs n doing lines other words → AreSame left other ×
     (text ≡ words)
 
--- What a run over lines has written where it is done: the text of all its lines.
-pub record WritesAll (doing : Doing) (lines : List (List ℕ)) (before after : Outside) : Type 0 where
+-- What a run over lines has written where these are done: the text of them all.
+pub record WritesLines (doing : Doing) (lines : List (List ℕ)) (before after : Outside) : Type 0 where
   pub left : Doing
   pub text : List ℕ
   pub ran : Runs 1 doing lines left text
   pub written : Appends before.sink.written after.sink.written text
+
+-- What it has written where it is done: the text of all lines, and the ending.
+pub record WritesAll (doing : Doing) (lines : List (List ℕ)) (before after : Outside) : Type 0 where
+  pub left : Doing
+  pub text : List ℕ
+  pub ran : Runs 1 doing lines left text
+  pub written : Appends before.sink.written after.sink.written (text ++ ending_of left)
 
 -- The text of this script is written so, whatever the source tells besides.
 abbrev pub WritesOf : Status → (Doing → List (List ℕ) → Outside → Outside → Type 0) → Type 0
@@ -196,15 +227,16 @@ WritesOf result Writes = (doing : Doing) (script : List ℕ) (before after : Out
     before.source.left ≡ Some script → ScriptEnds doing result before after →
     Writes doing (lines_of script) before after
 
--- Where all these lines can be done, a first part of their text was written.
+-- Where all these lines can be done, a first part of their text and the ending was written.
 abbrev pub WritesAPart : Doing → List (List ℕ) → Outside → Outside → Type 0
 WritesAPart doing lines before after = (left : Doing) (text : List ℕ) →
-    Runs 1 doing lines left text → (part : List ℕ) × (rest : List ℕ) × (text ≡ part ++ rest) ×
+    Runs 1 doing lines left text →
+    (part : List ℕ) × (rest : List ℕ) × (text ++ ending_of left ≡ part ++ rest) ×
     Appends before.sink.written after.sink.written part
 
 -- The text of the lines before line n was written.
 abbrev pub WritesBefore : ℕ → Doing → List (List ℕ) → Outside → Outside → Type 0
-WritesBefore n doing lines before after = WritesAll doing (take (n - 1) lines) before after
+WritesBefore n doing lines before after = WritesLines doing (take (n - 1) lines) before after
 
 -- By its status a run over lines has written all, all before a line, or a first part.
 pub record EachRunWritesInOrder : Type 0 where
@@ -220,6 +252,7 @@ pub record Limits : Type 0 where
   pub lines : max_lines ≡ 1000000
   pub show : limit_of showing ≡ 4096
   pub replay : limit_of playing ≡ 2097664
+  pub journal : limit_of journaling ≡ 2097664
 
 -- the number with which the program ends for each way in which a node does
 pub record NodeStatuses : Type 0 where

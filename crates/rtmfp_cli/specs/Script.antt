@@ -8,7 +8,7 @@ use Rattle.rtmfp_host.specs.Seen.{SourceSeen}
 use Rattle.rtmfp_lines.specs.Outside.{Outside, Settled, SinkFailed, SourceFailed}
 use Rattle.rtmfp_lines.specs.Lines.{lines_of}
 use Rattle.rtmfp_lines.specs.Taken.{HasTaken as Taken, HasTakenWhole}
-use Rattle.rtmfp_cli.specs.Doing.{Does, Holds, IsBadLine, IsForgedLine, limit_of}
+use Rattle.rtmfp_cli.specs.Doing.{Does, Holds, IsBadLine, IsForgedLine, ending_of, limit_of}
 
 -- the most lines that a source may have
 abbrev pub max_lines : ℕ
@@ -31,6 +31,14 @@ pub record HasDone (doing : Doing) (before after : Outside) (lines : List (List 
   pub holds : Holds left
   pub written : Appends before.sink.written after.sink.written text
 
+-- these lines, which are all, were done, and their text and the ending were written
+pub record HasEnded (doing : Doing) (before after : Outside) (lines : List (List ℕ)) : Type 0 where
+  pub left : Doing
+  pub text : List ℕ
+  pub ran : Runs 1 doing lines left text
+  pub holds : Holds left
+  pub written : Appends before.sink.written after.sink.written (text ++ ending_of left)
+
 -- ---- what was read
 
 -- what was taken from the source of a script, of which these lines were done
@@ -45,12 +53,12 @@ pub record StopsAt (script : List ℕ) (n : ℕ) (lines : List (List ℕ)) (line
   pub split : lines_of script ≡ lines ++ line ∷ more
   pub number : length lines + 1 ≡ n
 
--- all lines were done, and the source was read to its end
+-- all lines were done, the source was read to its end, and the ending was written
 pub record AllDone (doing : Doing) (script : List ℕ) (before after : Outside) : Type 0 where
   pub read : after.source.left ≡ Some []
   pub count : length (lines_of script) ≤ max_lines
   pub took : HasTaken doing script (lines_of script) after.source
-  pub has : HasDone doing before after (lines_of script)
+  pub has : HasEnded doing before after (lines_of script)
 
 -- the first lines were done, and no other
 pub record SomeDone (doing : Doing) (script : List ℕ) (before after : Outside) : Type 0 where
@@ -85,14 +93,15 @@ pub record TakenDone (doing : Doing) (script : List ℕ) (before after : Outside
   pub took : HasTakenWhole (limit_of doing) max_lines script lines after.source
   pub has : HasDone doing before after lines
 
--- nothing, or the first bytes of the text of line n, the next one
+-- nothing, or the first bytes of what comes next: of the text of line n, and behind the last line
+-- of the ending
 abbrev pub IsPartOfNext : Doing → ℕ → List (List ℕ) → List ℕ → Type 0
-IsPartOfNext doing n more part =
-    (part ≡ []) ⊎ ((line : List ℕ) × (later : List (List ℕ)) × (left : Doing) × (text : List ℕ) ×
-    (k : ℕ)
-    × (more ≡ line ∷ later) × Does doing n line left text × (part ≡ take k text))
+IsPartOfNext doing n [] part = (k : ℕ) × (part ≡ take k (ending_of doing))
+IsPartOfNext doing n (line ∷ later) part = (part ≡ []) ⊎
+    ((left : Doing) × (text : List ℕ) × (k : ℕ) × Does doing n line left text ×
+    (part ≡ take k text))
 
--- the text of the first lines was written, and perhaps a part of that of the next
+-- the text of the first lines was written, and perhaps a part of what comes next
 pub record CutShort (doing : Doing) (script : List ℕ) (before after : Outside) : Type 0 where
   pub lines : List (List ℕ)
   pub more : List (List ℕ)

@@ -36,9 +36,9 @@ pub record DoesOne (doing left : Doing) (n : ℕ) (before after : Outside) (old 
   pub calm : NothingFailed before after
 
 -- the last line is done, if there is one without LF, and the source is at its end
-pub record DoesRest (doing : Doing) (n : ℕ) (before after : Outside) (old : List ℕ) : Type 0 where
+pub record DoesRest (doing left : Doing) (n : ℕ) (before after : Outside) (old : List ℕ)
+    : Type 0 where
   pub bytes : List ℕ
-  pub left : Doing
   pub text : List ℕ
   pub takes : Takes (limit_of doing) before after old bytes
   pub end : IsAtEnd after.source.left
@@ -77,7 +77,8 @@ pub record DoesPart (doing : Doing) (n : ℕ) (before after : Outside) (old : Li
 
 abbrev pub Turned : Turn → Doing → Doing → ℕ → Outside → Outside → List ℕ → List ℕ → Type 0
 Turned Went doing left n before after old new = DoesOne doing left n before after old new
-Turned (Ended status.Done) doing left n before after old new = DoesRest doing n before after old
+Turned (Ended status.Done) doing left n before after old new =
+    DoesRest doing left n before after old
 Turned (Ended status.Memory) doing left n before after old new = NothingFailed before after ×
     ((bytes : List ℕ) × DoesNone (limit_of doing) before after old bytes)
 Turned (Ended (status.BadScript m)) doing left n before after old new = (m ≡ n) ×
@@ -114,3 +115,20 @@ Closed status.SourceFault before after old = StopsReading 0 before after old
 Closed status.SinkFault before after old = SinkFailed before after ×
     ((bytes : List ℕ) × DoesNone 0 before after old bytes)
 Closed other before after old = ⊥
+
+-- what the ending, once all lines were done, makes of the sink
+abbrev pub EndsAs : RunStatus → List ℕ → SinkSeen → SinkSeen → Type 0
+EndsAs status.Done ending before after = Appends before.written after.written ending ×
+    (after.faults ≡ before.faults)
+EndsAs status.Memory ending before after = (after.written ≡ before.written) ×
+    (after.faults ≡ before.faults)
+EndsAs status.SinkFault ending before after =
+    (k : ℕ) × Appends before.written after.written (take k ending) ×
+    Rose before.faults after.faults
+EndsAs other ending before after = ⊥
+
+-- What the end of the lines makes of a status and of the sink: where all were done the ending is
+-- written.
+abbrev pub Concludes : RunStatus → RunStatus → List ℕ → SinkSeen → SinkSeen → Type 0
+Concludes status.Done result ending before after = EndsAs result ending before after
+Concludes other result ending before after = (result ≡ other) × (after ≡ before)

@@ -3,7 +3,7 @@ ghost use Rattle.std.specs.Prelude.{◌≡◌, ◌+◌, ◌-◌, ◌<◌, ◌≤
 ghost use Rattle.rtmfp_cli.specs.Doing.{IsNext, ShownAs, Tells, limit_of};
 
 use rtmfp_base::limits::LINE;
-use rtmfp_play::{Playing, Said, play_line};
+use rtmfp_play::{Journaling, Playing, Said, journal_line, play_line};
 use rtmfp_show::{LIMIT, show_line};
 use rtmfp_text::Text;
 use std::alloc::{AllocError, Global};
@@ -15,6 +15,9 @@ pub enum Doing {
     Showing,
     /// A line is one of a script, and its step is done in this run's world.
     Playing(Playing),
+    /// A line is one of a script, and its step is done in this run's world, of which the logs are
+    /// written.
+    Journaling(Journaling),
 }
 
 impl Doing {
@@ -25,6 +28,7 @@ impl Doing {
         match self {
             Doing::Showing => LIMIT,
             Doing::Playing(_) => LINE,
+            Doing::Journaling(_) => LINE,
         }
     }
 
@@ -46,6 +50,7 @@ impl Doing {
         match self {
             Doing::Showing => show(line, text),
             Doing::Playing(playing) => play_line(alloc, playing, number, line, text),
+            Doing::Journaling(journaling) => journal_line(alloc, journaling, number, line, text),
         }
     }
 }

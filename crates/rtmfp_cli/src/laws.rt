@@ -1,6 +1,6 @@
 //! What holds of all runs over lines. The functions do nothing: the contract of each is its law.
-ghost use Rattle.rtmfp_cli.specs.Laws.{EachRunIsFlat, EachRunWritesInOrder, EachScriptHasOneRun, EachTextIsTheReport, EveryRunHandsOver};
-ghost use Rattle.rtmfp_cli.specs.Laws.{EveryRunHolds, EveryRunIsAgreed, Limits, NodeStatuses};
+ghost use Rattle.rtmfp_cli.specs.Laws.{EachJournalIsAgreed, EachJournalIsPlayed, EachJournalIsTheLogs, EachRunIsFlat, EachRunWritesInOrder, EachScriptHasOneRun, EachTextIsTheReport};
+ghost use Rattle.rtmfp_cli.specs.Laws.{EveryRunHandsOver, EveryRunHolds, EveryRunIsAgreed, Limits, NodeStatuses};
 
 /// No run of a script leaves two ends that keep different sessions with each other, or a flow that
 /// handed over what wasn't queued on it, a part of a message, or a message twice or out of order: its
@@ -25,14 +25,23 @@ pub fn each_text_is_the_report_of_its_journal()
     ensures { EachTextIsTheReport }
 {}
 
+/// The journal of a script is the text of the logs of all ends of the world that its lines leave;
+/// and that is the world which they leave where they are reported on, so its history is agreed.
+pub fn each_journal_is_the_logs()
+    ensures logs { EachJournalIsTheLogs }
+    ensures played { EachJournalIsPlayed }
+    ensures agreed { EachJournalIsAgreed }
+{}
+
 /// The lines of a script decide what they leave and what is written of them. Left open is only how
 /// much room the outboxes of the journal have free, which is a matter of memory.
 pub fn each_script_has_one_run()
     ensures { EachScriptHasOneRun }
 {}
 
-/// A run over lines that is done has written the text of all its lines; one that ends at a line, of
-/// all before it; and any other a first part of what all its lines would give.
+/// A run over lines that is done has written the text of all its lines and the ending; one that
+/// ends at a line, the text of all before it; and any other a first part of what all its lines and
+/// the ending would give.
 pub fn each_run_writes_in_order()
     ensures { EachRunWritesInOrder }
 {}

@@ -1,14 +1,16 @@
-//! A run over the lines of a source: each is read, done and its text written before the next.
+//! A run over the lines of a source: each is read, done and its text written before the next, and
+//! behind the last the ending.
 ghost use Rattle.std.specs.Prelude.{◌≡◌, ◌*◌, ◌+◌, ◌-◌, ◌<◌, ◌≤◌, ◌^◌, length};
-ghost use Rattle.rtmfp_cli.specs.Doing.{Holds, IsNext, limit_of};
+ghost use Rattle.rtmfp_cli.specs.Doing.{Holds, IsNext, ending_of, limit_of};
 ghost use Rattle.rtmfp_lines.specs.Outside.{NothingFailed, outside};
 ghost use Rattle.rtmfp_cli.specs.Script.{EndsWhere};
-ghost use Rattle.rtmfp_cli.specs.Turning.{Closed, Printed, Turned};
+ghost use Rattle.rtmfp_cli.specs.Turning.{Closed, Concludes, EndsAs, Printed, Turned};
+ghost use Rattle.rtmfp_play.specs.Journaling.{end_text};
 
 use crate::doing::Doing;
 use rtmfp_host::{Sink, Source, Wrote};
 use rtmfp_lines::{Buffer, Next, Status, next_line};
-use rtmfp_play::Said;
+use rtmfp_play::{Journaling, Said};
 use rtmfp_text::Text;
 use std::alloc::Global;
 
@@ -21,6 +23,7 @@ const PIECE: usize = 1 << 16;
 /// What one line did.
 pub(crate) enum Turn {
     Went,
+    /// No line more is done: with `Done`, since all were.
     Ended(Status),
 }
 
@@ -107,6 +110,41 @@ fn close_script<S: Source, K: Sink>(buffer: &mut Buffer, source: &mut S, sink: &
     }
 }
 
+/// Writes the ending, where all lines were done.
+fn conclude<K: Sink>(status: Status, doing: &Doing, text: &mut Text, sink: &mut K) -> Status
+    ensures { Concludes status result (ending_of doing.now) (K.seen sink.old) (K.seen sink.new) }
+{
+    match status {
+        Status::Done => write_ending(doing, text, sink),
+        other => other,
+    }
+}
+
+/// Writes the ending.
+fn write_ending<K: Sink>(doing: &Doing, text: &mut Text, sink: &mut K) -> Status
+    ensures { EndsAs result (ending_of doing.now) (K.seen sink.old) (K.seen sink.new) }
+{
+    match doing {
+        Doing::Showing => Status::Done,
+        Doing::Playing(_) => Status::Done,
+        Doing::Journaling(journaling) => write_rest(journaling, text, sink),
+    }
+}
+
+/// Writes what of the logs isn't written yet.
+fn write_rest<K: Sink>(journaling: &Journaling, text: &mut Text, sink: &mut K) -> Status
+    ensures { EndsAs result (end_text journaling.now.world) (K.seen sink.old) (K.seen sink.new) }
+{
+    text.clear();
+    match journaling.push_rest(text) {
+        Ok(()) => match sink.write(text.bytes()) {
+            Wrote::Done => Status::Done,
+            Wrote::Failed => Status::SinkFault,
+        },
+        Err(_) => Status::Memory,
+    }
+}
+
 /// Does each line of the source.
 pub(crate) fn run_script<S: Source, K: Sink>(
     alloc: Global,
@@ -135,8 +173,9 @@ pub(crate) fn run_script<S: Source, K: Sink>(
             sink,
         ) {
             Turn::Went => {}
-            Turn::Ended(status) => return status,
+            Turn::Ended(status) => return conclude(status, &doing, &mut text, sink),
         }
     }
-    close_script(&mut buffer, source, sink)
+    let status = close_script(&mut buffer, source, sink);
+    conclude(status, &doing, &mut text, sink)
 }

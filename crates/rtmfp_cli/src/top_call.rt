@@ -3,10 +3,10 @@ ghost use Rattle.std.specs.Prelude.{◌≡◌, ℕ, None, false};
 ghost use Rattle.rtmfp_words.specs.CommandLine.{IsFaulty};
 ghost use Rattle.rtmfp_node.specs.Outside.{outside as node_outside};
 ghost use Rattle.rtmfp_words.specs.Node.{IsMeet, IsNodeName, IsServe, Serving};
-ghost use Rattle.rtmfp_words.specs.Words.{IsAudit, IsGenerate, IsReplay, IsShow};
+ghost use Rattle.rtmfp_words.specs.Words.{IsAudit, IsGenerate, IsJournal, IsReplay, IsShow};
 ghost use Rattle.rtmfp_cli.specs.Commands.{CommandEnds, Fits, HasRisen, IsRefused, NeedsNoNetwork, NeedsNoSource, NeedsNoSpawner, NodeEnds, ServeEnds, objects, reads_lines, serves, starts_nodes, status_of};
 ghost use Rattle.rtmfp_audit.specs.Audits.{AuditEnds};
-ghost use Rattle.rtmfp_cli.specs.Doing.{Holds, IsNext, playing, showing};
+ghost use Rattle.rtmfp_cli.specs.Doing.{Holds, IsNext, journaling, playing, showing};
 ghost use Rattle.rtmfp_meet.specs.Meeting.{MeetEnds, failed_with, sides};
 ghost use Rattle.rtmfp_play.specs.Generated.{GeneratedEnds};
 ghost use Rattle.rtmfp_lines.specs.Outside.{outside};
@@ -20,7 +20,7 @@ use rtmfp_host::{Entropy, Link, Moments, Sink, Source, Spawner, Wrote};
 use rtmfp_lines::Status;
 use rtmfp_meet::meet;
 use rtmfp_node::{Served, serve};
-use rtmfp_play::{Playing, generate};
+use rtmfp_play::{Journaling, Playing, generate};
 use rtmfp_words::{Command, CommandLine, ServeWords, WordsFault, read_command_line};
 use std::alloc::Global;
 
@@ -29,10 +29,11 @@ use std::alloc::Global;
 /// status.
 ///
 /// `show` reads one packet a line in hexadecimal, and writes its text. `replay` reads one step of a
-/// script a line, does it, and writes its report. `replay --generate N --steps K` makes a script of
-/// its own, and writes one line that sums it up. `audit` reads the logs of ends, one line each for
-/// an end, an event or an entry, and writes whether they agree. `serve` runs a node on the network,
-/// and writes its report. `meet` starts three nodes and writes what they wrote.
+/// script a line, does it, and writes its report. `replay --journal` writes the logs of its ends
+/// instead, as `audit` reads them. `replay --generate N --steps K` makes a script of its own, and
+/// writes one line that sums it up. `audit` reads the logs of ends, one line each for an end, an
+/// event or an entry, and writes whether they agree. `serve` runs a node on the network, and writes
+/// its report. `meet` starts three nodes and writes what they wrote.
 pub fn run<L: Link, C: Moments, E: Entropy, S: Source, K: Sink, P: Spawner>(
     alloc: Global,
     words: &[String],
@@ -50,6 +51,9 @@ pub fn run<L: Link, C: Moments, E: Entropy, S: Source, K: Sink, P: Spawner>(
         (outside (S.seen source.old) (K.seen sink.old))
         (outside (S.seen source.new) (K.seen sink.new)) }
     ensures replay { IsReplay words.now → ScriptEnds playing result
+        (outside (S.seen source.old) (K.seen sink.old))
+        (outside (S.seen source.new) (K.seen sink.new)) }
+    ensures journal { IsJournal words.now → ScriptEnds journaling result
         (outside (S.seen source.old) (K.seen sink.old))
         (outside (S.seen source.new) (K.seen sink.new)) }
     ensures generate { (seed steps : ℕ) → IsGenerate words.now seed steps →
@@ -121,6 +125,10 @@ fn run_command<L: Link, C: Moments, E: Entropy, S: Source, K: Sink, P: Spawner>(
         CommandLine::Lines(Command::Replay) => {
             let playing = Playing::new(alloc);
             over_lines(alloc, Doing::Playing(playing), source, sink)
+        }
+        CommandLine::Lines(Command::Journal) => {
+            let journaling = Journaling::new(alloc);
+            over_lines(alloc, Doing::Journaling(journaling), source, sink)
         }
         CommandLine::Lines(Command::Generate { seed, steps }) => generate(alloc, seed, steps, sink),
         CommandLine::Lines(Command::Audit) => run_audit(alloc, source, sink),

@@ -1,7 +1,6 @@
-//! Tests of a node on a network, through public items alone: each link, clock, random source and
-//! spawner in memory by its rows, each that is over the machine with the real thing, the words of
-//! `serve` and `meet`, nodes in memory that talk by datagrams of a program written apart, a whole
-//! meeting of three, and the faults of what is outside, through the top call.
+//! Tests of a node on a network, through public items alone: links, clocks, random sources and
+//! spawners in memory and over the machine, the words of `serve` and `meet`, nodes in memory that
+//! talk by datagrams of a program written apart, a meeting of three, and faults of what is outside.
 #![tactic(auto)]
 
 #[cfg(test)]

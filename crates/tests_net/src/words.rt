@@ -128,6 +128,8 @@ met --port 1 --turns 1 = none
 const LINES: &str = "\
 show = show
 replay = replay
+replay --journal = journal
+replay --journal 5 = none
 replay --generate 7 --steps=5 = generate
 audit = audit
 serve 10.0.0.1:1 P name --turns 5 = serve
@@ -253,6 +255,7 @@ fn said(alloc: Global, words: &[String]) -> &'static str {
     match read_command_line(alloc, words) {
         Ok(CommandLine::Lines(Command::Show)) => "show",
         Ok(CommandLine::Lines(Command::Replay)) => "replay",
+        Ok(CommandLine::Lines(Command::Journal)) => "journal",
         Ok(CommandLine::Lines(Command::Generate { .. })) => "generate",
         Ok(CommandLine::Lines(Command::Audit)) => "audit",
         Ok(CommandLine::Serve(_)) => "serve",

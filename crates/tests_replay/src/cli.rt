@@ -18,7 +18,8 @@ use std::test::Fail;
 /// line is passed on, and where that fails it is the sink's fault. A read that fails isn't tried
 /// again; the text so far is passed on before it. The datagram that is injected was made apart from
 /// this program: a plain packet that opens, and that nobody sent. The lines of generated runs are
-/// what the plain program of `scripts/baseline` prints, which was written apart from this one.
+/// what the plain program of `scripts/baseline` prints, which was written apart from this one. Of a
+/// journal without an event the lines of its ends are written once the source is at its end.
 const ROWS: &str = "done|show|-|~|bad empty~|10
 sink-fault|show|flush 2|~|bad empty~|0
 sink-fault|show|flush 3|~|bad empty~|10
@@ -50,6 +51,11 @@ bad-script 4|replay|-|end i 65536 4096 abcdbcdecdefdefgefghfghighijhijkijkljklmk
 bad-script 4|replay|-|end i 65536 4096 abcdbcdecdefdefgefghfghighijhijkijkljklmklmnlmnomnopnopq~end a 65536 4096 The quick brown fox jumps over the lazy dog~end b 65536 4096 The quick brown fox jumps over the lazy dog.~redirect i b 10.3.0.1:1 10.3.0.2:1 10.3.0.3:1 10.3.0.4:1 10.3.0.5:1 10.3.0.6:1 10.3.0.7:1 10.3.0.8:1 10.3.0.9:1 10.3.0.10:1 10.3.0.11:1 10.3.0.12:1 10.3.0.13:1 10.3.0.14:1 10.3.0.15:1 10.3.0.16:1 10.3.0.17:1~||0
 bad-script 4|replay|-|end i 65536 4096 abcdbcdecdefdefgefghfghighijhijkijkljklmklmnlmnomnopnopq~end a 65536 4096 The quick brown fox jumps over the lazy dog~end b 65536 4096 The quick brown fox jumps over the lazy dog.~redirect i b 10.3.0.1:1 10.3.0.1:1 10.3.0.1:1 10.3.0.1:1 10.3.0.1:1 10.3.0.1:1 10.3.0.1:1 10.3.0.1:1 10.3.0.1:1 10.3.0.1:1 10.3.0.1:1 10.3.0.1:1 10.3.0.1:1 10.3.0.1:1 10.3.0.1:1 10.3.0.1:1 10.3.0.1:1~||0
 forged 3|replay|-|end a 65536 4096 The quick brown fox jumps over the lazy dog~end b 65536 4096 The quick brown fox jumps over the lazy dog.~inject b 10.0.0.1:1935 f3c13152dd4b532b2e8a6279421e678998a7793cffffffffffffffffffffffffffffffffe7c11d5a60~open b a 10.0.0.1:1935~||0
+done|replay --journal|-|||0
+done|replay --journal|bytes|end a 1 1 0123456789abcdefx|log a 1 1 0 0000000000000000000000000000000000000000000000000000000000000000 8d91a6ea204253859ba8bb70784d5ed4e63de1873f84b8773da33e747f17e8fa 3031323334353637383961626364656678~|177
+bad-script 2|replay --journal|-|end a 1 1 0123456789abcdefx~zz||0
+sink-fault|replay --journal|write 2 3|end a 1 1 0123456789abcdefx~|log|0
+sink-fault|replay --journal|flush 3|end a 1 1 0123456789abcdefx~|log a 1 1 0 0000000000000000000000000000000000000000000000000000000000000000 8d91a6ea204253859ba8bb70784d5ed4e63de1873f84b8773da33e747f17e8fa 3031323334353637383961626364656678~|0
 done|replay --generate 7 --steps 0|-||ends=8 steps=0 sent=0 started=0 born=0 opened=0 confirmed=0 ended=0 dropped=0 kept=0~|85
 done|replay --generate 7 --steps 1|-||ends=8 steps=1 sent=0 started=0 born=0 opened=0 confirmed=0 ended=0 dropped=0 kept=0~|85
 done|replay --generate 5 --steps 1|-||ends=8 steps=1 sent=1 started=1 born=0 opened=0 confirmed=0 ended=0 dropped=0 kept=0~|85

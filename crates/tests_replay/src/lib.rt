@@ -1,7 +1,7 @@
-//! The tests of the program's crates and of those of scripts and reports, a module a crate, through
-//! public items alone: what the two programs `rtmfp` and `rtmfp_called` don't show already, whose
-//! files `stdin` and `stdout` are the rows of packets and of scripts. Whole scripts that are done are
-//! rows in the files of `examples`.
+//! Tests of the program's crates and of those of scripts and reports, through public items alone:
+//! what the programs `rtmfp` and `rtmfp_called` don't show already. Their files `stdin` and `stdout`
+//! are rows of packets and of scripts; whole scripts that are done are rows in the files of
+//! `examples`.
 #![tactic(auto)]
 
 #[cfg(test)]

@@ -7,6 +7,13 @@ use std::test::Fail;
 /// Words, and the command that they are.
 const ROWS: &str = "show = show
 replay = replay
+replay --journal = journal
+replay --journal --journal = none
+replay --journal=1 = none
+replay --journal 1 = none
+replay --journal --generate 7 --steps 1 = none
+--journal replay = none
+show --journal = none
 replay --generate 7 --steps=100000 = generate 7 100000
 replay --steps 0 --generate=18446744073709551615 = generate 18446744073709551615 0
 replay --generate=07 --steps=1 = none
@@ -32,6 +39,7 @@ fn command_text(alloc: Global, command: Option<Command>) -> Result<String, Alloc
     match command {
         Some(Command::Show) => String::from_str(alloc, "show"),
         Some(Command::Replay) => String::from_str(alloc, "replay"),
+        Some(Command::Journal) => String::from_str(alloc, "journal"),
         Some(Command::Generate { seed, steps }) => format!(in alloc; "generate {seed} {steps}"),
         Some(Command::Audit) => String::from_str(alloc, "audit"),
         None => String::from_str(alloc, "none"),

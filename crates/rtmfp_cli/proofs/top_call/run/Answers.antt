@@ -1,7 +1,7 @@
 use Rattle.std.proofs.Common.{inl, inr, refl, ap, ◌∙◌}
 use Rattle.std.specs.Prelude.{Err}
 use Rattle.rtmfp_meet.proofs.Runs.{nothing_met}
-use Rattle.rtmfp_words.specs.declared.command.Command.TheVariants.{Show, Replay, Generate, Audit}
+use Rattle.rtmfp_words.specs.declared.command.Command.TheVariants.{Show, Replay, Journal, Generate, Audit}
 use Rattle.rtmfp_words.specs.declared.command_line.CommandLine.TheVariants.{Lines, Serve, Meet}
 use Rattle.rtmfp_words.specs.declared.meet_words.MeetWords.{MeetWords}
 use Rattle.rtmfp_cli.proofs.Running.{bad_words, child_told, ended_so, fits_of, not_faulty, reads_none, risen, serves_none, starts_none}
@@ -17,6 +17,9 @@ returns-in-Ok-clause-show g c = λ show. ended_so c.read_command_line.result c.i
 
 pub returns-in-Ok-clause-replay : goal.returns-in-Ok-clause-replay
 returns-in-Ok-clause-replay g c = λ replay. ended_so c.read_command_line.result c.in-Ok.line (Lines Replay) _ _ _ c.in-Ok.is (c.read_command_line.ensures.only (Lines Replay) replay) c.run_command.ensures.ends
+
+pub returns-in-Ok-clause-journal : goal.returns-in-Ok-clause-journal
+returns-in-Ok-clause-journal g c = λ journal. ended_so c.read_command_line.result c.in-Ok.line (Lines Journal) _ _ _ c.in-Ok.is (c.read_command_line.ensures.only (Lines Journal) journal) c.run_command.ensures.ends
 
 pub returns-in-Ok-clause-generate : goal.returns-in-Ok-clause-generate
 returns-in-Ok-clause-generate g c =
@@ -58,7 +61,7 @@ pub returns-in-Ok-clause-entropy : goal.returns-in-Ok-clause-entropy
 returns-in-Ok-clause-entropy g c = λ no. c.run_command.ensures.entropy (serves_none c.args.words.now c.in-Ok.line c.in-Ok.ensures.says no)
 
 pub returns-in-Ok-clause-source : goal.returns-in-Ok-clause-source
-returns-in-Ok-clause-source g c = λ no. c.run_command.ensures.source (reads_none c.args.words.now c.in-Ok.line c.in-Ok.ensures.says no.0 no.1 no.2)
+returns-in-Ok-clause-source g c = λ no. c.run_command.ensures.source (reads_none c.args.words.now c.in-Ok.line c.in-Ok.ensures.says no.0 no.1 no.2 no.3)
 
 pub returns-in-Ok-clause-sink : goal.returns-in-Ok-clause-sink
 returns-in-Ok-clause-sink g c = λ faulty. absurd (not_faulty c.args.words.now c.in-Ok.line c.in-Ok.ensures.says faulty)

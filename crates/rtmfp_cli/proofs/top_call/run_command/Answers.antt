@@ -5,3 +5,8 @@ pub over_lines-requires-in-Lines-Replay-clause-holds :
     goal.over_lines-requires-in-Lines-Replay-clause-holds
 over_lines-requires-in-Lines-Replay-clause-holds g c =
     new_holds c.new-playing.result c.new-playing.ensures
+
+pub over_lines-requires-in-Lines-Journal-clause-holds :
+    goal.over_lines-requires-in-Lines-Journal-clause-holds
+over_lines-requires-in-Lines-Journal-clause-holds g c =
+    new_holds c.new-journaling.result c.new-journaling.ensures
