@@ -19,7 +19,8 @@ pub enum Cause {
     /// The field at this offset of the payload can't be read, a certificate or component there
     /// hasn't its form, or a session ID there is 0.
     Malformed(u64),
-    /// The chunk doesn't belong under the datagram's session ID, or the packet's mode doesn't.
+    /// The chunk doesn't belong under the datagram's session ID or into a packet that was gathered,
+    /// or the packet's mode doesn't belong there.
     WrongPlace,
     /// A hello whose discriminator selects nothing that is answered or forwarded.
     NotSelected,
@@ -59,7 +60,7 @@ pub enum Cause {
     AckBeyond(u64),
     /// The new addresses would pass 16 beside the attempt's candidates; how many it has.
     CandidatesFull(u64),
-    /// The chunk is a fragment.
+    /// The chunk is a fragment outside of sessions, or in a packet that was gathered.
     Fragment,
     /// The chunk would make one receiving flow too many; how many there are.
     FlowsFull(u64),
@@ -69,4 +70,9 @@ pub enum Cause {
     AlreadyHeld(u32),
     /// 2^64-1 attempts were started, and a search is answered.
     AttemptsSpent,
+    /// The piece isn't held; the number of its refusal, and what the refusal tells.
+    Piece(u8, u64),
+    /// The piece completes a packet that can't be read; the number of its fault, or 4 where its mode
+    /// isn't the peer's.
+    BadWhole(u8),
 }
