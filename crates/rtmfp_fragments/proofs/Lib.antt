@@ -11,3 +11,4 @@ pub mod Limits
 pub mod Kept
 pub mod Agreeing
 pub mod Weighing
+pub mod Refusing

@@ -1,5 +1,5 @@
 -- At most 4 packets of 4,096 bytes are held, and no id or number twice.
-use Rattle.std.proofs.Common.{◌≡◌, ℕ, zero, suc, ◌+◌, ◌<◌, ◌≤◌, ◌==◌, ◌&&◌, ◌||◌, nat_le, nat_lt, Bool, true, false, not, if◌then◌else◌, filter, All, AllPairs, List, [], ◌∷◌, ◌++◌, length, get_or, Option, Some, None, Result, Ok, Err, refl, sym, ap, ◌∙◌, subst, arith}
+use Rattle.std.proofs.Common.{◌≡◌, ℕ, zero, suc, ◌+◌, ◌<◌, ◌≤◌, ◌==◌, ◌&&◌, ◌||◌, nat_le, nat_lt, Bool, true, false, not, if◌then◌else◌, filter, All, AllPairs, List, [], ◌∷◌, ◌++◌, length, get_or, Option, Some, None, Result, Ok, Err, IfOk, OnErr, refl, sym, ap, ◌∙◌, subst, arith}
 use Rattle.std.specs.List.{list_any}
 use Rattle.std.proofs.lemmas.Bool.Decides.{nat_tests}
 use Rattle.std.proofs.lemmas.List.Elements.{All-cons, All-head, All-tail, All-push, All-filter}
@@ -8,12 +8,12 @@ use Rattle.std.proofs.lemmas.List.Kept.{AllPairs-cons, AllPairs-filter}
 use Rattle.std.proofs.lemmas.List.Quantifiers.{all_pairs_push}
 use Rattle.std.proofs.lemmas.List.Sums.{sum_by-append}
 use Rattle.rtmfp_fragments.specs.declared.outcome.PieceRefusal.{PieceRefusal}
-use Rattle.rtmfp_fragments.specs.declared.outcome.PieceRefusal.TheVariants.{TooMany, Conflict, TooLong, PacketsFull, Memory}
+use Rattle.rtmfp_fragments.specs.declared.outcome.PieceRefusal.TheVariants.{TooMany, Conflict, TooLong, PacketsFull}
 use Rattle.rtmfp_fragments.specs.declared.outcome.Gathered.{Gathered}
 use Rattle.rtmfp_fragments.specs.declared.outcome.Gathered.TheVariants.{Again, Kept, Whole}
 use Rattle.rtmfp_fragments.specs.Pieces.{PieceParts}
 use Rattle.rtmfp_fragments.specs.Held.{PacketParts, has_id, is_same, is_again, are_at_odds, conflicts, held_bytes, whole, is_kept, kept_at, is_known, pieces_under, one_piece, with_one_more, with_piece, AreHeld, IsWithinLimits}
-use Rattle.rtmfp_fragments.specs.Answers.{unless, piece_refusal, gathered, answer_to, held_after, GathersIt, LacksMemory}
+use Rattle.rtmfp_fragments.specs.Answers.{unless, piece_refusal, gathered, answer_to, held_after, taken, Gathers}
 use Rattle.rtmfp_fragments.specs.Happenings.{Took, Lacked, held_by, StaysWithinLimits}
 use Rattle.rtmfp_fragments.proofs.Cutting.{at_true, at_false}
 
@@ -221,26 +221,21 @@ within (Took id x moment ∷ before) =
     limits_after (answer_to id x now) id moment x now refl (limits_filter (is_kept moment) (held_by before) (within before))
 within (Lacked id x moment ∷ before) = limits_filter (is_kept moment) (held_by before) (within before)
 
-gathered_within : (answer : Result Gathered PieceRefusal) (now after : List PacketParts) (id moment : ℕ) (x : PieceParts) → (answer ≡ Err Memory → ⊥)
-    → GathersIt now after id x moment answer → IsWithinLimits now → IsWithinLimits after
-gathered_within answer now after id moment x some exact h =
-    let both = exact some in
-    subst (λ (l : List PacketParts). IsWithinLimits l) (sym both.1) (limits_after answer id moment x now both.0 h)
+-- where a call found memory
+pub limits_taken : (answer : Result Gathered PieceRefusal) (held after : List PacketParts) (id moment : ℕ) (x : PieceParts)
+    → ◌≡◌ {A = List PacketParts × Result Gathered PieceRefusal} (after, answer) (taken held id x moment)
+    → IsWithinLimits held → IsWithinLimits after
+limits_taken answer held after id moment x is h =
+    let now = kept_at moment held in
+    subst (λ (l : List PacketParts). IsWithinLimits l) (sym (ap (λ (r : List PacketParts × Result Gathered PieceRefusal). r.0) is))
+    (limits_after (answer_to id x now) id moment x now refl (limits_filter (is_kept moment) held h))
 
-limits_by : (answer : Result Gathered PieceRefusal) (now after : List PacketParts) (id moment : ℕ) (x : PieceParts)
-    → GathersIt now after id x moment answer → LacksMemory now after id x answer → IsWithinLimits now → IsWithinLimits after
-limits_by (Ok g) now after id moment x exact memory h = gathered_within (Ok g) now after id moment x (λ e. absurd cc) exact h
-limits_by (Err (TooMany n)) now after id moment x exact memory h = gathered_within (Err (TooMany n)) now after id moment x (λ e. absurd cc) exact h
-limits_by (Err (Conflict n)) now after id moment x exact memory h = gathered_within (Err (Conflict n)) now after id moment x (λ e. absurd cc) exact h
-limits_by (Err (TooLong n)) now after id moment x exact memory h = gathered_within (Err (TooLong n)) now after id moment x (λ e. absurd cc) exact h
-limits_by (Err (PacketsFull n)) now after id moment x exact memory h = gathered_within (Err (PacketsFull n)) now after id moment x (λ e. absurd cc) exact h
-limits_by (Err Memory) now after id moment x exact memory h =
-    let found = memory refl in subst (λ (l : List PacketParts). IsWithinLimits l) (sym found.stays) h
+-- a call that forgets nothing where it finds no memory
+pub limits_gathered : {E : Type 0} (answer : Result Gathered E) (held after : List PacketParts) (id moment : ℕ) (x : PieceParts)
+    → IfOk answer (λ g. Gathers held after id x moment g) → OnErr answer (after ≡ held) → IsWithinLimits held → IsWithinLimits after
+limits_gathered (Ok g) held after id moment x is same h = limits_taken (Ok g) held after id moment x is h
+limits_gathered (Err e) held after id moment x is same h = subst (λ (l : List PacketParts). IsWithinLimits l) (sym same) h
 
--- a call that forgets and then takes
-pub limits_take : (answer : Result Gathered PieceRefusal) (held now after : List PacketParts) (id moment : ℕ) (x : PieceParts)
-    → IsWithinLimits held → now ≡ kept_at moment held
-    → GathersIt now after id x moment answer → LacksMemory now after id x answer → IsWithinLimits after
-limits_take answer held now after id moment x h is exact memory =
-    limits_by answer now after id moment x exact memory
-    (subst (λ (l : List PacketParts). IsWithinLimits l) (sym is) (limits_filter (is_kept moment) held h))
+-- a call that only forgets
+pub limits_kept : (held after : List PacketParts) (moment : ℕ) → after ≡ kept_at moment held → IsWithinLimits held → IsWithinLimits after
+limits_kept held after moment is h = subst (λ (l : List PacketParts). IsWithinLimits l) (sym is) (limits_filter (is_kept moment) held h)

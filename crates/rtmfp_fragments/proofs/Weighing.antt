@@ -7,8 +7,8 @@ use Rattle.rtmfp_fragments.specs.declared.outcome.PieceRefusal.{PieceRefusal}
 use Rattle.rtmfp_fragments.specs.declared.outcome.Gathered.{Gathered}
 use Rattle.rtmfp_fragments.specs.declared.outcome.Gathered.TheVariants.{Again, Whole}
 use Rattle.rtmfp_fragments.specs.Pieces.{PieceParts}
-use Rattle.rtmfp_fragments.specs.Held.{PacketParts, piece_at, is_same, is_again, are_at_odds, whole, is_kept, kept_at, pieces_under}
-use Rattle.rtmfp_fragments.specs.Answers.{unless, piece_refusal, gathered}
+use Rattle.rtmfp_fragments.specs.Held.{PacketParts, piece_at, is_same, is_again, are_at_odds, whole, is_kept, kept_at, pieces_under, IsWithinLimits}
+use Rattle.rtmfp_fragments.specs.Answers.{unless, piece_refusal, refusal_at, gathered}
 use Rattle.rtmfp_fragments.specs.Happenings.{JoinsFrom, Last, Next, GivesAllPieces}
 use Rattle.rtmfp_fragments.proofs.Histories.{by_number_now}
 use Rattle.rtmfp_fragments.proofs.Limits.{free, once_more, agree_more, limits_filter}
@@ -193,3 +193,18 @@ all_pieces held id x moment packet h given =
     let weighs = all_weight (pieces ++ x ∷ []) in
     let room = is_free.room in
     record { all = omega arith; few = omega arith }
+
+-- ---- it has at most 4,096 bytes
+
+answered_by : (again : Bool) (r : Option PieceRefusal) (o : Option (List ℕ)) (packet : List ℕ) → again ≡ false → (if again then None else r) ≡ None → o ≡ Some packet
+    → ◌≡◌ {A = Result Gathered PieceRefusal} (if again then Ok Again else unless r (gathered o)) (Ok (Whole packet))
+answered_by true r o packet again free is = absurd (cc)
+answered_by false (Some refusal) o packet again free is = absurd (cc)
+answered_by false None o packet again free is = let answer : Option (List ℕ) → Result Gathered PieceRefusal = λ x. Ok (gathered x) in ap answer is
+
+-- where a piece that isn't refused completes it
+pub short : (held : List PacketParts) (id moment : ℕ) (x : PieceParts) (packet : List ℕ) → IsWithinLimits held → is_again x (pieces_under id (kept_at moment held)) ≡ false
+    → refusal_at moment id x held ≡ None → whole (pieces_under id (kept_at moment held) ++ x ∷ []) ≡ Some packet → length packet ≤ 4096
+short held id moment x packet within again free is =
+    (all_pieces held id x moment packet within
+    (answered_by (is_again x (pieces_under id (kept_at moment held))) (piece_refusal id x (kept_at moment held)) (whole (pieces_under id (kept_at moment held) ++ x ∷ [])) packet again free is)).few

@@ -21,6 +21,14 @@ first_and_last = record { id = 1; at = 0; pieces = byte 0 true 170 ∷ byte 2 fa
 abbrev pub four : List PacketParts
 four = begun 2 ∷ begun 3 ∷ begun 4 ∷ begun 5 ∷ []
 
+-- three that were begun at moment 1, and one more at moment 0
+abbrev pub three : List PacketParts
+three = one_piece 2 1 (byte 0 true 170) ∷ one_piece 3 1 (byte 0 true 170) ∷
+    one_piece 4 1 (byte 0 true 170) ∷ []
+
+abbrev pub three_and_an_old_one : List PacketParts
+three_and_an_old_one = begun 5 ∷ three
+
 -- a packet that has these bytes in a piece after its first one
 abbrev pub with_bytes : List ℕ → PacketParts
 with_bytes bytes = record { id = 1; at = 0; pieces = byte 0 true 170 ∷ piece 1 true bytes ∷ [] }

@@ -1,12 +1,14 @@
 -- The calls of a reassembly in their order, and what is said of all of them.
 use Rattle.std.specs.Prelude.{◌≡◌, ℕ, ◌+◌, ◌*◌, ◌<◌, ◌≤◌, length, Bool, true, false, List, [], ◌∷◌, ◌++◌, ◌⊎◌, Some, Result, Ok, Err}
+use Rattle.std.specs.Option.{is_none}
+use Rattle.std.specs.Result.{is_ok}
 use Rattle.rtmfp_fragments.specs.declared.outcome.PieceRefusal.{PieceRefusal}
 use Rattle.rtmfp_fragments.specs.declared.outcome.PieceRefusal.TheVariants.{TooMany, Conflict, TooLong, PacketsFull, Memory}
 use Rattle.rtmfp_fragments.specs.declared.outcome.Gathered.{Gathered}
 use Rattle.rtmfp_fragments.specs.declared.outcome.Gathered.TheVariants.{Again, Kept, Whole}
 use Rattle.rtmfp_fragments.specs.Pieces.{PieceParts, pieces_of}
 use Rattle.rtmfp_fragments.specs.Held.{PacketParts, piece_at, held_bytes, kept_at, pieces_under, IsWithinLimits}
-use Rattle.rtmfp_fragments.specs.Answers.{taken}
+use Rattle.rtmfp_fragments.specs.Answers.{taken, refusal_at}
 
 -- a call, that found memory or didn't
 pub data Happening : Type 0 where
@@ -28,6 +30,20 @@ held_by (Lacked id x moment ∷ before) = kept_at moment (held_by before)
 -- Whatever came, at most 4 packets of 4,096 bytes are held, and no id or number twice.
 abbrev pub StaysWithinLimits : Type 0
 StaysWithinLimits = (happened : List Happening) → IsWithinLimits (held_by happened)
+
+-- ---- what is refused
+
+-- Where a piece isn't refused, it is answered what it was; that is so nowhere else.
+abbrev pub RefusesNoneThatIsTaken : Type 0
+RefusesNoneThatIsTaken = (held : List PacketParts) (id : ℕ) (x : PieceParts) (moment : ℕ)
+    → is_none (refusal_at moment id x held) ≡ is_ok (answer_then held id x moment)
+
+-- A refusal is what is answered, and nothing but the forgetting has changed.
+abbrev pub AnswersTheRefusal : Type 0
+AnswersTheRefusal = (held : List PacketParts) (id : ℕ) (x : PieceParts) (moment : ℕ)
+    (refusal : PieceRefusal) → refusal_at moment id x held ≡ Some refusal
+    → ◌≡◌ {A = List PacketParts × Result Gathered PieceRefusal}
+    (taken held id x moment) (kept_at moment held, Err refusal)
 
 -- ---- the join
 

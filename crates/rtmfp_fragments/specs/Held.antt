@@ -71,6 +71,10 @@ is_kept moment p = nat_lt moment (p.at + 5000)
 abbrev pub kept_at : ℕ → List PacketParts → List PacketParts
 kept_at moment held = filter (is_kept moment) held
 
+-- the packet of an id, where its time isn't over
+abbrev pub is_held : ℕ → ℕ → PacketParts → Bool
+is_held id moment p = is_kept moment p && has_id id p
+
 abbrev pub is_known : ℕ → List PacketParts → Bool
 is_known id held = list_any (has_id id) held
 

@@ -7,8 +7,8 @@ ghost use Rattle.rtmfp_fragments.specs.declared.outcome.PieceRefusal.TheVariants
 ghost use Rattle.rtmfp_fragments.specs.declared.outcome.SplitRefusal.TheVariants as split;
 ghost use Rattle.rtmfp_fragments.specs.Pieces.{piece, pieces_of, split_refusal};
 ghost use Rattle.rtmfp_fragments.specs.Held.{one_piece};
-ghost use Rattle.rtmfp_fragments.specs.Answers.{taken, answer_to};
-ghost use Rattle.rtmfp_fragments.specs.Edges.{byte, begun, first_and_last, four, with_bytes, comes, answers, held_then, worked};
+ghost use Rattle.rtmfp_fragments.specs.Answers.{taken, answer_to, refusal_at, Gathers};
+ghost use Rattle.rtmfp_fragments.specs.Edges.{byte, begun, first_and_last, four, three, three_and_an_old_one, with_bytes, comes, answers, held_then, worked};
 
 /// A packet in three pieces: again, otherwise, above the last one, above 63, and the one that is
 /// missing. Then four packets and a fifth, which finds room when the four are 5,000 ms old.
@@ -132,6 +132,46 @@ pub fn packets_are_four_for_five_seconds()
     ensures each_by_its_own { held_then [] (comes 0 1 0 true 1 ∷ comes 1 2 0 true 1 ∷
         comes 5000 3 0 true 1 ∷ [])
         ≡ one_piece 2 1 (byte 0 true 1) ∷ one_piece 3 5000 (byte 0 true 1) ∷ [] }
+{}
+
+/// What is refused before anything is taken: a packet whose time is over counts as not held, though
+/// it is there, and what is held already isn't refused.
+#[tactic(auto, unfolding(crate::specs::Held::whole))]
+pub fn a_piece_is_judged_first()
+    ensures old_conflict { refusal_at 4999 1 (byte 0 true 187) (begun 1 ∷ [])
+        ≡ Some (Conflict 0) }
+    ensures no_conflict { refusal_at 5000 1 (byte 0 true 187) (begun 1 ∷ []) ≡ None }
+    ensures again { refusal_at 0 1 (byte 0 true 170) (begun 1 ∷ []) ≡ None }
+    ensures too_long { (bytes : List ℕ) → length bytes ≡ 4096 →
+        refusal_at 4999 1 (piece 1 true bytes) (begun 1 ∷ []) ≡ Some (TooLong 1) }
+    ensures room { (bytes : List ℕ) → length bytes ≡ 4096 →
+        refusal_at 5000 1 (piece 1 true bytes) (begun 1 ∷ []) ≡ None }
+    ensures full { refusal_at 4999 6 (byte 0 true 170) three_and_an_old_one
+        ≡ Some (PacketsFull 4) }
+    ensures one_is_old { refusal_at 5000 6 (byte 0 true 170) three_and_an_old_one ≡ None }
+    ensures many { refusal_at 5000 6 (byte 64 true 170) three_and_an_old_one
+        ≡ Some (TooMany 64) }
+{}
+
+/// What is taken then. An old packet of the same id is forgotten and another one begun, or given; of
+/// four packets one may be old where a fifth one comes.
+#[tactic(auto, unfolding(crate::specs::Held::whole))]
+pub fn a_piece_that_was_judged_is_gathered()
+    ensures begun_again { Gathers (begun 1 ∷ begun 2 ∷ [])
+        (one_piece 1 5000 (byte 0 true 187) ∷ []) 1 (byte 0 true 187) 5000 Kept }
+    ensures not_again { Gathers (begun 1 ∷ []) (one_piece 1 5000 (byte 0 true 170) ∷ [])
+        1 (byte 0 true 170) 5000 Kept }
+    ensures not_joined { Gathers (first_and_last ∷ []) (one_piece 1 5000 (byte 1 true 187) ∷ [])
+        1 (byte 1 true 187) 5000 Kept }
+    ensures joined { Gathers (first_and_last ∷ begun 2 ∷ []) (begun 2 ∷ [])
+        1 (byte 1 true 187) 4999 (Whole (170 ∷ 187 ∷ 204 ∷ [])) }
+    ensures given_at_once { Gathers (begun 1 ∷ []) [] 1 (byte 0 false 187) 5000
+        (Whole (187 ∷ [])) }
+    ensures again { Gathers three_and_an_old_one three 2 (byte 0 true 170) 5000 Again }
+    ensures fifth { Gathers three_and_an_old_one
+        (one_piece 2 1 (byte 0 true 170) ∷ one_piece 3 1 (byte 0 true 170) ∷
+        one_piece 4 1 (byte 0 true 170) ∷ one_piece 6 5000 (byte 0 true 170) ∷ [])
+        6 (byte 0 true 170) 5000 Kept }
 {}
 
 /// A packet that is split has 4,096 bytes at most, and 64 pieces. That pieces have a size is asked

@@ -2,7 +2,7 @@
 //! proofs. The functions do nothing: the contract of each is its law.
 
 ghost use Rattle.rtmfp_fragments.specs.Cuts.{CutsIntoStretches, HasMorePieces};
-ghost use Rattle.rtmfp_fragments.specs.Happenings.{StaysWithinLimits, JoinsByNumber, GivesAllPieces, KeepsWhatIsNotWhole, RefusesNoTruePiece, GivesThePacket, GivesOnce, GivesAtLast};
+ghost use Rattle.rtmfp_fragments.specs.Happenings.{StaysWithinLimits, JoinsByNumber, GivesAllPieces, KeepsWhatIsNotWhole, RefusesNoTruePiece, GivesThePacket, GivesOnce, GivesAtLast, RefusesNoneThatIsTaken, AnswersTheRefusal};
 
 /// The pieces of a packet are its stretches of one size, numbered from 0, of which the last may be
 /// shorter; they are more than 64 exactly where the packet is longer than 64 of them.
@@ -48,4 +48,11 @@ pub fn a_packet_is_given_once()
 /// Where all pieces of a packet were taken, and none was forgotten, the packet was given.
 pub fn a_packet_is_given_at_last()
     ensures { GivesAtLast }
+{}
+
+/// A piece isn't refused exactly where it is answered what it was, but for want of memory. A refusal
+/// is the answer, and nothing but the forgetting has changed then.
+pub fn a_refusal_is_the_answer()
+    ensures none { RefusesNoneThatIsTaken }
+    ensures some { AnswersTheRefusal }
 {}

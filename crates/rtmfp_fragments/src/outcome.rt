@@ -1,6 +1,6 @@
 //! What is answered to a packet and to a piece.
 
-ghost use Rattle.std.specs.Prelude.{◌≡◌};
+ghost use Rattle.std.specs.Prelude.{◌≡◌, ◌≤◌, length};
 
 use std::marker::Model;
 use thiserror::Error;
@@ -47,16 +47,19 @@ pub struct Plain {
 }
 
 impl Model for Plain {
-    ghost use Rattle.std.specs.Prelude.{ℕ, List};
+    ghost use Rattle.std.specs.Prelude.{◌≤◌, ℕ, List, length};
 
     ghost Value = { List ℕ };
 
     ghost view = { λ p. p.bytes.items };
+
+    ghost invariant = { λ p. length p.bytes.items ≤ 4096 };
 }
 
 impl Plain {
     /// The packet of bytes that are there. It takes no memory.
     pub(crate) fn new(bytes: Vec<u8>) -> Plain
+        requires { length bytes.items ≤ 4096 }
         ensures { result ≡ bytes.items }
     {
         Plain { bytes }

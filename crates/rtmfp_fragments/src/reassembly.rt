@@ -1,9 +1,9 @@
 //! The packets that pieces are held of. Everything here is own.
 
-ghost use Rattle.std.specs.Prelude.{◌≡◌, ◌≤◌, ◌<◌, ◌+◌, [], length, OnOk, OnErr, slice_set, slice_index_or, position};
+ghost use Rattle.std.specs.Prelude.{◌≡◌, ◌≤◌, ◌<◌, ◌+◌, [], length, false, None, OnOk, OnErr, IfOk, slice_set, slice_index_or, position};
 ghost use Rattle.rtmfp_fragments.specs.Pieces.{piece, piece_parts};
-ghost use Rattle.rtmfp_fragments.specs.Held.{PacketParts, IsWithinLimits, kept_at, is_known, pieces_under, held_bytes, without, with_piece, with_one_more, has_id};
-ghost use Rattle.rtmfp_fragments.specs.Answers.{TakesIt, GathersIt, LacksMemory, piece_refusal};
+ghost use Rattle.rtmfp_fragments.specs.Held.{PacketParts, IsWithinLimits, kept_at, is_known, is_again, pieces_under, held_bytes, without, with_piece, with_one_more, is_held};
+ghost use Rattle.rtmfp_fragments.specs.Answers.{TakesIt, Gathers, LacksMemory, piece_refusal, refusal_at};
 
 use crate::held::{HeldPiece, Packet, conflicts, is_again, is_whole, join};
 use crate::outcome::{Gathered, PieceRefusal, Plain};
@@ -34,20 +34,51 @@ impl Model for Reassembly {
     ghost invariant = { λ r. IsWithinLimits r.packets.items };
 }
 
-/// Whether a packet has this id.
-fn is_known(packets: &[Packet], id: u64) -> bool
-    ensures { result ≡ is_known id packets.now }
+/// Where the packet of an id stands, if its time isn't over.
+fn place_of(packets: &[Packet], id: u64, moment: u64) -> Option<usize>
+    ensures { result ≡ position (is_held id moment) packets.now }
 {
-    packets.iter().any(|p| p.has_id(id))
+    packets
+        .iter()
+        .position(|p| p.is_kept(moment) && p.has_id(id))
 }
 
-/// The pieces that are held under an id.
-fn pieces_under(packets: &[Packet], id: u64) -> &[HeldPiece]
-    ensures { result.now ≡ pieces_under id packets.now }
+/// Whether a packet that is kept has this id.
+fn is_known(packets: &[Packet], id: u64, moment: u64) -> bool
+    ensures { result ≡ is_known id (kept_at moment packets.now) }
 {
     let mut rest = packets;
     while let [first, others @ ..] = rest {
-        if first.has_id(id) {
+        if first.is_kept(moment) && first.has_id(id) {
+            return true;
+        }
+        rest = others;
+    }
+    false
+}
+
+/// How many packets are kept.
+fn count_kept(packets: &[Packet], moment: u64) -> usize
+    ensures { result ≡ length (kept_at moment packets.now) }
+{
+    let mut rest = packets;
+    let mut count: usize = 0;
+    while let [first, others @ ..] = rest {
+        if first.is_kept(moment) {
+            count += 1;
+        }
+        rest = others;
+    }
+    count
+}
+
+/// The pieces that are held under an id.
+fn pieces_under(packets: &[Packet], id: u64, moment: u64) -> &[HeldPiece]
+    ensures { result.now ≡ pieces_under id (kept_at moment packets.now) }
+{
+    let mut rest = packets;
+    while let [first, others @ ..] = rest {
+        if first.is_kept(moment) && first.has_id(id) {
             return first.pieces();
         }
         rest = others;
@@ -56,13 +87,13 @@ fn pieces_under(packets: &[Packet], id: u64) -> &[HeldPiece]
 }
 
 /// How many bytes are held under an id.
-fn held_under(packets: &[Packet], id: u64) -> usize
-    ensures bytes { result ≡ held_bytes (pieces_under id packets.now) }
+fn held_under(packets: &[Packet], id: u64, moment: u64) -> usize
+    ensures bytes { result ≡ held_bytes (pieces_under id (kept_at moment packets.now)) }
     ensures few { result ≤ 4096 }
 {
     let mut rest = packets;
     while let [first, others @ ..] = rest {
-        if first.has_id(id) {
+        if first.is_kept(moment) && first.has_id(id) {
             return first.held();
         }
         rest = others;
@@ -71,30 +102,34 @@ fn held_under(packets: &[Packet], id: u64) -> usize
 }
 
 /// Why a piece that isn't held isn't taken.
-fn piece_refusal(packets: &[Packet], id: u64, x: &Piece<'_>) -> Option<PieceRefusal>
-    ensures { result ≡ piece_refusal id (piece_parts x.now) packets.now }
+fn piece_refusal(packets: &[Packet], id: u64, x: &Piece<'_>, moment: u64) -> Option<PieceRefusal>
+    ensures { result ≡ piece_refusal id (piece_parts x.now) (kept_at moment packets.now) }
 {
     if x.number >= MOST_PIECES as u64 {
         return Some(PieceRefusal::TooMany(x.number));
     }
-    if conflicts(pieces_under(packets, id), x) {
+    if conflicts(pieces_under(packets, id, moment), x) {
         return Some(PieceRefusal::Conflict(x.number));
     }
-    let held = held_under(packets, id);
+    let held = held_under(packets, id, moment);
     if x.bytes.len() > MOST_BYTES - held {
         return Some(PieceRefusal::TooLong(held as u64));
     }
-    if !is_known(packets, id) && packets.len() >= MOST_PACKETS {
-        return Some(PieceRefusal::PacketsFull(packets.len() as u64));
+    let count = count_kept(packets, moment);
+    if count >= MOST_PACKETS && !is_known(packets, id, moment) {
+        return Some(PieceRefusal::PacketsFull(count as u64));
     }
     None
 }
 
-/// Where the packet of an id stands.
-fn place_of(packets: &[Packet], id: u64) -> Option<usize>
-    ensures { result ≡ position (has_id id) packets.now }
+/// Why a piece isn't taken. Packets whose time is over count as not held.
+fn refusal_at(packets: &[Packet], id: u64, x: &Piece<'_>, moment: u64) -> Option<PieceRefusal>
+    ensures { result ≡ refusal_at moment id (piece_parts x.now) packets.now }
 {
-    packets.iter().position(|p| p.has_id(id))
+    if is_again(pieces_under(packets, id, moment), x) {
+        return None;
+    }
+    piece_refusal(packets, id, x, moment)
 }
 
 /// Holds one more piece of a packet that has some.
@@ -124,7 +159,7 @@ fn forget_old(packets: &mut Vec<Packet>, moment: u64)
     packets.retain(|p| p.is_kept(moment));
 }
 
-/// Holds one more piece, in its packet or in a new one.
+/// Holds one more piece, in its packet or in a new one. Packets whose time is over are still there.
 fn hold(
     packets: &mut Vec<Packet>,
     alloc: Global,
@@ -132,47 +167,48 @@ fn hold(
     x: &Piece<'_>,
     moment: u64,
 ) -> Result<(), AllocError>
-    requires { held_bytes (pieces_under id packets.old.items) + length x.now.bytes.now ≤ 4096 }
-    ensures ok { OnOk result
-        (packets.new.items ≡ with_piece id moment (piece_parts x.now) packets.old.items) }
+    requires { held_bytes (pieces_under id (kept_at moment packets.old.items))
+        + length x.now.bytes.now ≤ 4096 }
+    ensures ok { OnOk result (kept_at moment packets.new.items
+        ≡ with_piece id moment (piece_parts x.now) (kept_at moment packets.old.items)) }
     ensures err { OnErr result (packets.new.items ≡ packets.old.items) }
 {
-    if let Some(at) = place_of(packets, id) {
+    if let Some(at) = place_of(packets, id, moment) {
         return add(packets, at, alloc, x);
     }
     packets.push(Packet::one(alloc, id, moment, x)?)?;
     Ok(())
 }
 
-/// Takes a piece, where old packets are forgotten.
+/// Takes a piece that isn't refused. Memory is found before anything changes.
 fn gather(
     packets: &mut Vec<Packet>,
     alloc: Global,
     id: u64,
     x: &Piece<'_>,
     moment: u64,
-) -> Result<Gathered, PieceRefusal>
-    ensures exact { GathersIt packets.old.items packets.new.items id (piece_parts x.now) moment
-        result }
-    ensures memory { LacksMemory packets.old.items packets.new.items id (piece_parts x.now) result }
+) -> Result<Gathered, AllocError>
+    requires within { IsWithinLimits packets.old.items }
+    requires free { refusal_at moment id (piece_parts x.now) packets.old.items ≡ None }
+    ensures ok { IfOk result (λ gathered. Gathers packets.old.items packets.new.items id
+        (piece_parts x.now) moment gathered) }
+    ensures err { OnErr result (packets.new.items ≡ packets.old.items) }
+    ensures is_new { OnErr result (is_again (piece_parts x.now)
+        (pieces_under id (kept_at moment packets.old.items)) ≡ false) }
 {
-    if is_again(pieces_under(packets, id), x) {
+    if is_again(pieces_under(packets, id, moment), x) {
+        forget_old(packets, moment);
         return Ok(Gathered::Again);
     }
-    if let Some(refusal) = piece_refusal(packets, id, x) {
-        return Err(refusal);
-    }
-    if is_whole(pieces_under(packets, id), &*x) {
-        let Ok(all) = join(alloc, pieces_under(packets, id), &*x) else {
-            return Err(PieceRefusal::Memory);
-        };
+    if is_whole(pieces_under(packets, id, moment), &*x) {
+        let all = join(alloc, pieces_under(packets, id, moment), &*x)?;
+        forget_old(packets, moment);
         forget(packets, id);
         return Ok(Gathered::Whole(Plain::new(all)));
     }
-    match hold(packets, alloc, id, x, moment) {
-        Ok(()) => Ok(Gathered::Kept),
-        Err(_) => Err(PieceRefusal::Memory),
-    }
+    hold(packets, alloc, id, x, moment)?;
+    forget_old(packets, moment);
+    Ok(Gathered::Kept)
 }
 
 impl Reassembly {
@@ -204,7 +240,75 @@ impl Reassembly {
             (piece number more bytes.now) result }
         ensures limits { IsWithinLimits self.new }
     {
-        forget_old(&mut self.packets, moment);
+        let x = Piece {
+            number,
+            more,
+            bytes,
+        };
+        if let Some(refusal) = refusal_at(&self.packets, id, &x, moment) {
+            forget_old(&mut self.packets, moment);
+            return Err(refusal);
+        }
+        match gather(&mut self.packets, self.alloc, id, &x, moment) {
+            Ok(gathered) => Ok(gathered),
+            Err(_) => {
+                forget_old(&mut self.packets, moment);
+                Err(PieceRefusal::Memory)
+            }
+        }
+    }
+
+    /// Why `take` wouldn't take this piece at this moment, but for want of memory. It takes no
+    /// memory and changes nothing: packets whose time is over count as not held, and stay.
+    pub fn refusal(
+        &self,
+        id: u64,
+        number: u64,
+        more: bool,
+        bytes: &[u8],
+        moment: u64,
+    ) -> Option<PieceRefusal>
+        ensures { result ≡ refusal_at moment id (piece number more bytes.now) self.now }
+    {
+        let x = Piece {
+            number,
+            more,
+            bytes,
+        };
+        refusal_at(&self.packets, id, &x, moment)
+    }
+
+    /// Whether this very piece is held at this moment.
+    pub fn holds(&self, id: u64, number: u64, more: bool, bytes: &[u8], moment: u64) -> bool
+        ensures { result ≡ is_again (piece number more bytes.now)
+            (pieces_under id (kept_at moment self.now)) }
+    {
+        let x = Piece {
+            number,
+            more,
+            bytes,
+        };
+        is_again(pieces_under(&self.packets, id, moment), &x)
+    }
+
+    /// Takes a piece that isn't refused at this moment, as `take` does. Where no memory is found,
+    /// nothing has changed: old packets are still there too.
+    pub fn gather(
+        &mut self,
+        id: u64,
+        number: u64,
+        more: bool,
+        bytes: &[u8],
+        moment: u64,
+    ) -> Result<Gathered, AllocError>
+        requires { refusal_at moment id (piece number more bytes.now) self.old ≡ None }
+        ensures ok { IfOk result (λ gathered. Gathers self.old self.new id
+            (piece number more bytes.now) moment gathered) }
+        ensures err { OnErr result (self.new ≡ self.old) }
+        ensures is_new { OnErr result (is_again (piece number more bytes.now)
+            (pieces_under id (kept_at moment self.old)) ≡ false) }
+        ensures limits { IsWithinLimits self.new }
+    {
         let x = Piece {
             number,
             more,
