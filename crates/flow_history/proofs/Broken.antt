@@ -7,7 +7,7 @@ use Rattle.rtmfp_data_chunks.specs.HandsOver.{IsIn, HandsOver}
 use Rattle.flow_send.specs.Acks.{Told}
 use Rattle.flow_history.specs.Flow.{Carried}
 use Rattle.flow_history.specs.Said.{WasGiven, WasTold}
-use Rattle.flow_history.specs.Deeds.{back, name, Data, Ack, Out, done, History, steps_of}
+use Rattle.flow_history.specs.Deeds.{back, name, Data, Ack, Part, Out, done, History, steps_of}
 use Rattle.flow_history.specs.Lawful.{MayDo, IsHonest}
 use Rattle.flow_history.specs.Log.{log_of, queued_of, abandoned_of, handed_of}
 use Rattle.flow_history.specs.Lively.{there, flow}
@@ -69,6 +69,10 @@ no_ack : (P : ℕ → Told → Type 0) (y : Carried) (f : ℕ) (x : Told) → Is
 no_ack P y f x (inl e) = absurd cc
 no_ack P y f x (inr k) = absurd k
 
+whole : (y : Carried) → IsIn Part (Data 0 y ∷ []) → ⊥
+whole y (inl e) = absurd cc
+whole y (inr k) = k
+
 abbrev gone_one : History
 gone_one = done 1 (Out there (Data 0 (part 1 7) ∷ [])) ∷ before
 
@@ -77,6 +81,7 @@ may_go_two = (
   λ f x i. the_data (λ g y. WasGiven (steps_of (name there g) gone_one) y) (part 2 9) f x
       (inr (inl (record { flow = _; is_open = refl; given = refl; order = refl }))) i,
   λ f a i. no_ack (λ g y. WasTold (steps_of (name (back there) g) gone_one) y) (part 2 9) f a i,
+  λ i. whole (part 2 9) i,
 )
 
 may_go_one : MayDo before 1 (Out there (Data 0 (part 1 7) ∷ []))
@@ -84,6 +89,7 @@ may_go_one = (
   λ f x i. the_data (λ g y. WasGiven (steps_of (name there g) before) y) (part 1 7) f x
       (inr (inr (inl (record { flow = _; is_open = refl; given = refl; order = refl })))) i,
   λ f a i. no_ack (λ g y. WasTold (steps_of (name (back there) g) before) y) (part 1 7) f a i,
+  λ i. whole (part 1 7) i,
 )
 
 pub broken_lawful : IsLawfulBut broken

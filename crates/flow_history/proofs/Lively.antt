@@ -5,7 +5,7 @@ use Rattle.flow_send.specs.Acks.{Told}
 use Rattle.rtmfp_data_chunks.specs.HandsOver.{IsIn}
 use Rattle.flow_history.specs.Flow.{Carried}
 use Rattle.flow_history.specs.Said.{WasGiven, WasTold}
-use Rattle.flow_history.specs.Deeds.{Context, back, name, Data, Ack, Out, steps_of}
+use Rattle.flow_history.specs.Deeds.{Context, back, name, Data, Ack, Part, Out, steps_of}
 use Rattle.flow_history.specs.Lawful.{MayDo, IsLawful, IsHonest}
 use Rattle.flow_history.specs.Log.{HasOrder, log_of, handed_of}
 use Rattle.flow_history.specs.Lively.{there, flow, message, chunk, carried, ack, at_queued}
@@ -49,11 +49,20 @@ queued_lawful = (
   ),
 )
 
+whole_data : (y : Carried) → IsIn Part (Data 0 y ∷ []) → ⊥
+whole_data y (inl e) = absurd cc
+whole_data y (inr k) = k
+
+whole_ack : IsIn Part (Ack 0 ack ∷ []) → ⊥
+whole_ack (inl e) = absurd cc
+whole_ack (inr k) = k
+
 may_go : MayDo at_given 1 (Out there (Data 0 carried ∷ []))
 may_go = (
   λ f x i. the_data (λ g y. WasGiven (steps_of (name there g) at_given) y) f x
       (inl (record { flow = _; is_open = refl; given = refl; order = refl })) i,
   λ f a i. no_ack (λ g y. WasTold (steps_of (name (back there) g) at_given) y) f a i,
+  λ i. whole_data carried i,
 )
 
 sent_lawful : IsLawful at_sent
@@ -71,6 +80,7 @@ may_go_back = (
   λ f x i. no_data (λ g y. WasGiven (steps_of (name (back there) g) at_acked) y) f x i,
   λ f a i. the_ack (λ g y. WasTold (steps_of (name there g) at_acked) y) f a
       (inl (record { receiver = _; is_made = refl; told = refl })) i,
+  λ i. whole_ack i,
 )
 
 told_lawful : IsLawful at_told

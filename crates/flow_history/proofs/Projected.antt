@@ -11,7 +11,7 @@ use Rattle.flow_history.specs.Flow.{ByReceiver, Goes, Beside, Steps}
 use Rattle.flow_history.specs.Said.{WasGiven, WasTold, Carries, Went, CarriesBack, WentBack}
 use Rattle.flow_history.specs.Run.{BeginsSending, HasBegunSending, BeginsTaking, HasBegunTaking}
 use Rattle.flow_history.specs.Run.{MayAct, May, IsRun}
-use Rattle.flow_history.specs.Deeds.{Context, back, Name, name, same, same_name, Piece, Data, Ack}
+use Rattle.flow_history.specs.Deeds.{Context, back, Name, name, same, same_name, Piece, Data, Ack, Part}
 use Rattle.flow_history.specs.Deeds.{Deed, Begins, Leaves, OpensFlow, ActsOn, MakesFlow, TakesFrom}
 use Rattle.flow_history.specs.Deeds.{HandsOn, AcksOn, In, Out, History, data_of, acks_of, touch_of}
 use Rattle.flow_history.specs.Deeds.{steps_of}
@@ -123,6 +123,8 @@ among_data f x (Data g y ∷ rest) i =
     among_data_if f g x y rest (g == f) refl (among_data f x rest) i
 among_data f x (Ack g a ∷ rest) (inl q) = absurd cc
 among_data f x (Ack g a ∷ rest) (inr i) = among_data f x rest i
+among_data f x (Part ∷ rest) (inl q) = absurd cc
+among_data f x (Part ∷ rest) (inr i) = among_data f x rest i
 
 among_acks_if : (f g : ℕ) (x y : Told) (rest : List Piece) (t : Bool) → (g == f) ≡ t →
     (IsIn (Ack f x) rest → IsIn x (acks_of f rest)) → IsIn (Ack f x) (Ack g y ∷ rest) →
@@ -140,6 +142,8 @@ among_acks f x [] i = i
 among_acks f x (Ack g y ∷ rest) i = among_acks_if f g x y rest (g == f) refl (among_acks f x rest) i
 among_acks f x (Data g a ∷ rest) (inl q) = absurd cc
 among_acks f x (Data g a ∷ rest) (inr i) = among_acks f x rest i
+among_acks f x (Part ∷ rest) (inl q) = absurd cc
+among_acks f x (Part ∷ rest) (inr i) = among_acks f x rest i
 
 data_among_if : (f g : ℕ) (x y : Carried) (rest : List Piece) (t : Bool) → (g == f) ≡ t →
     (IsIn x (data_of f rest) → IsIn (Data f x) rest) →
@@ -155,6 +159,7 @@ data_among f x [] i = i
 data_among f x (Data g y ∷ rest) i =
     data_among_if f g x y rest (g == f) refl (data_among f x rest) i
 data_among f x (Ack g a ∷ rest) i = inr (data_among f x rest i)
+data_among f x (Part ∷ rest) i = inr (data_among f x rest i)
 
 acks_among_if : (f g : ℕ) (x y : Told) (rest : List Piece) (t : Bool) → (g == f) ≡ t →
     (IsIn x (acks_of f rest) → IsIn (Ack f x) rest) →
@@ -169,6 +174,7 @@ acks_among : (f : ℕ) (x : Told) (pieces : List Piece) → IsIn x (acks_of f pi
 acks_among f x [] i = i
 acks_among f x (Ack g y ∷ rest) i = acks_among_if f g x y rest (g == f) refl (acks_among f x rest) i
 acks_among f x (Data g a ∷ rest) i = inr (acks_among f x rest i)
+acks_among f x (Part ∷ rest) i = inr (acks_among f x rest i)
 
 -- what an end took in a context was sent in it
 pub record IsSentWith (c : Context) (piece : Piece) (h : History) : Type 0 where
@@ -202,6 +208,33 @@ came_sent who c piece (d ∷ h) honest (inl i) = let k = came_at c piece h d.dee
     record { pieces = k.pieces; among = k.among; sent = inr k.sent }
 came_sent who c piece (d ∷ h) honest (inr i) = let k = came_sent who c piece h honest.1 i in
     record { pieces = k.pieces; among = k.among; sent = inr k.sent }
+
+-- no packet comes in parts
+
+whole_at : (c : Context) (pieces : List Piece) (h : History) (who : ℕ) (d : Deed) → MayDo h who d →
+    SendsOut c pieces d → IsIn Part pieces → ⊥
+whole_at c pieces h who (Begins d) may o i = o
+whole_at c pieces h who (Leaves d) may o i = o
+whole_at c pieces h who (OpensFlow m b) may o i = o
+whole_at c pieces h who (ActsOn m act) may o i = o
+whole_at c pieces h who (MakesFlow m b) may o i = o
+whole_at c pieces h who (TakesFrom m d) may o i = o
+whole_at c pieces h who (HandsOn m) may o i = o
+whole_at c pieces h who (AcksOn m pairs) may o i = o
+whole_at c pieces h who (In d sent) may o i = o
+whole_at c pieces h who (Out d sent) may o i =
+    may.2 (subst (λ (ps : List Piece). IsIn Part ps) (sym o.1) i)
+
+pub sent_whole : (c : Context) (pieces : List Piece) (h : History) → IsLawful h → WasSent c pieces h →
+    IsIn Part pieces → ⊥
+sent_whole c pieces [] lawful o i = o
+sent_whole c pieces (d ∷ h) lawful (inl o) i = whole_at c pieces h d.who d.deed lawful.0 o i
+sent_whole c pieces (d ∷ h) lawful (inr o) i = sent_whole c pieces h lawful.1 o i
+
+pub came_whole : (who : ℕ) (c : Context) (h : History) → IsLawful h → IsHonest h →
+    CameIn who c Part h → ⊥
+came_whole who c h lawful honest i = let k = came_sent who c Part h honest i in
+    sent_whole c k.pieces h lawful k.sent k.among
 
 carries_in : (s t : Bool) (x y : Touch) (c : Carried) → s ≡ true → Carries x c →
     Carries (cond s x (cond t y Beside)) c

@@ -46,10 +46,11 @@ same_name m n = (m.flow == n.flow) && same m.context n.context
 -- ---- what ends do
 
 -- What a datagram has of flows: chunks of those of its own context, and acks of those of the
--- context back.
+-- context back; or a part of a packet, whatever that has.
 pub data Piece : Type 0 where
   Data : (flow : ℕ) (x : Carried) → Piece
   Ack : (flow : ℕ) (a : Told) → Piece
+  Part : Piece
 
 -- Begins and Leaves name the context in which a session sends; it takes in the one back. In and Out
 -- are datagrams in a context.
@@ -82,11 +83,13 @@ abbrev pub data_of : ℕ → List Piece → List Carried
 data_of f [] = []
 data_of f (Data g x ∷ rest) = if g == f then x ∷ data_of f rest else data_of f rest
 data_of f (Ack g a ∷ rest) = data_of f rest
+data_of f (Part ∷ rest) = data_of f rest
 
 abbrev pub acks_of : ℕ → List Piece → List Told
 acks_of f [] = []
 acks_of f (Data g x ∷ rest) = acks_of f rest
 acks_of f (Ack g a ∷ rest) = if g == f then a ∷ acks_of f rest else acks_of f rest
+acks_of f (Part ∷ rest) = acks_of f rest
 
 -- one thing in the flow's context, another one in the context back
 abbrev pub by_context : Context → Name → Touch → Touch → Touch

@@ -7,7 +7,7 @@ use Rattle.flow_send.specs.Acks.{Told}
 use Rattle.flow_exchange.specs.Sending.{Act, Hears}
 use Rattle.flow_history.specs.Flow.{Opened, Carried, sending_at, taking_at}
 use Rattle.flow_history.specs.Said.{WasGiven, WasTold}
-use Rattle.flow_history.specs.Deeds.{Context, back, Name, name, Piece, Data, Ack, Deed, Begins}
+use Rattle.flow_history.specs.Deeds.{Context, back, Name, name, Piece, Data, Ack, Part, Deed, Begins}
 use Rattle.flow_history.specs.Deeds.{Leaves, OpensFlow, ActsOn, MakesFlow, TakesFrom, HandsOn}
 use Rattle.flow_history.specs.Deeds.{AcksOn, In, Out, History, steps_of}
 
@@ -39,7 +39,7 @@ MayActOn h who n act = Unit {0}
 
 -- At most one session ever sends in a context, and a flow is opened there once and made once. What
 -- is taken came in the flow's context, and the chunk of which a flow is made tells its order. What
--- goes out the flows gave and told before.
+-- goes out the flows gave and told before, and no packet goes out in parts.
 abbrev pub MayDo : History → ℕ → Deed → Type 0
 MayDo h who (Begins c) = HasBegun c h → ⊥
 MayDo h who (Leaves c) = Unit {0}
@@ -59,6 +59,7 @@ MayDo h who (In c pieces) = Unit {0}
 MayDo h who (Out c pieces) =
     ((f : ℕ) (x : Carried) → IsIn (Data f x) pieces → WasGiven (steps_of (name c f) h) x)
     × ((f : ℕ) (a : Told) → IsIn (Ack f a) pieces → WasTold (steps_of (name (back c) f) h) a)
+    × (IsIn Part pieces → ⊥)
 
 abbrev pub IsLawful : History → Type 0
 IsLawful [] = Unit {0}

@@ -1,5 +1,6 @@
 -- Chunks that are written one after another are read so.
-use Rattle.std.proofs.Common.{Result, ◌≡◌, ℕ, ◌+◌, ◌^◌, ◌<◌, Bool, true, cond, not, List, [], ◌∷◌}
+use Rattle.std.specs.Prelude.{◌==◌, if◌then◌else◌}
+use Rattle.std.proofs.Common.{Result, ◌≡◌, ℕ, ◌+◌, ◌^◌, ◌<◌, Bool, true, false, cond, not, List, [], ◌∷◌}
 use Rattle.std.proofs.Common.{◌++◌}
 use Rattle.std.proofs.Common.{Option, None, Ok, length, map, refl, sym, ap, ◌∙◌, arith}
 use Rattle.std.proofs.Common.{append_assoc}
@@ -13,7 +14,7 @@ use Rattle.rtmfp_data_chunks.specs.Chunk.{Exception}
 use Rattle.rtmfp_data_chunks.specs.Reader.{data_reading}
 use Rattle.rtmfp_data_chunks.specs.Spelling.{kind_of, before_next}
 use Rattle.rtmfp_data_chunks.specs.Writing.{payload_bytes, data_bytes}
-use Rattle.flow_history.specs.Deeds.{Piece}
+use Rattle.flow_history.specs.Deeds.{Piece, Part}
 use Rattle.session_deeds.specs.Pieces.{pieces_in, pieces_read, pieces_behind, IsPutBehind}
 
 -- a chunk as it stands in a packet
@@ -80,6 +81,14 @@ is_shown (AckRanges flow blocks upto pairs) = refl
 is_shown (Probe flow) = refl
 is_shown (Exception flow code) = refl
 
+no_part : (c : DataChunk) → (kind_of c == 0x7f) ≡ false
+no_part (Data user) = refl
+no_part (Next user) = refl
+no_part (AckBitmap flow blocks upto bits) = refl
+no_part (AckRanges flow blocks upto pairs) = refl
+no_part (Probe flow) = refl
+no_part (Exception flow code) = refl
+
 each_chunk : (cs : List DataChunk) → AllByRecursion IsShort cs →
     AllByRecursion IsChunk (map written cs)
 each_chunk [] h = tt
@@ -97,6 +106,8 @@ read_all last (c ∷ cs) at h =
     let rest : List Placed =
     visible (all_placed_from (at + (3 + length (payload_bytes c))) (map written cs)) in
     ap (λ (b : Bool). pieces_behind last (cond b (here ∷ rest) rest)) (is_shown c)
+    ∙ ap (λ (b : Bool). (if b then Part ∷ [] else pieces_read (data_reading last (kind_of c) (payload_bytes c)))
+    ++ pieces_behind (before_next (data_reading last (kind_of c) (payload_bytes c))) rest) (no_part c)
     ∙ ap (λ (r : Result DataChunk DataFault). pieces_read
     r ++ pieces_behind (before_next r) rest) h.0
     ∙ ap (λ (l : List Piece). pieces_in c ++ l)

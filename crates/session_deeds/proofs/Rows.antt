@@ -19,7 +19,7 @@ use Rattle.flow_exchange.specs.Pair.{ack_by}
 use Rattle.flow_exchange.specs.Sending.{Abandons, Finishes, Sends}
 use Rattle.flow_history.specs.Flow.{Opened, Carried, acted}
 use Rattle.flow_history.specs.Said.{IsGiven, given_by}
-use Rattle.flow_history.specs.Deeds.{Piece, Data, Ack}
+use Rattle.flow_history.specs.Deeds.{Piece, Data, Ack, Part}
 use Rattle.session_deeds.specs.Deeds.{none_yet}
 use Rattle.session_deeds.specs.Goes.{IsSaid}
 use Rattle.session_deeds.specs.Edges.{carried, ReadsInTurn, an_ack, a_piece, MayBeDone, queue}
@@ -38,6 +38,7 @@ reads_in_turn = record {
   apart = refl;
   arriving = refl;
   beside = refl;
+  part = refl;
   acks = refl;
 }
 
@@ -58,6 +59,7 @@ order_number (Some true) = 2
 abbrev piece_number : Piece → ℕ
 piece_number (Data f x) = order_number x.order
 piece_number (Ack f a) = f
+piece_number Part = 0
 
 -- it isn't the only piece that came
 not_there : (p q : Piece) → (piece_number p ≡ piece_number q → ⊥) → IsIn p (q ∷ []) → ⊥

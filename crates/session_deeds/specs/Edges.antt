@@ -5,7 +5,7 @@ use Rattle.rtmfp_data_chunks.specs.declared.user_data.Part.TheVariants.{Whole}
 use Rattle.flow_send.specs.Acks.{Told, told}
 use Rattle.flow_exchange.specs.Sending.{Act, Queues, Abandons, Finishes, Sends, Hears}
 use Rattle.flow_history.specs.Flow.{Carried}
-use Rattle.flow_history.specs.Deeds.{Piece, Data, Ack}
+use Rattle.flow_history.specs.Deeds.{Piece, Data, Ack, Part}
 use Rattle.flow_history.specs.Keeping.{Flows}
 use Rattle.session_flows.specs.Keeping.{Queued, Abandoned, Handed}
 use Rattle.session_deeds.specs.Deeds.{Deed, Opens, ActsOn, Makes, Takes, Hands, Acks, none_yet}
@@ -48,6 +48,9 @@ with_metadata byte = placed 0x10
 abbrev pub ranges : Placed
 ranges = placed 0x51 (0x00 ∷ 0x90 ∷ 0x00 ∷ 0x01 ∷ 0x00 ∷ 0x01 ∷ [])
 
+abbrev pub fragment : Placed
+fragment = placed 0x7f (0x00 ∷ 0x01 ∷ 0x00 ∷ [])
+
 abbrev pub ping : Placed
 ping = placed 0x01 []
 
@@ -61,6 +64,9 @@ pub record ReadsInTurn : Type 0 where
   -- metadata that begin with the byte 61 have messages handed over as they arrive
   pub arriving : pieces_of (with_metadata 0x61 ∷ []) ≡ Data 0 (carried 1 7 (Some true)) ∷ []
   pub beside : pieces_of (with_metadata 0x60 ∷ []) ≡ Data 0 (carried 1 7 (Some false)) ∷ []
+  -- a fragment is a part of a packet, behind which a next chunk has no number
+  pub part : pieces_of (first_data ∷ fragment ∷ next_data ∷ [])
+      ≡ Data 0 (carried 1 7 None) ∷ Part ∷ []
   pub acks : pieces_of (ranges ∷ []) ≡ Ack 0 (told 2048 1 ((3, 4) ∷ [])) ∷ []
 
 -- ---- which deeds may be done

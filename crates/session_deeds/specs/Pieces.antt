@@ -1,5 +1,5 @@
 -- What the chunks of a packet have for flows.
-use Rattle.std.specs.Prelude.{ℕ, ◌≡◌, ◌++◌, List, [], ◌∷◌, Option}
+use Rattle.std.specs.Prelude.{ℕ, ◌≡◌, ◌==◌, ◌++◌, if◌then◌else◌, List, [], ◌∷◌, Option}
 use Rattle.std.specs.Prelude.{None, Result, Ok, Err}
 use Rattle.std.specs.List.{AllByRecursion, flat_map}
 use Rattle.std.specs.Option.{option_map}
@@ -14,7 +14,7 @@ use Rattle.rtmfp_data_chunks.specs.Reader.{data_reading}
 use Rattle.rtmfp_data_chunks.specs.Spelling.{before_next}
 use Rattle.flow_send.specs.Acks.{told}
 use Rattle.flow_history.specs.Flow.{Carried}
-use Rattle.flow_history.specs.Deeds.{Piece, Data as DataOf, Ack as AckOf}
+use Rattle.flow_history.specs.Deeds.{Piece, Part, Data as DataOf, Ack as AckOf}
 use Rattle.session_flows.specs.Causes.{piece_of, metadata_of}
 use Rattle.session_flows.specs.Told.{begins_with_a}
 
@@ -41,10 +41,15 @@ abbrev pub pieces_read : Result DataChunk DataFault → List Piece
 pieces_read (Ok chunk) = pieces_in chunk
 pieces_read (Err fault) = []
 
+-- what a chunk has behind these numbers: a fragment is a part of a packet
+abbrev pub pieces_at : Option Numbers → ℕ → List ℕ → List Piece
+pieces_at before kind payload =
+    if kind == 0x7f then Part ∷ [] else pieces_read (data_reading before kind payload)
+
 -- Chunk after chunk, each read behind the numbers of the one before it.
 abbrev pub pieces_behind : Option Numbers → List Placed → List Piece
 pieces_behind before [] = []
-pieces_behind before (c ∷ later) = pieces_read (data_reading before c.kind c.payload)
+pieces_behind before (c ∷ later) = pieces_at before c.kind c.payload
     ++ pieces_behind (before_next (data_reading before c.kind c.payload)) later
 
 abbrev pub pieces_of : List Placed → List Piece
