@@ -5,7 +5,7 @@ use Rattle.std.proofs.lemmas.Bool.{eqb-true}
 use Rattle.std.proofs.lemmas.List.{length-map}
 use Rattle.std.specs.FinMap.{get}
 use Rattle.rtmfp_forms.specs.Address.{AddressParts}
-use Rattle.rtmfp_chunks.specs.declared.kinds.TheConstants.{IIKEYING, RIKEYING}
+use Rattle.rtmfp_chunks.specs.declared.kinds.TheConstants.{IIKEYING, RIKEYING, FRAGMENT}
 use Rattle.rtmfp_chunks.specs.FieldReading.{chunk_reading}
 use Rattle.rtmfp_packet.specs.Walk.{Placed}
 use Rattle.session_flows.specs.Chunks.{rejecting}
@@ -31,6 +31,7 @@ use Rattle.endpoint_model.specs.Causes.{chunk_cause}
 use Rattle.endpoint_model.specs.FlowChunks.{is_of_flows, is_session, data_fault, flow_cause, flow_taken, flow_taken_by, is_told_only, states_nothing, acked_by, owes_by, acked_if, acked_in}
 use Rattle.endpoint_model.specs.InSessions.{told_in_session}
 use Rattle.endpoint_model.specs.OnFlows.{flow_entry}
+use Rattle.endpoint_model.specs.Gathering.{piece_taken}
 use Rattle.endpoint_model.specs.Effects.{effect, initiator_keyed, responder_keyed, is_told_in_session, read_done}
 use Rattle.endpoint_model.proofs.Members.{or_cases}
 use Rattle.endpoint_model.proofs.Steps.{joined, done_nothing, then_nothing, then_then}
@@ -114,12 +115,14 @@ module _ (s : State) (walk : Walk) (from : AddressParts) (draws : Draws) (c : Pl
       (if c.kind == IIKEYING then initiator_keyed s place from draws c.payload
       else if c.kind == RIKEYING then responder_keyed s (sid_at place) from c.payload
       else if is_told_in_session c.kind then told_in_session s (sid_at place) from c
+      else if c.kind == FRAGMENT then piece_taken s (sid_at place) c.at (chunk_reading c.kind c.payload)
       else read_done s place from (chunk_reading c.kind c.payload))
   other_effect place e =
       ap (λ (b : Bool). if c.kind == IIKEYING then initiator_keyed s place from draws c.payload
       else if c.kind == RIKEYING then responder_keyed s (sid_at place) from c.payload
       else if is_told_in_session c.kind then told_in_session s (sid_at place) from c
       else if b then flow_taken s (sid_at place) (read_as c.kind)
+      else if c.kind == FRAGMENT then piece_taken s (sid_at place) c.at (chunk_reading c.kind c.payload)
       else read_done s place from (chunk_reading c.kind c.payload)) e
 
 -- ---- chunks that add nothing

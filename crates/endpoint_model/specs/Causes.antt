@@ -1,11 +1,11 @@
 -- Why a chunk is discarded, in the order of the causes.
-use Rattle.std.specs.Prelude.{ℕ, ◌-◌, ◌==◌, ◌||◌, nat_lt, not, Bool, true, false, is_some, if◌then◌else◌, List, [], ◌∷◌, length, Option, Some, None, Result, Ok, Err}
+use Rattle.std.specs.Prelude.{ℕ, ◌-◌, ◌==◌, ◌&&◌, ◌||◌, nat_lt, not, Bool, true, false, is_some, if◌then◌else◌, List, [], ◌∷◌, length, Option, Some, None, Result, Ok, Err}
 use Rattle.std.specs.FinMap.{get, contains_key}
 use Rattle.rtmfp_forms.specs.Address.{AddressParts}
 use Rattle.rtmfp_chunks.specs.declared.kinds.TheConstants.{IHELLO, FIHELLO, RHELLO, REDIRECT, COOKIE_CHANGE, IIKEYING, RIKEYING, PING, PING_REPLY, CLOSE, CLOSE_ACK, FRAGMENT}
 use Rattle.rtmfp_chunks.specs.declared.reading.ChunkFault.{ChunkFault}
 use Rattle.rtmfp_chunks.specs.declared.reading.ChunkFault.TheVariants.{Unknown, Malformed as BadField}
-use Rattle.rtmfp_chunks.specs.Chunk.{Chunk, IHello, FIHello, RHello, Redirect, CookieChange, Ping}
+use Rattle.rtmfp_chunks.specs.Chunk.{Chunk, IHello, FIHello, RHello, Redirect, CookieChange, Ping, Fragment}
 use Rattle.rtmfp_chunks.specs.FieldReading.{chunk_reading}
 use Rattle.rtmfp_data_chunks.specs.declared.user_data.Numbers.{Numbers}
 use Rattle.rtmfp_data_chunks.specs.Reader.{data_reading}
@@ -25,7 +25,9 @@ use Rattle.endpoint_model.specs.declared.walk.Walk.{Walk}
 use Rattle.endpoint_model.specs.declared.place.Place.TheVariants.{Startup, Attempt, Session}
 use Rattle.endpoint_model.specs.State.{State, full}
 use Rattle.endpoint_model.specs.Introducing.{hello_cause}
-use Rattle.endpoint_model.specs.FlowChunks.{is_of_flows, data_fault, flow_cause}
+use Rattle.endpoint_model.specs.FlowChunks.{is_of_flows, is_session, data_fault, flow_cause}
+use Rattle.rtmfp_fragments.specs.Pieces.{piece}
+use Rattle.endpoint_model.specs.Gathering.{may_be_gathered, piece_cause}
 use Rattle.endpoint_model.specs.Admission.{sid_at, group_at}
 
 abbrev pub is_hello : ℕ → Bool
@@ -66,7 +68,15 @@ takes (Startup generation) kind =
 takes (Attempt near generation) kind = (kind == COOKIE_CHANGE) || (kind == RIKEYING)
 takes (Session near) kind =
     (kind == FIHELLO) || (kind == PING) || (kind == PING_REPLY) || (kind == CLOSE)
-    || (kind == CLOSE_ACK) || is_of_flows kind
+    || (kind == CLOSE_ACK) || (kind == FRAGMENT) || is_of_flows kind
+
+-- In a packet that was gathered a place takes fewer.
+abbrev pub takes_in : Place → Walk → ℕ → Bool
+takes_in place walk kind = takes place kind && (may_be_gathered kind || not walk.gathered)
+
+-- A piece of a packet is one in a session, and not in a packet that was gathered.
+abbrev pub is_stray : Place → Walk → ℕ → Bool
+is_stray place walk kind = (kind == FRAGMENT) && (not (is_session place) || walk.gathered)
 
 -- A session that is held takes all of them but the answer to a close. One that is closing takes a
 -- close, and where this end closes it the answer.
@@ -86,8 +96,8 @@ has_state_for s (Startup generation) kind = true
 has_state_for s (Attempt near generation) kind = true
 has_state_for s (Session near) kind = row_takes (get s.sessions near) kind
 
--- The causes of hellos, of redirects, of changes of cookies and of pings. A hello that was
--- forwarded is forwarded to nobody.
+-- The causes of hellos, of redirects, of changes of cookies, of pings and of pieces. A hello that
+-- was forwarded is forwarded to nobody.
 abbrev pub read_cause : State → Place → AddressParts → Result Chunk ChunkFault → Option Cause
 read_cause s place from (Ok (IHello epd tag)) = hello_cause s epd tag
 read_cause s place from (Ok (FIHello epd reply tag)) = initiator_hello_cause s.startup epd tag
@@ -97,6 +107,8 @@ read_cause s place from (Ok (CookieChange old new)) =
     cookie_change_cause s.startup (sid_at place) old new (group_at s place).generation
 read_cause s place from (Ok (Ping bytes)) =
     where_true (nat_lt 1024 (length bytes)) (Wide (length bytes))
+read_cause s place from (Ok (Fragment more id number bytes)) =
+    piece_cause s.moment (get s.sessions (sid_at place)) id (piece number more bytes)
 read_cause s place from (Ok chunk) = None
 read_cause s place from (Err fault) = None
 
@@ -125,7 +137,7 @@ chunk_cause s place walk from c =
     first_that_stands (
     where_true (not (is_known c.kind)) (UnknownChunk c.kind)
     ∷ form_cause walk.cursor c.kind c.payload
-    ∷ where_true (c.kind == FRAGMENT) FragmentCause
-    ∷ where_true (not (takes place c.kind)) WrongPlace
+    ∷ where_true (is_stray place walk c.kind) FragmentCause
+    ∷ where_true (not (takes_in place walk c.kind)) WrongPlace
     ∷ last_cause s place walk from c
     ∷ [])

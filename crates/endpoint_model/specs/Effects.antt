@@ -3,7 +3,7 @@ use Rattle.std.specs.Prelude.{IsSome, ℕ, zero, suc, ◌+◌, ◌⊎◌, ◌==�
 use Rattle.std.specs.FinMap.{get, remove, insert}
 use Rattle.rtmfp_forms.specs.Address.{AddressParts}
 use Rattle.crypto_profile.specs.declared.group.GroupSecret.{GroupSecret}
-use Rattle.rtmfp_chunks.specs.declared.kinds.TheConstants.{REDIRECT, IIKEYING, RIKEYING, PING_REPLY, CLOSE, CLOSE_ACK}
+use Rattle.rtmfp_chunks.specs.declared.kinds.TheConstants.{REDIRECT, IIKEYING, RIKEYING, PING_REPLY, CLOSE, CLOSE_ACK, FRAGMENT}
 use Rattle.rtmfp_chunks.specs.declared.reading.ChunkFault.{ChunkFault}
 use Rattle.rtmfp_chunks.specs.Chunk.{Chunk, IHello, FIHello, RHello, Redirect, CookieChange, Ping, PingReply}
 use Rattle.rtmfp_chunks.specs.FieldReading.{chunk_reading}
@@ -55,6 +55,8 @@ use Rattle.endpoint_model.specs.Admission.{Admission, Rejected, Admitted, attemp
 use Rattle.endpoint_model.specs.FlowChunks.{is_of_flows, flow_taken, states_nothing, acked, owes_at, unowed}
 use Rattle.endpoint_model.specs.Causes.{chunk_cause}
 use Rattle.endpoint_model.specs.Keying.{chunks_of}
+use Rattle.endpoint_model.specs.Gathering.{piece_taken, is_held_piece, whole_in, chunks_in}
+use Rattle.rtmfp_packet.specs.Whole.{Whole}
 
 -- ---- opening an attempt
 
@@ -346,6 +348,8 @@ effect s place walk from draws c =
     else if is_told_in_session c.kind then told_in_session s (sid_at place) from c
     else if is_of_flows c.kind then flow_taken s (sid_at place)
     (data_reading walk.cursor c.kind c.payload)
+    else if c.kind == FRAGMENT then piece_taken s (sid_at place) c.at
+    (chunk_reading c.kind c.payload)
     else read_done s place from (chunk_reading c.kind c.payload)
 
 -- ---- the chunks of a datagram
@@ -362,43 +366,85 @@ abbrev pub chunk_did : Place → AddressParts → Draws → Walk → State → P
 chunk_did place from draws walk s c =
     discarded_or s c.at (chunk_cause s place walk from c) (effect s place walk from draws c)
 
--- before the first chunk
+-- before the first chunk of a datagram
 abbrev pub outset : Walk
-outset = record { keyed = false; cursor = None }
+outset = record { keyed = false; gathered = false; cursor = None }
+
+-- and before the first one of a packet that was gathered
+abbrev pub inset : Walk
+inset = record { keyed = false; gathered = true; cursor = None }
 
 -- once this one was gone through
 abbrev pub walked : Walk → Placed → Walk
 walked walk c = record {
   keyed = walk.keyed || (c.kind == IIKEYING);
+  gathered = walk.gathered;
   cursor = before_next (data_reading walk.cursor c.kind c.payload);
 }
 
+-- a chunk that is gone through, and what those before it in its packet were
+pub record WalkStep : Type 0 where
+  pub walk : Walk
+  pub chunk : Placed
+
+abbrev pub walk_step : Walk → Placed → WalkStep
+walk_step walk c = record { walk = walk; chunk = c }
+
+-- the chunks of one packet, one after another
+abbrev pub in_order : Walk → List Placed → List WalkStep
+in_order walk [] = []
+in_order walk (c ∷ cs) = walk_step walk c ∷ in_order (walked walk c) cs
+
+abbrev pub steps_did : Place → AddressParts → Draws → State → List WalkStep → Did
+steps_did place from draws s [] = nothing s
+steps_did place from draws s (x ∷ xs) =
+    then_do (chunk_did place from draws x.walk s x.chunk) (λ t. steps_did place from draws t xs)
+
 abbrev pub chunks_did : Place → AddressParts → Draws → Walk → State → List Placed → Did
-chunks_did place from draws walk s [] = nothing s
-chunks_did place from draws walk s (c ∷ cs) =
-    then_do (chunk_did place from draws walk s c)
-    (λ t. chunks_did place from draws (walked walk c) t cs)
+chunks_did place from draws walk s cs = steps_did place from draws s (in_order walk cs)
+
+-- the packet that a chunk completes: a piece that is taken
+abbrev pub whole_at : State → Place → Option Cause → Placed → Option (List ℕ)
+whole_at s place None c = whole_in s (sid_at place) (chunk_reading c.kind c.payload)
+whole_at s place (Some cause) c = None
+
+-- a chunk, and those of the packet that it completes, if it does
+abbrev pub with_gathered : Place → AddressParts → Walk → State → Placed → List WalkStep
+with_gathered place from walk s c = walk_step walk c ∷ in_order inset
+    (chunks_in s (sid_at place) (whole_at s place (chunk_cause s place walk from c) c))
+
+-- All chunks that are gone through: those of the datagram's packet, and behind each piece that
+-- completes a packet those of that one.
+abbrev pub steps_of : Place → AddressParts → Draws → Walk → State → List Placed → List WalkStep
+steps_of place from draws walk s [] = []
+steps_of place from draws walk s (c ∷ cs) = with_gathered place from walk s c
+    ++ steps_of place from draws (walked walk c)
+    (steps_did place from draws s (with_gathered place from walk s c)).state cs
+
+-- those of a datagram's packet
+abbrev pub walk_of : Place → AddressParts → Draws → State → Whole → List WalkStep
+walk_of place from draws s packet = steps_of place from draws outset s (chunks_of packet)
 
 -- ---- a datagram, once it was taken and its session is confirmed
 
 -- the chunks, and so many packets of the acks that they owe
-abbrev pub walked_and_acked : Place → AddressParts → Draws → State → List Placed → ℕ → Did
-walked_and_acked place from draws s cs acks =
-    then_do (chunks_did place from draws outset s cs) (λ t. acked acks t place)
+abbrev pub walked_and_acked : Place → AddressParts → Draws → State → List WalkStep → ℕ → Did
+walked_and_acked place from draws s xs acks =
+    then_do (steps_did place from draws s xs) (λ t. acked acks t place)
 
 -- More packets of acks than a session can owe: one for each flow of the other end.
 abbrev pub most_acks : ℕ
 most_acks = 256
 
 -- all acks that they owe, and then a test of the address that it came from
-abbrev pub walked_and_tested : Place → AddressParts → Draws → State → List Placed → Did
-walked_and_tested place from draws s cs =
-    then_do (walked_and_acked place from draws s cs most_acks) (λ t. tested t place from draws)
+abbrev pub walked_and_tested : Place → AddressParts → Draws → State → List WalkStep → Did
+walked_and_tested place from draws s xs =
+    then_do (walked_and_acked place from draws s xs most_acks) (λ t. tested t place from draws)
 
 -- Or it stops after so many packets of acks. Those that are owed yet aren't sent any more.
-abbrev pub walked_in_part : Place → AddressParts → Draws → State → List Placed → ℕ → Did
-walked_in_part place from draws s cs acks =
-    then_do (walked_and_acked place from draws s cs acks) (λ t. nothing (unowed t place))
+abbrev pub walked_in_part : Place → AddressParts → Draws → State → List WalkStep → ℕ → Did
+walked_in_part place from draws s xs acks =
+    then_do (walked_and_acked place from draws s xs acks) (λ t. nothing (unowed t place))
 
 -- ---- a datagram
 
@@ -407,7 +453,8 @@ walked_in_part place from draws s cs acks =
 abbrev pub received : AddressParts → Draws → Admission → Did
 received from draws (Rejected s cause) = discarded s 0 cause
 received from draws (Admitted s place packet) =
-    then_do (confirming s place) (λ t. walked_and_tested place from draws t (chunks_of packet))
+    then_do (confirming s place)
+    (λ t. walked_and_tested place from draws t (walk_of place from draws t packet))
 
 -- What was done of a datagram of which so many chunks were gone through, and then so many packets
 -- of acks sent.
@@ -415,11 +462,12 @@ abbrev pub part_received : AddressParts → Draws → Admission → ℕ → ℕ 
 part_received from draws (Rejected s cause) count acks = nothing s
 part_received from draws (Admitted s place packet) count acks =
     then_do (confirming s place)
-    (λ t. walked_in_part place from draws t (take count (chunks_of packet)) acks)
+    (λ t. walked_in_part place from draws t (take count (walk_of place from draws t packet)) acks)
 
 -- ---- datagrams that add nothing but discards
 
--- it is an answer to a ping that moves nothing, or a redirect that adds no address
+-- it is an answer to a ping that moves nothing, a redirect that adds no address, or a piece that is
+-- held already
 abbrev pub adds_nothing : State → AddressParts → Result Chunk ChunkFault → Bool
 adds_nothing s from (Ok (Redirect tag list)) =
     sent_by_spread (redirect_spread s.startup tag list from) == 0
@@ -429,6 +477,7 @@ abbrev pub is_idle : State → Place → AddressParts → Placed → Bool
 is_idle s place from c =
     if c.kind == PING_REPLY then not (answers_by from c.payload (get s.sessions (sid_at place)))
     else if c.kind == REDIRECT then adds_nothing s from (chunk_reading c.kind c.payload)
+    else if c.kind == FRAGMENT then is_held_piece s (sid_at place) (chunk_reading c.kind c.payload)
     else false
 
 -- or a chunk of flows that states nothing and owes no ack
@@ -443,10 +492,10 @@ abbrev pub IsQuiet : State → Place → Walk → AddressParts → Placed → Ty
 IsQuiet s place walk from c =
     IsSome (chunk_cause s place walk from c) ⊎ (is_idle_after s place walk from c ≡ true)
 
-abbrev pub AreQuiet : Place → AddressParts → Draws → Walk → State → List Placed → Type 0
-AreQuiet place from draws walk s [] = Unit {0}
-AreQuiet place from draws walk s (c ∷ cs) = IsQuiet s place walk from c ×
-    AreQuiet place from draws (walked walk c) (chunk_did place from draws walk s c).state cs
+abbrev pub AreQuiet : Place → AddressParts → Draws → State → List WalkStep → Type 0
+AreQuiet place from draws s [] = Unit {0}
+AreQuiet place from draws s (x ∷ xs) = IsQuiet s place x.walk from x.chunk ×
+    AreQuiet place from draws (chunk_did place from draws x.walk s x.chunk).state xs
 
 -- one for a cause
 abbrev pub discards_for : Option Cause → ℕ
@@ -454,11 +503,11 @@ discards_for None = 0
 discards_for (Some cause) = 1
 
 -- how many of these chunks are discarded
-abbrev pub discards_among : Place → AddressParts → Draws → Walk → State → List Placed → ℕ
-discards_among place from draws walk s [] = 0
-discards_among place from draws walk s (c ∷ cs) =
-    discards_for (chunk_cause s place walk from c)
-    + discards_among place from draws (walked walk c) (chunk_did place from draws walk s c).state cs
+abbrev pub discards_among : Place → AddressParts → Draws → State → List WalkStep → ℕ
+discards_among place from draws s [] = 0
+discards_among place from draws s (x ∷ xs) =
+    discards_for (chunk_cause s place x.walk from x.chunk)
+    + discards_among place from draws (chunk_did place from draws x.walk s x.chunk).state xs
 
 -- No ack is owed after the chunks, and the address isn't tested.
 abbrev pub EndsQuietly : AddressParts → Place → State → Type 0
@@ -469,11 +518,12 @@ EndsQuietly from place s = (owes_at s place ≡ false) × (asks_at s place from 
 abbrev pub AddsDiscards : AddressParts → Draws → Admission → Type 0
 AddsDiscards from draws (Rejected s cause) = Unit {0}
 AddsDiscards from draws (Admitted s place packet) = (confirms s place ≡ false) ×
-    AreQuiet place from draws outset s (chunks_of packet) ×
-    EndsQuietly from place (chunks_did place from draws outset s (chunks_of packet)).state
+    AreQuiet place from draws s (walk_of place from draws s packet) ×
+    EndsQuietly from place
+    (steps_did place from draws s (walk_of place from draws s packet)).state
 
 -- how many discards these are
 abbrev pub discards : AddressParts → Draws → Admission → ℕ
 discards from draws (Rejected s cause) = 1
 discards from draws (Admitted s place packet) =
-    discards_among place from draws outset s (chunks_of packet)
+    discards_among place from draws s (walk_of place from draws s packet)

@@ -11,6 +11,7 @@ pub mod OnFlows
 pub mod FlowChunks
 pub mod FlowTimes
 pub mod Admission
+pub mod Gathering
 pub mod Causes
 pub mod Kinds
 pub mod Introducing

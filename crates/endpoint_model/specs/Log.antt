@@ -2,7 +2,7 @@
 use Rattle.std.specs.Prelude.{ℕ, ◌+◌, ◌<◌, ◌≡◌, ◌⊎◌, true, false, if◌then◌else◌, List, [], ◌∷◌, ◌++◌, drop, length, Option, Some, None, IsSome, IfSome, IfNone, OnOk, IfErr, IsOk, ◌≤◌, Result, Ok, Err}
 use Rattle.rtmfp_base.specs.declared.memory.Memory.{Memory}
 use Rattle.rtmfp_forms.specs.Address.{AddressParts}
-use Rattle.rtmfp_packet.specs.Walk.{Placed}
+use Rattle.rtmfp_packet.specs.Whole.{Whole}
 use Rattle.startup.specs.Attempts.{cancel_fact}
 use Rattle.endpoint_model.specs.declared.config.Draws.{Draws}
 use Rattle.endpoint_model.specs.declared.entry.Entry.{Entry}
@@ -20,7 +20,6 @@ use Rattle.endpoint_model.specs.Event.{Setup, Call, Open, Seek, Unseek, Cancel, 
 use Rattle.endpoint_model.specs.Added.{Added}
 use Rattle.endpoint_model.specs.State.{State, Did, Does, nothing, fresh, at_moment, free_from, Done as DoneIn}
 use Rattle.endpoint_model.specs.Admission.{Admission, Rejected, Admitted, admission, confirms, confirming}
-use Rattle.endpoint_model.specs.Keying.{chunks_of}
 use Rattle.endpoint_model.specs.Introducing.{with_redirect, introducing}
 use Rattle.endpoint_model.specs.Succession.{learn_refusal, learning, advance_refusal, advancing}
 use Rattle.endpoint_model.specs.InSessions.{held_row, closing, asks_at}
@@ -28,7 +27,7 @@ use Rattle.endpoint_model.specs.FlowCall.{FlowCall}
 use Rattle.endpoint_model.specs.OnFlows.{call_refusal, flow_called}
 use Rattle.endpoint_model.specs.FlowChunks.{owes_at}
 use Rattle.endpoint_model.specs.declared.place.Place.{Place}
-use Rattle.endpoint_model.specs.Effects.{open_refusal, opening, seek_refusal, seeking, unseek_refusal, unseeking, cancelling, ticks, walked_and_acked, received, part_received, AddsDiscards, discards, first_due}
+use Rattle.endpoint_model.specs.Effects.{open_refusal, opening, seek_refusal, seeking, unseek_refusal, unseeking, cancelling, ticks, WalkStep, walk_of, walked_and_acked, received, part_received, AddsDiscards, discards, first_due}
 use Rattle.endpoint_model.specs.FlowTimes.{all_late}
 
 -- ---- what a call may answer, add and leave, from a state in which its moment is noted
@@ -66,16 +65,17 @@ WantsMore from place s = (owes_at s place ≡ true) ⊎ (asks_at s place from �
 -- Behind the confirming, no memory was found at a chunk, which isn't gone through; or, after the
 -- last one and after so many packets of acks, for one more packet that is owed, or for the test of
 -- the address.
-abbrev pub StopsAt : Place → AddressParts → Draws → State → List Placed → ℕ → ℕ → Type 0
-StopsAt place from draws s cs count acks = ((count < length cs) × (acks ≡ 0)) ⊎
-    ((count ≡ length cs) ×
-    WantsMore from place (walked_and_acked place from draws s cs acks).state)
+abbrev pub StopsAt : Place → AddressParts → Draws → State → List WalkStep → ℕ → ℕ → Type 0
+StopsAt place from draws s xs count acks = ((count < length xs) × (acks ≡ 0)) ⊎
+    ((count ≡ length xs) ×
+    WantsMore from place (walked_and_acked place from draws s xs acks).state)
 
 -- a datagram that was taken stops so, once its session is confirmed
 abbrev pub IsStopAt : AddressParts → Draws → Admission → ℕ → ℕ → Type 0
 IsStopAt from draws (Rejected s cause) count acks = ⊥
 IsStopAt from draws (Admitted s place packet) count acks =
-    StopsAt place from draws (confirming s place).state (chunks_of packet) count acks
+    StopsAt place from draws (confirming s place).state
+    (walk_of place from draws (confirming s place).state packet) count acks
 
 -- the answer where the datagram wasn't taken
 abbrev pub not_taken : Stop

@@ -23,7 +23,7 @@ Sessions = FinMap nat_cmp Row
 
 -- the row of a session that begins
 abbrev pub new_row : SessionState → Row
-new_row session = record { session = session; moves = None; flows = no_flows }
+new_row session = record { session = session; moves = None; flows = no_flows; gathering = [] }
 
 pub record State : Type 0 where
   pub config : Config

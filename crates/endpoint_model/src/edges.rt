@@ -3,9 +3,16 @@
 //! there. All of it is own.
 
 ghost use Rattle.std.specs.Prelude.{◌≡◌, ◌∷◌, ◌++◌, ◌+◌, ◌-◌, ◌^◌, ℕ, List, [], false, true, Some, None, Ok, Err};
+ghost use Rattle.std.specs.Prelude.{Bool, map, not};
+ghost use Rattle.std.specs.FinMap.{get};
+ghost use Rattle.rtmfp_base.specs.Reasons.{first_that_stands, where_true};
+ghost use Rattle.rtmfp_chunks.specs.FieldReading.{chunk_reading};
+ghost use Rattle.rtmfp_fragments.specs.declared.outcome.PieceRefusal.TheVariants.{Conflict, TooLong};
+ghost use Rattle.rtmfp_fragments.specs.declared.outcome.PieceRefusal.TheVariants.{PacketsFull, TooMany};
+ghost use Rattle.rtmfp_fragments.specs.Pieces.{piece};
 ghost use Rattle.std.specs.Prelude.{replicate};
 ghost use Rattle.rtmfp_forms.specs.Address.{AddressParts};
-ghost use Rattle.rtmfp_chunks.specs.Chunk.{FIHello, RHello};
+ghost use Rattle.rtmfp_chunks.specs.Chunk.{Close, FIHello, Fragment, RHello};
 ghost use Rattle.rtmfp_chunks.specs.Writing.{chunk_bytes};
 ghost use Rattle.crypto_profile.specs.declared.group.GroupSecret.{GroupSecret};
 ghost use Rattle.crypto_profile.specs.declared.keys.Context.TheVariants.{Startup as StartupContext};
@@ -25,7 +32,9 @@ ghost use Rattle.rtmfp_packet.specs.Walk.{Placed};
 ghost use Rattle.rtmfp_data_chunks.specs.Reader.{data_reading};
 ghost use Rattle.rtmfp_base.specs.declared.cause.Cause.{Cause};
 ghost use Rattle.rtmfp_base.specs.declared.cause.Cause.TheVariants.{NotSelected, UnknownSession, Wide};
-ghost use Rattle.rtmfp_base.specs.declared.cause.Cause.TheVariants.{WrongPlace};
+ghost use Rattle.rtmfp_base.specs.declared.cause.Cause.TheVariants.{BadWhole, Piece, WrongPlace};
+ghost use Rattle.rtmfp_base.specs.declared.cause.Cause.TheVariants.{WrongState};
+ghost use Rattle.rtmfp_base.specs.declared.cause.Cause.TheVariants.{Fragment as StrayFragment};
 ghost use Rattle.startup.specs.Redirects.{redirect_answer};
 ghost use Rattle.session_core.specs.Session.{SessionState};
 ghost use Rattle.endpoint_model.specs.declared.answers.OpenRefusal.TheVariants.{Candidates};
@@ -35,13 +44,17 @@ ghost use Rattle.session_flows.specs.declared.refusal.CallRefusal.TheVariants.{N
 ghost use Rattle.session_flows.specs.declared.refusal.CallRefusal.TheVariants.{SameSecret};
 ghost use Rattle.endpoint_model.specs.declared.entry.Entry.TheVariants.{Advanced, Learnt, Out};
 ghost use Rattle.endpoint_model.specs.declared.place.Place.{Place};
-ghost use Rattle.endpoint_model.specs.declared.place.Place.TheVariants.{Attempt, Startup};
+ghost use Rattle.endpoint_model.specs.declared.place.Place.TheVariants.{Attempt, Session, Startup};
+ghost use Rattle.endpoint_model.specs.declared.row.Row.{Row};
 ghost use Rattle.endpoint_model.specs.declared.walk.Walk.{Walk};
 ghost use Rattle.endpoint_model.specs.Admission.{attempt_group, known_group, opened_at, opened_first};
-ghost use Rattle.endpoint_model.specs.Admission.{places_of};
-ghost use Rattle.endpoint_model.specs.Causes.{chunk_cause};
+ghost use Rattle.endpoint_model.specs.Admission.{packet_in, places_of};
+ghost use Rattle.endpoint_model.specs.Causes.{chunk_cause, row_takes, takes_in};
+ghost use Rattle.endpoint_model.specs.Gathering.{may_be_gathered, piece_cause, refused_piece};
+ghost use Rattle.endpoint_model.specs.Gathering.{whole_cause};
 ghost use Rattle.endpoint_model.specs.FlowChunks.{data_fault, is_of_flows};
-ghost use Rattle.endpoint_model.specs.Effects.{Introduction, candidates_refusal, introduction};
+ghost use Rattle.endpoint_model.specs.Effects.{Introduction, candidates_refusal, inset};
+ghost use Rattle.endpoint_model.specs.Effects.{introduction, outset};
 ghost use Rattle.endpoint_model.specs.Effects.{no_place, places_refusal, read_fact, read_left};
 ghost use Rattle.endpoint_model.specs.Effects.{replied};
 ghost use Rattle.endpoint_model.specs.InSessions.{sent_home};
@@ -144,6 +157,66 @@ pub fn flows_are_in_sessions_alone()
         (generation : ℕ) → is_of_flows c.kind ≡ true →
         data_fault (data_reading walk.cursor c.kind c.payload) ≡ None →
         chunk_cause s (Startup generation) walk from c ≡ Some WrongPlace }
+{}
+
+/// A fragment that can be read is stray outside a session and in a packet that was gathered, and in
+/// a session it is judged by what the session holds.
+pub fn pieces_are_in_sessions_alone()
+    ensures attempt { (s : State) (walk : Walk) (from : AddressParts) (near generation at : ℕ)
+        (more : Bool) (id number : ℕ) (payload bytes : List ℕ) →
+        chunk_reading 0x7f payload ≡ Ok (Fragment more id number bytes) →
+        chunk_cause s (Attempt near generation) walk from (record { kind = 0x7f; at = at; payload = payload })
+        ≡ Some StrayFragment }
+    ensures startup { (s : State) (walk : Walk) (from : AddressParts) (generation at : ℕ)
+        (more : Bool) (id number : ℕ) (payload bytes : List ℕ) →
+        chunk_reading 0x7f payload ≡ Ok (Fragment more id number bytes) →
+        chunk_cause s (Startup generation) walk from (record { kind = 0x7f; at = at; payload = payload })
+        ≡ Some StrayFragment }
+    ensures gathered { (s : State) (from : AddressParts) (near at : ℕ) (more : Bool)
+        (id number : ℕ) (payload bytes : List ℕ) →
+        chunk_reading 0x7f payload ≡ Ok (Fragment more id number bytes) →
+        chunk_cause s (Session near) inset from (record { kind = 0x7f; at = at; payload = payload }) ≡ Some StrayFragment }
+    ensures session { (s : State) (from : AddressParts) (near at : ℕ) (more : Bool)
+        (id number : ℕ) (payload bytes : List ℕ) →
+        chunk_reading 0x7f payload ≡ Ok (Fragment more id number bytes) →
+        chunk_cause s (Session near) outset from (record { kind = 0x7f; at = at; payload = payload })
+        ≡ first_that_stands (where_true (not (row_takes (get s.sessions near) 0x7f)) WrongState
+        ∷ piece_cause s.moment (get s.sessions near) id (piece number more bytes) ∷ []) }
+{}
+
+/// In a packet that was gathered pings, their answers and the chunks of flows are taken, and none of
+/// the others.
+pub fn what_may_be_gathered()
+    ensures pings { may_be_gathered 0x01 ≡ true }
+    ensures replies { may_be_gathered 0x41 ≡ true }
+    ensures flows { map may_be_gathered (0x10 ∷ 0x11 ∷ 0x50 ∷ 0x51 ∷ 0x18 ∷ 0x5e ∷ [])
+        ≡ true ∷ true ∷ true ∷ true ∷ true ∷ true ∷ [] }
+    ensures closes { map may_be_gathered (0x0c ∷ 0x4c ∷ []) ≡ false ∷ false ∷ [] }
+    ensures startup { map may_be_gathered
+        (0x30 ∷ 0x0f ∷ 0x70 ∷ 0x71 ∷ 0x79 ∷ 0x38 ∷ 0x78 ∷ 0x7f ∷ [])
+        ≡ false ∷ false ∷ false ∷ false ∷ false ∷ false ∷ false ∷ false ∷ [] }
+    ensures close { (s : State) (from : AddressParts) (near at : ℕ) (payload : List ℕ) →
+        chunk_reading 0x0c payload ≡ Ok Close →
+        chunk_cause s (Session near) inset from
+        (record { kind = 0x0c; at = at; payload = payload }) ≡ Some WrongPlace }
+    ensures outside { takes_in (Session 6) outset 0x0c ≡ true }
+{}
+
+/// The refusals of a piece have the numbers 1 to 4, and tell the number, the bytes or the packets. A
+/// packet that can't be read has the number of its fault, and one of another mode 4.
+pub fn refusals_of_pieces_have_numbers()
+    ensures many { refused_piece (TooMany 64) ≡ Piece 1 64 }
+    ensures conflict { refused_piece (Conflict 3) ≡ Piece 2 3 }
+    ensures long { refused_piece (TooLong 4096) ≡ Piece 3 4096 }
+    ensures full { refused_piece (PacketsFull 4) ≡ Piece 4 4 }
+    ensures empty { (s : State) (near : ℕ) →
+        whole_cause s near (packet_in []) ≡ Some (BadWhole 1) }
+    ensures zero { (s : State) (near : ℕ) →
+        whole_cause s near (packet_in (4 ∷ [])) ≡ Some (BadWhole 2) }
+    ensures stamp { (s : State) (near : ℕ) →
+        whole_cause s near (packet_in (9 ∷ 0 ∷ [])) ≡ Some (BadWhole 3) }
+    ensures mode { (s : State) (near : ℕ) (row : Row) → get s.sessions near ≡ Some row →
+        whole_cause s near (packet_in (3 ∷ [])) ≡ Some (BadWhole 4) }
 {}
 
 /// A datagram under session ID 0 is tried in the current generation, and then in the next one where

@@ -1,11 +1,13 @@
 //! The types of chunks: for each how its chunks are judged, and who takes them.
 
 ghost use Rattle.std.specs.Prelude.{◌≡◌, true};
-ghost use Rattle.endpoint_model.specs.Causes.{stage_takes, takes};
+ghost use Rattle.endpoint_model.specs.Causes.{is_stray, stage_takes, takes, takes_in};
 ghost use Rattle.endpoint_model.specs.Kinds.{IsKind, IsRow};
+ghost use Rattle.endpoint_model.specs.Gathering.{may_be_gathered};
 ghost use Rattle.endpoint_model.specs.Kinds.{at_startup, in_attempts, in_sessions, is_initiator};
 
 use crate::place::Place;
+use crate::walk::Walk;
 use rtmfp_chunks::kinds::*;
 use rtmfp_data_chunks::kinds::*;
 use session_core::{Session, Stage};
@@ -36,7 +38,7 @@ pub enum Way {
     InitiatorKeying,
     /// As the keying of a responder.
     ResponderKeying,
-    /// As a part of a packet, of which no end takes any.
+    /// As a piece of a packet, by its fields, in sessions alone.
     Fragment,
     /// By its fields.
     Fields,
@@ -45,7 +47,6 @@ pub enum Way {
 /// Who takes the chunks of a type.
 #[derive(Clone, Copy)]
 pub enum Takers {
-    Nobody,
     Startup,
     StartupAndAttempts,
     Attempts,
@@ -80,7 +81,7 @@ pub fn kind_of(kind: u8) -> Kind
         PING_REPLY => row(kind, Way::Fields, Takers::HeldSessions),
         CLOSE => row(kind, Way::Fields, Takers::Sessions),
         CLOSE_ACK => row(kind, Way::Fields, Takers::ClosingSessions),
-        FRAGMENT => row(kind, Way::Fragment, Takers::Nobody),
+        FRAGMENT => row(kind, Way::Fragment, Takers::HeldSessions),
         DATA => Kind::OfFlows,
         NEXT => Kind::OfFlows,
         ACK_BITMAP => Kind::OfFlows,
@@ -124,7 +125,7 @@ impl Takers {
 
 impl KindRow {
     /// Whether a place takes chunks of this type.
-    pub fn takes(&self, place: Place) -> bool
+    fn takes(&self, place: Place) -> bool
         requires { IsRow self.now }
         ensures { result ≡ takes place self.now.kind }
     {
@@ -133,6 +134,32 @@ impl KindRow {
             Place::Attempt { .. } => self.takers.in_attempts(),
             Place::Session(_) => self.takers.in_sessions(),
         }
+    }
+
+    /// Whether chunks of this type are taken in a packet that was gathered.
+    fn may_be_gathered(&self) -> bool
+        requires { IsRow self.now }
+        ensures { result ≡ may_be_gathered self.now.kind }
+    {
+        self.kind == PING || self.kind == PING_REPLY
+    }
+
+    /// Whether a place takes chunks of this type behind those that were gone through: fewer in a
+    /// packet that was gathered.
+    pub fn takes_in(&self, place: Place, walk: &Walk) -> bool
+        requires { IsRow self.now }
+        ensures { result ≡ takes_in place walk.now self.now.kind }
+    {
+        self.takes(place) && (self.may_be_gathered() || !walk.gathered)
+    }
+
+    /// Whether a chunk of this type is a fragment that is no piece: outside of sessions, or in a
+    /// packet that was gathered.
+    pub fn is_stray(&self, place: Place, walk: &Walk) -> bool
+        requires { IsRow self.now }
+        ensures { result ≡ is_stray place walk.now self.now.kind }
+    {
+        matches!(self.way, Way::Fragment) && (!matches!(place, Place::Session(_)) || walk.gathered)
     }
 
     /// Whether a session takes chunks of this type as it stands, of those that sessions take.
@@ -145,9 +172,7 @@ impl KindRow {
             Takers::ClosingSessions => session.stage() == Stage::NearClose,
             Takers::HeldSessions => session.is_held(),
             // No session takes these, and none is asked.
-            Takers::Nobody | Takers::Startup | Takers::StartupAndAttempts | Takers::Attempts => {
-                session.is_held()
-            }
+            Takers::Startup | Takers::StartupAndAttempts | Takers::Attempts => session.is_held(),
         }
     }
 }

@@ -1,6 +1,7 @@
 //! What an end keeps of a session.
 
 use mobility::Moves;
+use rtmfp_fragments::Reassembly;
 use session_core::Session;
 use session_flows::Flows;
 
@@ -14,4 +15,6 @@ pub struct Row {
     pub moves: Moves,
     /// Its flows.
     pub flows: Flows,
+    /// The packets of which pieces came.
+    pub gathering: Reassembly,
 }
