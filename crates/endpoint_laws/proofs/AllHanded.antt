@@ -21,7 +21,7 @@ use Rattle.session_flows.specs.Timing.{after_late}
 use Rattle.session_flows.proofs.Handed.{nothing_left_ready}
 use Rattle.endpoint_model.specs.FlowCall.{FlowCall, OpenFlow, Queue, Abandon, Finish, flow_did}
 use Rattle.endpoint_laws.specs.Handed.{NoneReady, EveryMessageIsHandedOver}
-use Rattle.endpoint_laws.proofs.EachRow.{IsKept, in_every_log}
+use Rattle.endpoint_laws.proofs.EachRow.{IsKept, flows_in_every_log}
 
 -- ---- receiving flows that aren't touched
 
@@ -180,4 +180,4 @@ none_is_kept = record {
 }
 
 pub all_handed : EveryMessageIsHandedOver
-all_handed setup log s near row stands there = in_every_log NoneReady none_is_kept setup log s stands near row there
+all_handed setup log s near row stands there = flows_in_every_log NoneReady none_is_kept setup log s stands near row there

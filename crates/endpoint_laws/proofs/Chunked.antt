@@ -34,12 +34,15 @@ use Rattle.endpoint_model.specs.State.{State, full}
 use Rattle.endpoint_model.specs.Admission.{sid_at, group_at, attempt_group}
 use Rattle.endpoint_model.specs.Effects.{initiator_keyed, responder_keyed, is_told_in_session, read_done, chunk_did}
 use Rattle.endpoint_model.specs.InSessions.{told_in_session}
-use Rattle.endpoint_model.specs.Causes.{takes, read_fault, read_cause, initiator_keying_cause, responder_keying_cause, has_state_for}
+use Rattle.endpoint_model.specs.Gathering.{may_be_gathered}
+use Rattle.endpoint_model.specs.Causes.{takes, takes_in, read_fault, read_cause, initiator_keying_cause, responder_keying_cause, has_state_for}
 use Rattle.identity.specs.Certificates.{certificate_fault}
 use Rattle.rtmfp_base.specs.declared.cause.Cause.TheVariants.{Malformed}
 use Rattle.endpoint_laws.proofs.Tied.{Tied}
 use Rattle.endpoint_laws.proofs.Facts.{all_none, test_fails}
-use Rattle.endpoint_laws.proofs.ByKind.{told_kinds, not_false, chunk_by_kind}
+use Rattle.endpoint_laws.proofs.ByKind.{told_kinds, not_false, is_taken, chunk_by_kind}
+use Rattle.endpoint_laws.proofs.Stepping.{IsFrom, of_packet, close_apart}
+use Rattle.endpoint_laws.proofs.Pieces.{goes_piece}
 use Rattle.endpoint_laws.proofs.Going.{Goes, goes_discarded}
 use Rattle.endpoint_laws.proofs.Made.{by_hello, not_in_session, not_in_attempt}
 use Rattle.endpoint_laws.proofs.Spelled.{hello_kind}
@@ -175,7 +178,7 @@ module _ (secrets : Secrets) (setup : Setup) (from : AddressParts) (datagram : L
       goes_responder secrets setup from datagram draws packet past s tied near generation came c (opening_of s near generation c.payload reads.0 reads.1 none) among kind
   responder_goes s past (Session near) c tied came among kind taken none formed = absurd (cc)
 
-  told_goes : (s : State) (past : Past) (place : Place) (c : Placed) → Tied secrets setup past s → PassedAt past place datagram packet s → IsAmong c (chunks_of packet) → is_told_in_session c.kind ≡ true →
+  told_goes : (s : State) (past : Past) (place : Place) (c : Placed) → Tied secrets setup past s → PassedAt past place datagram packet s → ((c.kind ≡ 0x0c) ⊎ (c.kind ≡ 0x4c) → IsAmong c (chunks_of packet)) → is_told_in_session c.kind ≡ true →
       takes place c.kind ≡ true → has_state_for s place c.kind ≡ true → Goes secrets setup call past s (told_in_session s (sid_at place) from c)
   told_goes s past (Startup generation) c tied passed among told taken has = absurd (not_at_startup c.kind (told_kinds c.kind told) taken)
   told_goes s past (Attempt near generation) c tied passed among told taken has = absurd (not_at_attempt near c.kind (told_kinds c.kind told) taken)
@@ -194,20 +197,25 @@ module _ (secrets : Secrets) (setup : Setup) (from : AddressParts) (datagram : L
   hello_at s past (Attempt near generation) c tied came among tag cookie cert is taken formed none = absurd (not_in_attempt near generation c.kind (hello_kind c.kind c.payload tag cookie cert is) taken)
   hello_at s past (Session near) c tied came among tag cookie cert is taken formed none = absurd (not_in_session near c.kind (hello_kind c.kind c.payload tag cookie cert is) taken)
 
-  read_goes : (s : State) (past : Past) (place : Place) (c : Placed) → Tied secrets setup past s → Came secrets setup past s datagram place packet → IsAmong c (chunks_of packet) → (read : Result Chunk ChunkFault) → chunk_reading c.kind c.payload ≡ read →
+  read_goes : (s : State) (past : Past) (place : Place) (c : Placed) → Tied secrets setup past s → Came secrets setup past s datagram place packet → (c.kind ≡ 0x70 → IsAmong c (chunks_of packet)) → (read : Result Chunk ChunkFault) → chunk_reading c.kind c.payload ≡ read →
       takes place c.kind ≡ true → read_fault (length c.payload) read ≡ None → read_cause s place from read ≡ None → Goes secrets setup call past s (read_done s place from read)
   read_goes s past place c tied came among =
       by_hello (λ read. chunk_reading c.kind c.payload ≡ read → takes place c.kind ≡ true → read_fault (length c.payload) read ≡ None → read_cause s place from read ≡ None → Goes secrets setup call past s (read_done s place from read))
-      (λ tag cookie cert is taken formed none. hello_at s past place c tied came among tag cookie cert is taken formed none)
+      (λ tag cookie cert is taken formed none. hello_at s past place c tied came (among (hello_kind c.kind c.payload tag cookie cert is)) tag cookie cert is taken formed none)
       (λ read other is taken formed none. goes_read secrets setup call past s place from read (goes_other secrets setup call s place from read other past tied))
 
-  pub chunk_goes : (s : State) (past : Past) (place : Place) (walk : Walk) (c : Placed) → Tied secrets setup past s → Came secrets setup past s datagram place packet → PassedAt past place datagram packet s → IsAmong c (chunks_of packet) → (walk.keyed ≡ false → c.kind ≡ 0x38 → IsFirst c (chunks_of packet)) →
-      Goes secrets setup call past s (chunk_did place from draws walk s c)
-  chunk_goes s past place walk c tied came passed among first = chunk_by_kind (λ d. Goes secrets setup call past s d) place from draws walk s c (record {
+  pub chunk_goes : (s : State) (past : Past) (place : Place) (walk : Walk) (c : Placed) → Tied secrets setup past s → Came secrets setup past s datagram place packet → PassedAt past place datagram packet s → IsFrom packet walk c → Goes secrets setup call past s (chunk_did place from draws walk s c)
+  chunk_goes s past place walk c tied came passed whence = chunk_by_kind (λ d. Goes secrets setup call past s d) place from draws walk s c (record {
     discarded = λ cause. goes_discarded secrets setup call s c.at cause past tied;
-    initiator = λ kind taken none formed. initiator_goes s past place walk c tied came among first kind taken none formed;
-    responder = λ kind taken none formed. responder_goes s past place c tied came among kind taken none formed;
-    told = λ told taken has. told_goes s past place c tied passed among told taken has;
+    initiator = λ kind taken none formed.
+        let own = of_packet packet place walk c whence (ap may_be_gathered kind) (ap (takes_in place walk) kind ∙ taken) in
+        initiator_goes s past place walk c tied came own.among own.first kind (is_taken place walk 0x38 taken) none formed;
+    responder = λ kind taken none formed.
+        let own = of_packet packet place walk c whence (ap may_be_gathered kind) (ap (takes_in place walk) kind ∙ taken) in
+        responder_goes s past place c tied came own.among kind (is_taken place walk 0x78 taken) none formed;
+    told = λ told taken has. told_goes s past place c tied passed (λ close. (of_packet packet place walk c whence (close_apart c.kind close) taken).among) told (is_taken place walk c.kind taken) has;
     flows = λ is taken none. goes_flow_taken secrets setup call s (sid_at place) (data_reading walk.cursor c.kind c.payload) past tied;
-    reads = λ taken formed none. read_goes s past place c tied came among (chunk_reading c.kind c.payload) refl taken formed none;
+    piece = λ kind taken. goes_piece s (sid_at place) c.at secrets setup call (chunk_reading c.kind c.payload) past tied;
+    reads = λ taken formed none.
+        read_goes s past place c tied came (λ hello. (of_packet packet place walk c whence (ap may_be_gathered hello) taken).among) (chunk_reading c.kind c.payload) refl (is_taken place walk c.kind taken) formed none;
   })

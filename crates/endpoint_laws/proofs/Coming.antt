@@ -38,7 +38,7 @@ use Rattle.endpoint_laws.specs.Contexts.{Secrets, OpensFirst, OpensInStartup, Ca
 use Rattle.endpoint_laws.specs.Past.{current_of, next_of}
 use Rattle.endpoint_laws.proofs.Kin.{answered_there, changed_there}
 use Rattle.endpoint_laws.proofs.Small.{Any, Sends}
-use Rattle.endpoint_laws.proofs.ByKind.{told_kinds, chunk_by_kind}
+use Rattle.endpoint_laws.proofs.ByKind.{is_taken, told_kinds, chunk_by_kind}
 use Rattle.endpoint_laws.proofs.Made.{IsNoHello, by_hello, carries_any, replied_made, in_session_made, not_in_attempt, chunk_made}
 use Rattle.endpoint_laws.proofs.Succeeding.{StaysInGroup, NamesNoneEach, current_onto, next_onto, stays_law, stays_begins}
 use Rattle.endpoint_laws.proofs.Spelled.{hello_kind}
@@ -153,11 +153,12 @@ chunk_stays near generation from draws walk s c =
       discarded = λ cause. attempts_same s.startup.attempts;
       initiator = λ kind taken none formed. absurd (cc);
       responder = λ kind taken none formed. opened_stays s near from (attempt_group s.group (get s.startup.attempts near)) (opened s.startup near c.payload);
-      told = λ told taken has. absurd (not_at_attempt near c.kind (told_kinds c.kind told) taken);
+      told = λ told taken has. absurd (not_at_attempt near c.kind (told_kinds c.kind told) (is_taken place walk c.kind taken));
       flows = λ is taken none. flow_stays s near (data_reading walk.cursor c.kind c.payload);
+      piece = λ kind taken. absurd (cc);
       reads = λ taken formed none.
           by_hello (λ read. chunk_reading c.kind c.payload ≡ read → Stays s (read_done s place from read))
-          (λ tag cookie cert is. absurd (not_in_attempt near generation c.kind (hello_kind c.kind c.payload tag cookie cert is) taken)) (λ read other is. read_stays s place from read other) (chunk_reading c.kind c.payload) refl;
+          (λ tag cookie cert is. absurd (not_in_attempt near generation c.kind (hello_kind c.kind c.payload tag cookie cert is) (is_taken place walk c.kind taken))) (λ read other is. read_stays s place from read other) (chunk_reading c.kind c.payload) refl;
     })
 
 -- ---- it came there

@@ -1,5 +1,5 @@
 -- Admissible keyings bear, and responders' keyings that nothing discards open.
-use Rattle.std.proofs.Common.{◌≡◌, ◌≢◌, ℕ, ◌+◌, ◌^◌, ◌<◌, ◌≤◌, ◌==◌, max, List, [], ◌∷◌, ◌++◌, length, take, drop, length-drop, nat_lt, Bool, true, false, ◌||◌, if◌then◌else◌, Option, Some, None, Result, Ok, Err, inl, inr, refl, sym, ap, subst, ◌∙◌, arith, append_assoc, length-append}
+use Rattle.std.proofs.Common.{◌≡◌, ◌≢◌, ℕ, ◌+◌, ◌^◌, ◌<◌, ◌≤◌, ◌==◌, max, List, [], ◌∷◌, ◌++◌, length, take, drop, length-drop, nat_lt, Bool, true, false, not, ◌||◌, if◌then◌else◌, Option, Some, None, Result, Ok, Err, inl, inr, refl, sym, ap, subst, ◌∙◌, arith, append_assoc, length-append}
 use Rattle.std.specs.FinMap.{get}
 use Rattle.std.specs.Int.{w64, to_be_bytes}
 use Rattle.std.proofs.lemmas.Bool.Decides.{nat_tests}
@@ -35,6 +35,7 @@ use Rattle.glare_core.specs.Ledger.{Ledger, held_with}
 use Rattle.glare_core.specs.Calls.{way_made, heard, heard_noted}
 use Rattle.glare_core.proofs.Accounts.{reads_started}
 use Rattle.rtmfp_base.specs.declared.cause.Cause.{Cause}
+use Rattle.rtmfp_base.specs.Reasons.{where_true}
 use Rattle.rtmfp_base.specs.declared.cause.Cause.TheVariants.{Short, WrongPlace, SecondKeying, UnknownSession}
 use Rattle.startup.specs.declared.answer.Answer.{Answer}
 use Rattle.startup.specs.State.{StartupState}
@@ -65,20 +66,21 @@ use Rattle.endpoint_laws.specs.Lawful.{AnswersAttempt}
 use Rattle.endpoint_model.specs.State.{State, full, new_row, Did, nothing, then_do, fact_entries, with_startup, free_from, fresh, at_moment}
 use Rattle.endpoint_model.specs.Sending.{last_count, startup_number, startup_datagram, session_packet, session_datagram, sent_by}
 use Rattle.endpoint_model.specs.Admission.{Admission, Rejected, Admitted, opened_datagram, admission, admitted, admitted_packet, packet_in, has_mode, confirming, places_of, known_group, group_at, attempt_group, opened_first}
-use Rattle.endpoint_model.specs.Causes.{form_cause, initiator_keying_cause, last_cause, chunk_cause}
+use Rattle.endpoint_model.specs.Causes.{takes_in, form_cause, initiator_keying_cause, last_cause, chunk_cause}
+use Rattle.endpoint_model.specs.Gathering.{may_be_gathered}
 use Rattle.endpoint_model.specs.InSessions.{tested as tested_at}
-use Rattle.endpoint_model.specs.FlowChunks.{acked, unowed}
+use Rattle.endpoint_model.specs.FlowChunks.{acked, unowed, is_session}
 use Rattle.endpoint_laws.proofs.Hearing.{HeardWell}
 use Rattle.endpoint_laws.proofs.Passing.{PassedAt}
 use Rattle.endpoint_laws.proofs.HeardEvents.{IsWell, AdmissionHeard, gone_through_is}
 use Rattle.endpoint_laws.proofs.HeardAdmission.{heard_admission}
-use Rattle.endpoint_model.specs.Effects.{with_born, keying_done, initiator_keyed, responder_keyed, with_opened, opening_done, discarded_or, chunk_did, walked, chunks_did, received, part_received, outset, most_acks, walked_and_acked}
+use Rattle.endpoint_model.specs.Effects.{with_born, keying_done, initiator_keyed, responder_keyed, with_opened, opening_done, discarded_or, chunk_did, walked, WalkStep, in_order, steps_did, chunks_did, walk_of, received, part_received, outset, most_acks, walked_and_acked}
 use Rattle.endpoint_model.specs.Log.{Answers}
 use Rattle.endpoint_laws.specs.Laws.{IsSetup, IsCall}
 use Rattle.endpoint_laws.specs.Complete.{WentThrough, IsBehind, IsPing, outs_in, at_initiator, IsOfOffer, IsBornAndTold, AdmissibleKeyingsBear, OpensItsSession, KeyingsWithoutCauseOpen, done_up_to, taken_event}
 use Rattle.endpoint_laws.proofs.Bytes.{of_bytes, plain_is}
 use Rattle.endpoint_model.proofs.Reading.{packet_reads}
-use Rattle.endpoint_laws.proofs.Facts.{all_none}
+use Rattle.endpoint_laws.proofs.Facts.{all_none, test_fails}
 use Rattle.endpoint_model.proofs.Members.{tested}
 use Rattle.endpoint_laws.proofs.Tied.{Tied}
 use Rattle.endpoint_laws.proofs.Moving.{tied_alike}
@@ -86,10 +88,11 @@ use Rattle.endpoint_laws.proofs.Going.{Goes}
 use Rattle.endpoint_model.proofs.Steps.{walk_through, then_nothing}
 use Rattle.endpoint_laws.proofs.Admitting.{Came, IsTaken, AdmissionIs, admission_is}
 use Rattle.endpoint_laws.proofs.Answering.{OpensAttempt}
-use Rattle.endpoint_laws.proofs.ByKind.{causes}
+use Rattle.endpoint_laws.proofs.ByKind.{causes, not_false, not_gathered}
 use Rattle.endpoint_laws.proofs.Chunked.{read_ok, opening_of}
 use Rattle.endpoint_laws.proofs.OutSends.{Sent}
-use Rattle.endpoint_laws.proofs.Orderly.{Orderly, chunks_orderly}
+use Rattle.endpoint_laws.proofs.Orderly.{Orderly, steps_orderly}
+use Rattle.endpoint_laws.proofs.Stepping.{packet_in_order, outside_sessions, take_in_order}
 use Rattle.endpoint_laws.proofs.Logged.{Begun, LogIs, log_is, holds_begun, named_by}
 use Rattle.endpoint_laws.proofs.OutBirths.{small_free}
 use Rattle.endpoint_laws.proofs.Few.{outs_append, few_law, few_begins}
@@ -120,6 +123,11 @@ keyed_false [] others walk e = e
 keyed_false (c ∷ front) others walk e =
     let other : (c.kind == 0x38) ≡ false = elim (tested c.kind 0x38) [ inl is ↦ absurd (others.0 is.0) | inr is ↦ is.1 ] in
     keyed_false front others.1 (walked walk c) (ap (λ (b : Bool). b || (c.kind == 0x38)) e ∙ other)
+
+-- and is over one packet
+gathered_through : (walk : Walk) (front : List Placed) → (walk_through walk front).gathered ≡ walk.gathered
+gathered_through walk [] = refl
+gathered_through walk (c ∷ front) = gathered_through (walked walk c) front
 
 false_is : {A : Type 0} (b : Bool) (x y : A) → b ≡ false → (if b then x else y) ≡ y
 false_is true x y e = absurd (cc)
@@ -294,7 +302,8 @@ module _ (secrets : Secrets) (setup : Setup) (early : Past) (e : Event) (s : Sta
   u = first.state
 
   front_orderly : Orderly secrets setup (Receive from datagram draws) past s first
-  front_orderly = chunks_orderly secrets setup is from datagram draws fits a.packet (Startup generation) outset [] front (a.chunk ∷ (behind.back ++ rest)) s past (record { whole = in_all; keyed = λ e c none is. none; small = tt }) came tied sent_so well tt
+  front_orderly = steps_orderly secrets setup is from datagram draws fits a.packet (Startup generation) (in_order outset front) s past
+      (packet_in_order a.packet outset [] front (a.chunk ∷ (behind.back ++ rest)) (record { whole = in_all; keyed = λ e c none is. none; small = tt })) came tied sent_so well tt
 
   abbrev after_front : Goes secrets setup (Receive from datagram draws) past s first
   after_front = front_orderly.goes
@@ -337,7 +346,7 @@ module _ (secrets : Secrets) (setup : Setup) (early : Past) (e : Event) (s : Sta
   unkeyed_before = ap (λ (b : Bool). if b then Some SecondKeying else iikeying_cause u.startup a.chunk.payload from u.moment (full u) (group_at u (Startup generation))) (keyed_false front others outset refl) ∙ bearing.cause
 
   no_cause : chunk_cause u (Startup generation) walk from this ≡ None
-  no_cause = none_all (causes u (Startup generation) walk from this) (refl, (ap fault_in bearing.reads, (refl, (refl, (unkeyed_before, tt)))))
+  no_cause = none_all (causes u (Startup generation) walk from this) (refl, (ap fault_in bearing.reads, (refl, (ap (λ (b : Bool). where_true (not (not b)) WrongPlace) (gathered_through outset front), (unkeyed_before, tt)))))
 
   chunk_so : chunk_did (Startup generation) from draws walk u a.chunk ≡ initiator_keyed u (Startup generation) from draws a.chunk.payload
   chunk_so = ap (chunk_did (Startup generation) from draws walk u) this_is ∙ ap (λ (o : Option Cause). discarded_or u a.chunk.at o (initiator_keyed u (Startup generation) from draws a.chunk.payload)) no_cause
@@ -382,17 +391,19 @@ module _ (secrets : Secrets) (setup : Setup) (early : Past) (e : Event) (s : Sta
 
 -- Where no session is, a datagram adds what its chunks add, and nothing before or after them.
 record AddsItsChunks (u : State) (place : Place) (from : AddressParts) (draws : Draws) : Type 0 where
+  outside : is_session place ≡ false
   quiet : confirming u place ≡ nothing u
   unacked : (d : Did) (count : ℕ) → then_do d (λ v. acked count v place) ≡ d
   untested : (d : Did) → then_do d (λ v. tested_at v place from draws) ≡ d
   nothing_left : (d : Did) → then_do d (λ v. nothing (unowed v place)) ≡ d
 
-gone_entries : (u : State) (place : Place) (from : AddressParts) (draws : Draws) (cs : List Placed) (count : ℕ) (last : State → Did) → AddsItsChunks u place from draws → ((d : Did) → then_do d last ≡ d) →
-    (then_do (confirming u place) (λ v. then_do (walked_and_acked place from draws v cs count) last)).entries ≡ (chunks_did place from draws outset u cs).entries
-gone_entries u place from draws cs count last alone no_more =
-    ap (λ (d : Did). (then_do d (λ v. then_do (walked_and_acked place from draws v cs count) last)).entries) alone.quiet
-    ∙ ap (λ (d : Did). d.entries) (no_more (walked_and_acked place from draws u cs count))
-    ∙ ap (λ (d : Did). d.entries) (alone.unacked (chunks_did place from draws outset u cs) count)
+gone_entries : (u : State) (place : Place) (from : AddressParts) (draws : Draws) (xs : State → List WalkStep) (cs : List Placed) (count : ℕ) (last : State → Did) → AddsItsChunks u place from draws → ((d : Did) → then_do d last ≡ d) → xs u ≡ in_order outset cs →
+    (then_do (confirming u place) (λ v. then_do (walked_and_acked place from draws v (xs v) count) last)).entries ≡ (chunks_did place from draws outset u cs).entries
+gone_entries u place from draws xs cs count last alone no_more are =
+    ap (λ (d : Did). (then_do d (λ v. then_do (walked_and_acked place from draws v (xs v) count) last)).entries) alone.quiet
+    ∙ ap (λ (d : Did). d.entries) (no_more (walked_and_acked place from draws u (xs u) count))
+    ∙ ap (λ (d : Did). d.entries) (alone.unacked (steps_did place from draws u (xs u)) count)
+    ∙ ap (λ (ys : List WalkStep). (steps_did place from draws u ys).entries) are
 
 went_entries : (noted t u : State) (place : Place) (from : AddressParts) (datagram : List ℕ) (draws : Draws) (answer : CallAnswer) (entries : List Entry) (packet : Whole) (gone : List Placed) →
     Answers noted (Receive from datagram draws) answer entries t → admission noted datagram ≡ Admitted u place packet → AddsItsChunks u place from draws →
@@ -400,7 +411,7 @@ went_entries : (noted t u : State) (place : Place) (from : AddressParts) (datagr
 went_entries noted t u place from datagram draws (Began n) entries packet gone step at alone went = absurd went
 went_entries noted t u place from datagram draws Done entries packet gone step at alone went =
     step.entries ∙ ap (λ (x : Admission). (received from draws x).entries) at
-    ∙ gone_entries u place from draws (chunks_of packet) most_acks (λ v. tested_at v place from draws) alone alone.untested
+    ∙ gone_entries u place from draws (λ v. walk_of place from draws v packet) (chunks_of packet) most_acks (λ v. tested_at v place from draws) alone alone.untested (outside_sessions place alone.outside from draws outset u (chunks_of packet))
     ∙ ap (λ (cs : List Placed). (chunks_did place from draws outset u cs).entries) (sym went)
 went_entries noted t u place from datagram draws (NotOpened refusal) entries packet gone step at alone went = absurd went
 went_entries noted t u place from datagram draws (Searching _) entries packet gone step at alone went = absurd went
@@ -412,16 +423,17 @@ went_entries noted t u place from datagram draws (Stopped stop) entries packet g
     step.left.entries
     ∙ ap (λ (b : Bool). (if b then part_received from draws (admission noted datagram) stop.chunks step.acks else nothing noted).entries) went.0
     ∙ ap (λ (x : Admission). (part_received from draws x stop.chunks step.acks).entries) at
-    ∙ gone_entries u place from draws (take stop.chunks (chunks_of packet)) step.acks (λ v. nothing (unowed v place)) alone alone.nothing_left
+    ∙ gone_entries u place from draws (λ v. take stop.chunks (walk_of place from draws v packet)) (take stop.chunks (chunks_of packet)) step.acks (λ v. nothing (unowed v place)) alone alone.nothing_left
+    (ap (take stop.chunks) (outside_sessions place alone.outside from draws outset u (chunks_of packet)) ∙ take_in_order stop.chunks outset (chunks_of packet))
     ∙ ap (λ (cs : List Placed). (chunks_did place from draws outset u cs).entries) (sym went.1)
 went_entries noted t u place from datagram draws OutOfMemory entries packet gone step at alone went = absurd went
 
 -- at the places without a session
 its_chunks_at_startup : (u : State) (generation : ℕ) (from : AddressParts) (draws : Draws) → AddsItsChunks u (Startup generation) from draws
-its_chunks_at_startup u generation from draws = record { quiet = refl; unacked = λ d count. then_nothing d; untested = then_nothing; nothing_left = then_nothing }
+its_chunks_at_startup u generation from draws = record { outside = refl; quiet = refl; unacked = λ d count. then_nothing d; untested = then_nothing; nothing_left = then_nothing }
 
 its_chunks_at_attempt : (u : State) (id generation : ℕ) (from : AddressParts) (draws : Draws) → AddsItsChunks u (Attempt id generation) from draws
-its_chunks_at_attempt u id generation from draws = record { quiet = refl; unacked = λ d count. then_nothing d; untested = then_nothing; nothing_left = then_nothing }
+its_chunks_at_attempt u id generation from draws = record { outside = refl; quiet = refl; unacked = λ d count. then_nothing d; untested = then_nothing; nothing_left = then_nothing }
 
 -- these are the first of the packet's chunks
 went_first : (answer : CallAnswer) (chunks gone : List Placed) → WentThrough answer chunks gone → (rest : List Placed) × (chunks ≡ gone ++ rest)
@@ -541,9 +553,9 @@ module _ (s : State) (near : ℕ) (from : AddressParts) (draws : Draws) (c : Pla
   }
 
 -- a keying that has no cause opens its session, whatever came before it
-one_opens : (s : State) (near generation : ℕ) (walk other : Walk) (from : AddressParts) (draws : Draws) (c : Placed) → c.kind ≡ 0x78 → chunk_cause s (Attempt near generation) walk from c ≡ None →
+one_opens : (s : State) (near generation : ℕ) (walk other : Walk) → other.gathered ≡ false → (from : AddressParts) (draws : Draws) (c : Placed) → c.kind ≡ 0x78 → chunk_cause s (Attempt near generation) walk from c ≡ None →
     OpensAttempt s near c.payload × (chunk_did (Attempt near generation) from draws other s c ≡ responder_keyed s near from c.payload)
-one_opens s near generation walk other from draws c kind none =
+one_opens s near generation walk other apart from draws c kind none =
     let all = all_none (causes s (Attempt near generation) walk from c) none in
     let that : Placed = record { kind = 0x78; at = c.at; payload = c.payload } in
     let as_kind : ℕ → Placed = λ x. record { kind = x; at = c.at; payload = c.payload } in
@@ -552,7 +564,9 @@ one_opens s near generation walk other from draws c kind none =
     let read = read_ok (responder_keying_in c.payload) formed in
     let last = ap (last_cause s (Attempt near generation) walk from) (sym is) ∙ all.1.1.1.1.0 in
     let opens : OpensAttempt s near c.payload = opening_of s near generation c.payload read.0 read.1 last in
-    let no_cause : chunk_cause s (Attempt near generation) other from that ≡ None = ap (chunk_cause s (Attempt near generation) walk from) (sym is) ∙ none in
+    let whole : walk.gathered ≡ false = not_gathered (Attempt near generation) walk c.kind (ap may_be_gathered kind) (not_false (takes_in (Attempt near generation) walk c.kind) (test_fails (not (takes_in (Attempt near generation) walk c.kind)) WrongPlace all.1.1.1.0)) in
+    let cause_in : Bool → Option Cause = λ gathered. chunk_cause s (Attempt near generation) (record { keyed = false; gathered = gathered; cursor = None }) from that in
+    let no_cause : chunk_cause s (Attempt near generation) other from that ≡ None = ap cause_in (apart ∙ sym whole) ∙ ap (chunk_cause s (Attempt near generation) walk from) (sym is) ∙ none in
     let did : chunk_did (Attempt near generation) from draws other s c ≡ responder_keyed s near from c.payload =
     ap (chunk_did (Attempt near generation) from draws other s) is ∙ ap (λ (o : Option Cause). discarded_or s c.at o (responder_keyed s near from c.payload)) no_cause in
     (opens, did)
@@ -560,7 +574,7 @@ one_opens s near generation walk other from draws c kind none =
 pub keyings_without_cause_open : KeyingsWithoutCauseOpen
 keyings_without_cause_open s t u moment near generation from datagram draws answer entries packet front back c walk step at went kind none =
     let v : State = (chunks_did (Attempt near generation) from draws outset u front).state in
-    let one = one_opens v near generation walk (walk_through outset front) from draws c kind none in
+    let one = one_opens v near generation walk (walk_through outset front) (gathered_through outset front) from draws c kind none in
     let later : List Entry = (chunks_did (Attempt near generation) from draws (walked (walk_through outset front) c) (chunk_did (Attempt near generation) from draws (walk_through outset front) v c).state back).entries in
     let are : entries ≡ (chunks_did (Attempt near generation) from draws outset u front).entries ++ ((responder_keyed v near from c.payload).entries ++ later) =
     went_entries (at_moment s moment) t u (Attempt near generation) from datagram draws answer entries packet (front ++ c ∷ back) step at (its_chunks_at_attempt u near generation from draws) went

@@ -1,9 +1,10 @@
 -- The nonces that a call draws, as its event tells them: none, or that of its draws, once.
-use Rattle.std.proofs.Common.{◌≡◌, ℕ, List, [], ◌∷◌, ◌++◌, take, map, Bool, true, false, ◌||◌, if◌then◌else◌, Option, Some, None, Result, Ok, Err, inl, inr, ◌⊎◌, refl, sym, ap, ◌∙◌, append_assoc}
+use Rattle.std.proofs.Common.{◌≡◌, ℕ, List, [], ◌∷◌, ◌++◌, take, map, Bool, true, false, ◌||◌, if◌then◌else◌, Option, Some, None, Result, Ok, Err, inl, inr, ◌⊎◌, refl, sym, ap, subst, ◌∙◌, append_assoc}
 use Rattle.std.specs.Prelude.{◌==◌}
 use Rattle.std.specs.FinMap.{get}
 use Rattle.rtmfp_forms.specs.Address.{AddressParts}
 use Rattle.rtmfp_packet.specs.Walk.{Placed}
+use Rattle.rtmfp_packet.specs.Whole.{Whole}
 use Rattle.rtmfp_chunks.specs.declared.reading.ChunkFault.{ChunkFault}
 use Rattle.rtmfp_chunks.specs.Chunk.{Chunk, Ping, RHello}
 use Rattle.cookies.specs.declared.CookieTest.{CookieTest}
@@ -32,6 +33,7 @@ use Rattle.endpoint_model.specs.Views.{NamedSearch, fact_in, sought_in}
 use Rattle.endpoint_model.specs.declared.walk.Walk.{Walk}
 use Rattle.endpoint_model.specs.declared.config.Draws.{Draws}
 use Rattle.endpoint_model.specs.declared.place.Place.{Place}
+use Rattle.endpoint_model.specs.declared.place.Place.TheVariants.{Startup, Attempt, Session}
 use Rattle.endpoint_model.specs.declared.entry.Entry.{Entry}
 use Rattle.endpoint_model.specs.declared.entry.Entry.TheVariants.{Fact as FactEntry}
 use Rattle.endpoint_model.specs.declared.answers.Stopped.{Stopped as Stop}
@@ -46,7 +48,7 @@ use Rattle.endpoint_model.specs.Sending.{is_spent, sent_answer, sent_if}
 use Rattle.endpoint_model.specs.Succession.{learning, advancing, advancing_to}
 use Rattle.endpoint_model.specs.Admission.{Admission, Rejected, Admitted, admission, sid_at, confirming, group_at, attempt_group}
 use Rattle.endpoint_model.specs.Keying.{chunks_of}
-use Rattle.endpoint_model.specs.Effects.{opening, seeking, unseeking, read_fact, read_left, read_done, cancelling, ticks, keying_done, initiator_keyed, opening_done, responder_keyed, with_born, chunk_did, chunks_did, walked, received, part_received, outset, most_acks, walked_and_acked}
+use Rattle.endpoint_model.specs.Effects.{opening, seeking, unseeking, read_fact, read_left, read_done, cancelling, ticks, keying_done, initiator_keyed, opening_done, responder_keyed, with_born, WalkStep, in_order, chunk_did, steps_did, chunks_did, walk_of, walked, received, part_received, outset, most_acks, walked_and_acked}
 use Rattle.endpoint_model.specs.Causes.{initiator_keying_cause}
 use Rattle.endpoint_laws.specs.Draws.{seek_draws, fact_draws, draws_in, draws_done, draws_of}
 use Rattle.endpoint_laws.proofs.Unseen.{AreUnseen, flows_unseen}
@@ -54,7 +56,8 @@ use Rattle.endpoint_model.specs.Log.{Answers, Step, stopped}
 use Rattle.rtmfp_data_chunks.specs.Fitting.{AreSmall}
 use Rattle.rtmfp_data_chunks.proofs.Fitting.{small_next}
 use Rattle.endpoint_laws.proofs.Small.{Sends, Quiet, stated_of, Any, All}
-use Rattle.endpoint_laws.proofs.Made.{all_law, answer_made, answered_made, spread_made, in_session_made, confirming_made, tested_made, acked_made, cancelling_made, closing_made, called_made, tick_all_made, chunk_by}
+use Rattle.endpoint_laws.proofs.Stepping.{AreAllSmall, all_taken, small_steps, walk_is, outside_sessions, take_in_order}
+use Rattle.endpoint_laws.proofs.Made.{all_law, session_chunk_made, answer_made, answered_made, spread_made, in_session_made, confirming_made, tested_made, acked_made, cancelling_made, closing_made, called_made, tick_all_made, chunk_by}
 use Rattle.crypto_profile.specs.declared.group.GroupSecret.{GroupSecret}
 use Rattle.startup.specs.declared.kept.KeptKeying.{KeptKeying}
 
@@ -265,27 +268,52 @@ module _ (place : Place) (from : AddressParts) (draws : Draws) where
       by true e rest = once_before None None draws.nonce d.entries _ (once_chunk s walk c small) (none_chunks cs (walked walk c) d.state next (or_either walk.keyed (c.kind == 0x38) (inr e)))
       by false e rest = once_after None None draws.nonce d.entries _ (none_other s walk c small e) rest
 
-once_acked : (from : AddressParts) (draws : Draws) (s : State) (place : Place) (cs : List Placed) (count : ℕ) → OneDraw draws.nonce (plain (walked_and_acked place from draws s cs count).entries)
-once_acked from draws s place cs count =
-    let d : Did = chunks_did place from draws outset s cs in
-    once_before None None draws.nonce d.entries (acked count d.state place).entries (once_chunks place from draws cs outset s tt) (acked_made none_law.timed count d.state place)
+-- none in a session
+none_in_session : (near : ℕ) (from : AddressParts) (draws : Draws) (s : State) (xs : List WalkStep) → AreAllSmall xs → plain (steps_did (Session near) from draws s xs).entries ≡ []
+none_in_session near from draws s [] small = refl
+none_in_session near from draws s (x ∷ xs) small =
+    let d : Did = chunk_did (Session near) from draws x.walk s x.chunk in
+    none_after None None d.entries (steps_did (Session near) from draws d.state xs).entries [] (session_chunk_made none_law near from draws x.walk s x.chunk small.0) (none_in_session near from draws d.state xs small.1)
+
+-- These steps are over chunks of one packet, or all in a session.
+abbrev DrawsOnce : Place → List WalkStep → Type 0
+DrawsOnce place xs = ((cs : List Placed) × (xs ≡ in_order outset cs)) ⊎ ((near : ℕ) × (place ≡ Session near) × AreAllSmall xs)
+
+once_steps : (from : AddressParts) (draws : Draws) (s : State) (place : Place) (xs : List WalkStep) → DrawsOnce place xs → OneDraw draws.nonce (plain (steps_did place from draws s xs).entries)
+once_steps from draws s place xs (inl one) = subst (λ (ys : List WalkStep). OneDraw draws.nonce (plain (steps_did place from draws s ys).entries)) (sym one.1) (once_chunks place from draws one.0 outset s tt)
+once_steps from draws s place xs (inr session) =
+    inl (ap (λ (p : Place). plain (steps_did p from draws s xs).entries) session.1 ∙ none_in_session session.0 from draws s xs session.2)
+
+walk_once : (place : Place) (from : AddressParts) (draws : Draws) (s : State) (packet : Whole) → DrawsOnce place (walk_of place from draws s packet)
+walk_once (Startup generation) from draws s packet = inl (chunks_of packet, outside_sessions (Startup generation) refl from draws outset s (chunks_of packet))
+walk_once (Attempt near generation) from draws s packet = inl (chunks_of packet, outside_sessions (Attempt near generation) refl from draws outset s (chunks_of packet))
+walk_once (Session near) from draws s packet = inr (near, refl, small_steps packet (walk_of (Session near) from draws s packet) (walk_is packet (Session near) from draws s))
+
+part_once : (place : Place) (xs : List WalkStep) (count : ℕ) → DrawsOnce place xs → DrawsOnce place (take count xs)
+part_once place xs count (inl one) = inl (take count one.0, ap (take count) one.1 ∙ take_in_order count outset one.0)
+part_once place xs count (inr session) = inr (session.0, session.1, all_taken (λ x. AreSmall x.walk.cursor) count xs session.2)
+
+once_acked : (from : AddressParts) (draws : Draws) (s : State) (place : Place) (xs : List WalkStep) (count : ℕ) → DrawsOnce place xs → OneDraw draws.nonce (plain (walked_and_acked place from draws s xs count).entries)
+once_acked from draws s place xs count one =
+    let d : Did = steps_did place from draws s xs in
+    once_before None None draws.nonce d.entries (acked count d.state place).entries (once_steps from draws s place xs one) (acked_made none_law.timed count d.state place)
 
 -- once the session is confirmed, and with what comes last and draws none
-once_walked : (from : AddressParts) (draws : Draws) (s : State) (place : Place) (cs : List Placed) (count : ℕ) (last : State → Did) → ((t : State) → plain (last t).entries ≡ []) →
-    OneDraw draws.nonce (plain (then_do (confirming s place) (λ t. then_do (walked_and_acked place from draws t cs count) last)).entries)
-once_walked from draws s place cs count last none =
+once_walked : (from : AddressParts) (draws : Draws) (s : State) (place : Place) (xs : State → List WalkStep) (count : ℕ) (last : State → Did) → ((t : State) → DrawsOnce place (xs t)) → ((t : State) → plain (last t).entries ≡ []) →
+    OneDraw draws.nonce (plain (then_do (confirming s place) (λ t. then_do (walked_and_acked place from draws t (xs t) count) last)).entries)
+once_walked from draws s place xs count last one none =
     let first : Did = confirming s place in
-    let d : Did = walked_and_acked place from draws first.state cs count in
+    let d : Did = walked_and_acked place from draws first.state (xs first.state) count in
     once_after None None draws.nonce first.entries (d.entries ++ (last d.state).entries) (confirming_made none_quiet s place)
-    (once_before None None draws.nonce d.entries (last d.state).entries (once_acked from draws first.state place cs count) (none d.state))
+    (once_before None None draws.nonce d.entries (last d.state).entries (once_acked from draws first.state place (xs first.state) count (one first.state)) (none d.state))
 
 once_received : (from : AddressParts) (draws : Draws) (a : Admission) → OneDraw draws.nonce (plain (received from draws a).entries)
 once_received from draws (Rejected s cause) = inl refl
-once_received from draws (Admitted s place packet) = once_walked from draws s place (chunks_of packet) most_acks (λ t. tested_at t place from draws) (λ t. tested_made none_quiet t place from draws tt)
+once_received from draws (Admitted s place packet) = once_walked from draws s place (λ t. walk_of place from draws t packet) most_acks (λ t. tested_at t place from draws) (λ t. walk_once place from draws t packet) (λ t. tested_made none_quiet t place from draws tt)
 
 once_part : (from : AddressParts) (draws : Draws) (a : Admission) (count acks : ℕ) → OneDraw draws.nonce (plain (part_received from draws a count acks).entries)
 once_part from draws (Rejected s cause) count acks = inl refl
-once_part from draws (Admitted s place packet) count acks = once_walked from draws s place (take count (chunks_of packet)) acks (λ t. nothing (unowed t place)) (λ t. refl)
+once_part from draws (Admitted s place packet) count acks = once_walked from draws s place (λ t. take count (walk_of place from draws t packet)) acks (λ t. nothing (unowed t place)) (λ t. part_once place (walk_of place from draws t packet) count (walk_once place from draws t packet)) (λ t. refl)
 
 once_stopped : (s : State) (from : AddressParts) (draws : Draws) (a : Admission) (stop : Stop) (acks : ℕ) → OneDraw draws.nonce (plain (stopped s from draws a stop acks).entries)
 once_stopped s from draws a stop acks = by stop.taken

@@ -1,6 +1,6 @@
--- What is so of the flows of each session, at every moment: it is so of none, and all that is done
--- with flows keeps it.
-use Rattle.std.proofs.Common.{◌≡◌, ℕ, List, [], ◌∷◌, Option, Some, None, inl, inr, refl, sym, subst}
+-- What is so of the row of each session, at every moment: it is so of a new one, and all that is
+-- done with a row keeps it. And what is so of the flows of each session alone.
+use Rattle.std.proofs.Common.{◌≡◌, ℕ, List, [], ◌∷◌, Option, Some, None, inl, inr, sym, subst}
 use Rattle.std.specs.Ordering.{nat_cmp}
 use Rattle.std.specs.FinMap.{get, insert, remove, get-empty}
 use Rattle.rtmfp_base.proofs.Maps.{found_inserted, found_left, none_is_some}
@@ -20,45 +20,40 @@ use Rattle.session_flows.specs.Packing.{pace_of, filled}
 use Rattle.session_flows.specs.declared.pace.Pace.{Pace}
 use Rattle.endpoint_model.specs.declared.row.Row.{Row}
 use Rattle.endpoint_model.specs.declared.entry.Entry.{Entry}
-use Rattle.endpoint_model.specs.State.{State, Sessions, Did, with_row, fresh, at_moment}
+use Rattle.endpoint_model.specs.State.{State, Sessions, Did, with_session, new_row, fresh}
+use Rattle.endpoint_model.specs.State.{at_moment}
 use Rattle.endpoint_model.specs.Sending.{packet_head}
 use Rattle.endpoint_model.specs.FlowCall.{FlowCall, flow_refusal, flow_did}
 use Rattle.endpoint_model.specs.Effects.{without_ended}
 use Rattle.endpoint_model.specs.Event.{Setup, Call, Answer, Event}
 use Rattle.endpoint_model.specs.Log.{Answers, Leads, StandsFor}
-use Rattle.endpoint_laws.proofs.Small.{Quiet, FlowThing, Called, Came, Acked, Unowed, Late, Overdue}
-use Rattle.endpoint_laws.proofs.Small.{Packed, on_flows, row_after, MayBe, IsNoChunk, Any, Timed}
-use Rattle.endpoint_laws.proofs.Small.{All, Begins, Enters, Succession}
+use Rattle.endpoint_laws.proofs.Small.{GoesOn, Quiet, FlowThing, Called, Came, Acked, Unowed}
+use Rattle.endpoint_laws.proofs.Small.{Late, Overdue, Packed, on_flows, row_after, MayBe}
+use Rattle.endpoint_laws.proofs.Small.{IsNoChunk, Any, Timed, All, Begins, Enters, Succession}
 use Rattle.endpoint_laws.proofs.Made.{timed_law, all_law, CallsDo, WasMade, answers_made}
 use Rattle.glare_core.specs.Calls.{way_made}
 
--- ---- by the session ID, and without the chunks that came
+-- ---- rows, by the session ID, and without the chunks that came
 
-module _ (P : ℕ → FlowsState → Type 0) where
-  -- It is so of no flows, and what is done with the flows of a session keeps it, but for a chunk
-  -- that came.
+module _ (P : ℕ → Row → Type 0) where
+  -- It is so of a new row, and what is done with a row keeps it, but for a chunk of flows that
+  -- came.
   pub record IsKeptAlone : Type 0 where
-    pub none : (near : ℕ) → P near no_flows
-    pub called : (near : ℕ) (f : FlowsState) (c : FlowCall) → flow_refusal f c ≡ None → P near f →
-        P near (flow_did f c).flows
-    pub acked : (near : ℕ) (f : FlowsState) (packet : List ℕ) → P near f →
-        P near (after_acks f packet)
-    pub unowed : (near : ℕ) (f : FlowsState) → P near f → P near (owing_none f)
-    pub late : (near : ℕ) (session : SessionState) (f : FlowsState) (moment : ℕ) → P near f →
-        P near (after_late session f moment)
-    pub overdue : (near : ℕ) (f : FlowsState) (flow seq : ℕ) → P near f →
-        P near (overdue_done f (Some (flow, seq))).flows
-    pub sent : (near : ℕ) (pace : Pace) (f : FlowsState) (packet : List ℕ) → P near f →
-        P near (with_sending f (filled pace f.sending packet).sending)
+    pub begins : (near : ℕ) (session : SessionState) → P near (new_row session)
+    pub changed : (near : ℕ) (row : Row) (session : SessionState) → P near row →
+        P near (record row { session = session })
+    pub goes_on : (near : ℕ) (old new : Row) → GoesOn old new → P near old → P near new
+    pub alone : (near moment : ℕ) (row : Row) (thing : FlowThing) → MayBe row thing →
+        IsNoChunk thing → P near row → P near (row_after moment row thing)
 
   -- And so does a chunk.
   abbrev pub ChunksKeep : Type 0
-  ChunksKeep = (near : ℕ) (session : SessionState) (f : FlowsState) (c : DataChunk) → FitsIn c →
-      flows_cause session f c ≡ None → P near f → P near (chunk_done f c).flows
+  ChunksKeep = (near moment : ℕ) (row : Row) (c : DataChunk) → MayBe row (Came c) → P near row →
+      P near (row_after moment row (Came c))
 
-  -- It is so of the flows of each session.
+  -- It is so of the row of each session.
   abbrev pub InEach : Sessions → Type 0
-  InEach sessions = (near : ℕ) (row : Row) → get sessions near ≡ Some row → P near row.flows
+  InEach sessions = (near : ℕ) (row : Row) → get sessions near ≡ Some row → P near row
 
   abbrev pub Each : State → Type 0
   Each s = InEach s.sessions
@@ -66,12 +61,12 @@ module _ (P : ℕ → FlowsState → Type 0) where
   abbrev pub Keeps : State → Did → Type 0
   Keeps s d = Each s → Each d.state
 
-  -- ---- rows
+  -- ---- one row
 
-  pub put : (m : Sessions) (near : ℕ) (row : Row) → P near row.flows → InEach m →
+  pub put : (m : Sessions) (near : ℕ) (row : Row) → P near row → InEach m →
       InEach (insert m near row)
   put m near row p each q r e = elim (found_inserted m near row q r e) [
-    | inl is ↦ subst (λ (x : Row). P q x.flows) is.1 (subst (λ (n : ℕ). P n row.flows) (sym is.0) p)
+    | inl is ↦ subst (λ (x : Row). P q x) is.1 (subst (λ (n : ℕ). P n row) (sym is.0) p)
     | inr is ↦ each q r is.1
   ]
 
@@ -79,11 +74,10 @@ module _ (P : ℕ → FlowsState → Type 0) where
     left : (m : Sessions) (near : ℕ) → InEach m → InEach (remove m near)
     left m near each q r e = each q r (found_left m near q r e).1
 
-    -- the session in a row is changed, or its moves are
-    keeps_put : (s : State) (near : ℕ) (old new : Row) → get s.sessions near ≡ Some old →
-        new.flows ≡ old.flows → Each s → Each (with_row s near new)
-    keeps_put s near old new is flows each = put s.sessions near new
-        (subst (λ (f : FlowsState). P near f) (sym flows) (each near old is)) each
+    keeps_session : (s : State) (near : ℕ) (row : Row) (session : SessionState) →
+        get s.sessions near ≡ Some row → Each s → Each (with_session s near row session)
+    keeps_session s near row session is each = put s.sessions near
+        (record row { session = session }) (kept.changed near row session (each near row is)) each
 
     ended_left : (m : Sessions) (o : Option Fact) → InEach m → InEach (without_ended m o)
     ended_left m None each = each
@@ -95,19 +89,6 @@ module _ (P : ℕ → FlowsState → Type 0) where
 
     -- ---- small things
 
-    flows_kept : (near moment : ℕ) (row : Row) (thing : FlowThing) → MayBe row thing →
-        IsNoChunk thing → P near row.flows → P near (row_after moment row thing).flows
-    flows_kept near moment row (Called call) may alone p = kept.called near row.flows call may p
-    flows_kept near moment row (Came chunk) may alone p = absurd alone
-    flows_kept near moment row Acked may alone p = kept.acked near row.flows
-        (packet_head row.session moment) p
-    flows_kept near moment row Unowed may alone p = kept.unowed near row.flows p
-    flows_kept near moment row Late may alone p = kept.late near row.session row.flows moment p
-    flows_kept near moment row (Overdue flow seq) may alone p =
-        kept.overdue near row.flows flow seq p
-    flows_kept near moment row Packed may alone p = kept.sent near (pace_of row.session moment)
-        row.flows (packet_head row.session moment) p
-
     pub each_quiet : Quiet Any Keeps
     each_quiet = record {
       sends = record {
@@ -117,7 +98,7 @@ module _ (P : ℕ → FlowsState → Type 0) where
         };
         out = λ s generation keys to sid plain each. each;
         out_in = λ s near row to body is carries.
-            keeps_put s near row (record row { session = after_seal row.session }) is refl;
+            keeps_session s near row (after_seal row.session) is;
       };
       attempts = λ s startup kin each. each;
       close = tt;
@@ -130,14 +111,15 @@ module _ (P : ℕ → FlowsState → Type 0) where
       closes = λ s near. left s.sessions near;
       forgets = λ s near. left s.sessions near;
       moves = λ s near to each. each;
-      goes_on = λ s near old new is goes. keeps_put s near old new is goes.flows;
+      goes_on = λ s near old new is goes each. put s.sessions near new
+          (kept.goes_on near old new goes (each near old is)) each;
     }
 
     on_each : (s : State) (near : ℕ) (row : Row) (thing : FlowThing) →
         get s.sessions near ≡ Some row → MayBe row thing → IsNoChunk thing →
         Keeps s (on_flows s near row thing)
     on_each s near row thing is may alone each = put s.sessions near _
-        (flows_kept near s.moment row thing may alone (each near row is)) each
+        (kept.alone near s.moment row thing may alone (each near row is)) each
 
     pub each_timed : Timed Any Keeps
     each_timed = timed_law each_quiet on_each
@@ -152,14 +134,13 @@ module _ (P : ℕ → FlowsState → Type 0) where
       starts = λ s startup peer n near ni kin each. each;
       seeks = λ s startup near name kin each. each;
       bears = λ s generation peer o j from each. put (without_ended s.sessions (way_made peer o)) j.near _
-          (kept.none j.near) (ended_left s.sessions (way_made peer o) each);
-      opens = λ s startup j from kin each. put s.sessions j.near _ (kept.none j.near) each;
+          (kept.begins j.near _) (ended_left s.sessions (way_made peer o) each);
+      opens = λ s startup j from kin each. put s.sessions j.near _ (kept.begins j.near _) each;
     }
 
     pub each_enters : Enters Keeps
     each_enters = record {
-      counts = λ s near row session is.
-          keeps_put s near row (record row { session = session }) is refl;
+      counts = λ s near row session is. keeps_session s near row session is;
       unseen = λ s introduces rows each. each;
     }
 
@@ -175,7 +156,7 @@ module _ (P : ℕ → FlowsState → Type 0) where
         by : (s : State) (near : ℕ) (row : Row) (thing : FlowThing) →
             get s.sessions near ≡ Some row → MayBe row thing → Keeps s (on_flows s near row thing)
         by s near row (Came c) is may each = put s.sessions near _
-            (chunk near row.session row.flows c may.0 may.1 (each near row is)) each
+            (chunk near s.moment row c may (each near row is)) each
         by s near row (Called call) is may each = on_each s near row (Called call) is may tt each
         by s near row Acked is may each = on_each s near row Acked is may tt each
         by s near row Unowed is may each = on_each s near row Unowed is may tt each
@@ -197,14 +178,64 @@ module _ (P : ℕ → FlowsState → Type 0) where
       let one = answers (at_moment s e.moment) leads.0 e.call e.answer e.entries leads.1 in
       keeps_leads answers events leads.0 t (subst Each (sym one.does.state) (one.made each)) leads.2
 
-  -- In every log it is so of the flows of each session.
+  -- In every log it is so of the row of each session.
   pub after_every_log : AnswersKeep → (setup : Setup) (log : List Event) (s : State) →
       StandsFor setup log s → Each s
   after_every_log answers setup log s stands = keeps_leads answers log (fresh setup) s
       (λ near row e. absurd (none_is_some row (get (fresh setup).sessions near)
       (get-empty nat_cmp near) e)) stands
 
--- ---- of each session alike
+  pub in_every_log : IsKeptAlone → ChunksKeep → (setup : Setup) (log : List Event) (s : State) →
+      StandsFor setup log s → Each s
+  in_every_log kept chunk = after_every_log (answers_made (each_law kept chunk) (each_begins kept)
+      (each_enters kept) (each_succession kept))
+
+-- ---- flows, by the session ID, and without the chunks that came
+
+module _ (P : ℕ → FlowsState → Type 0) where
+  -- It is so of no flows, and what is done with the flows of a session keeps it, but for a chunk
+  -- that came.
+  pub record AreKeptAlone : Type 0 where
+    pub none : (near : ℕ) → P near no_flows
+    pub called : (near : ℕ) (f : FlowsState) (c : FlowCall) → flow_refusal f c ≡ None → P near f →
+        P near (flow_did f c).flows
+    pub acked : (near : ℕ) (f : FlowsState) (packet : List ℕ) → P near f →
+        P near (after_acks f packet)
+    pub unowed : (near : ℕ) (f : FlowsState) → P near f → P near (owing_none f)
+    pub late : (near : ℕ) (session : SessionState) (f : FlowsState) (moment : ℕ) → P near f →
+        P near (after_late session f moment)
+    pub overdue : (near : ℕ) (f : FlowsState) (flow seq : ℕ) → P near f →
+        P near (overdue_done f (Some (flow, seq))).flows
+    pub sent : (near : ℕ) (pace : Pace) (f : FlowsState) (packet : List ℕ) → P near f →
+        P near (with_sending f (filled pace f.sending packet).sending)
+
+  -- It is so of the flows in a row.
+  abbrev pub OfFlows : ℕ → Row → Type 0
+  OfFlows near row = P near row.flows
+
+  module _ (kept : AreKeptAlone) where
+    flows_kept : (near moment : ℕ) (row : Row) (thing : FlowThing) → MayBe row thing →
+        IsNoChunk thing → P near row.flows → P near (row_after moment row thing).flows
+    flows_kept near moment row (Called call) may alone p = kept.called near row.flows call may p
+    flows_kept near moment row (Came chunk) may alone p = absurd alone
+    flows_kept near moment row Acked may alone p = kept.acked near row.flows
+        (packet_head row.session moment) p
+    flows_kept near moment row Unowed may alone p = kept.unowed near row.flows p
+    flows_kept near moment row Late may alone p = kept.late near row.session row.flows moment p
+    flows_kept near moment row (Overdue flow seq) may alone p =
+        kept.overdue near row.flows flow seq p
+    flows_kept near moment row Packed may alone p = kept.sent near (pace_of row.session moment)
+        row.flows (packet_head row.session moment) p
+
+    pub in_rows : IsKeptAlone OfFlows
+    in_rows = record {
+      begins = λ near session. kept.none near;
+      changed = λ near row session h. h;
+      goes_on = λ near old new goes h. subst (λ (f : FlowsState). P near f) (sym goes.flows) h;
+      alone = flows_kept;
+    }
+
+-- ---- of the flows of each session alike
 
 module _ (P : FlowsState → Type 0) where
   -- It is so of no flows, and what is done with the flows of a session keeps it.
@@ -223,8 +254,8 @@ module _ (P : FlowsState → Type 0) where
     pub sent : (pace : Pace) (f : FlowsState) (packet : List ℕ) → P f →
         P (with_sending f (filled pace f.sending packet).sending)
 
-  kept_alone : IsKept → IsKeptAlone (λ near f. P f)
-  kept_alone kept = record {
+  alone_kept : IsKept → AreKeptAlone (λ near f. P f)
+  alone_kept kept = record {
     none = λ near. kept.none;
     called = λ near. kept.called;
     acked = λ near. kept.acked;
@@ -235,10 +266,8 @@ module _ (P : FlowsState → Type 0) where
   }
 
   -- In every log it is so of the flows of each session.
-  pub in_every_log : IsKept → (setup : Setup) (log : List Event) (s : State) →
-      StandsFor setup log s → Each (λ near f. P f) s
-  in_every_log kept =
-      let alone = kept_alone kept in
-      after_every_log (λ near f. P f) (answers_made (each_law (λ near f. P f) alone
-      (λ near. kept.chunk)) (each_begins (λ near f. P f) alone)
-      (each_enters (λ near f. P f) alone) (each_succession (λ near f. P f) alone))
+  pub flows_in_every_log : IsKept → (setup : Setup) (log : List Event) (s : State) →
+      StandsFor setup log s → Each (OfFlows (λ near f. P f)) s
+  flows_in_every_log kept = in_every_log (OfFlows (λ near f. P f))
+      (in_rows (λ near f. P f) (alone_kept kept))
+      (λ near moment row c may. kept.chunk row.session row.flows c may.0 may.1)

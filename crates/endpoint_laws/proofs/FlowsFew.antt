@@ -61,7 +61,7 @@ use Rattle.session_flows.proofs.Indexed.{changed_added}
 use Rattle.endpoint_model.specs.FlowCall.{FlowCall, OpenFlow, Queue, Abandon, Finish}
 use Rattle.endpoint_model.specs.FlowCall.{flow_did, flow_refusal}
 use Rattle.endpoint_laws.specs.Within.{FlowsHoldFew, SendsFew, TakesFew}
-use Rattle.endpoint_laws.proofs.EachRow.{IsKept, in_every_log}
+use Rattle.endpoint_laws.proofs.EachRow.{IsKept, flows_in_every_log}
 use Rattle.endpoint_laws.proofs.Facts.{first_none}
 
 -- ---- each of a list
@@ -491,7 +491,7 @@ all_is_kept = record {
 
 pub flows_hold_few : FlowsHoldFew
 flows_hold_few setup log s near row stands there =
-    let h = in_every_log AreWell all_is_kept setup log s stands near row there in
+    let h = flows_in_every_log AreWell all_is_kept setup log s stands near row there in
     record {
       sending = all_so IsSteady (λ f. SendsFew f.sender)
           (λ f k. record {

@@ -54,7 +54,7 @@ use Rattle.session_flows.proofs.Within.{in_place}
 use Rattle.endpoint_model.specs.FlowCall.{FlowCall, OpenFlow, Queue, Abandon, Finish, flow_refusal}
 use Rattle.endpoint_model.specs.FlowCall.{flow_did}
 use Rattle.endpoint_laws.specs.Within.{FlowsAreWithin}
-use Rattle.endpoint_laws.proofs.EachRow.{IsKept, in_every_log}
+use Rattle.endpoint_laws.proofs.EachRow.{IsKept, flows_in_every_log}
 use Rattle.endpoint_laws.proofs.Facts.{first_none}
 
 -- ---- a call
@@ -303,4 +303,4 @@ sound_is_kept = record {
 
 pub flows_are_within : FlowsAreWithin
 flows_are_within setup log s near row stands there =
-    in_every_log IsSound sound_is_kept setup log s stands near row there
+    flows_in_every_log IsSound sound_is_kept setup log s stands near row there

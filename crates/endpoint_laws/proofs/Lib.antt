@@ -3,6 +3,7 @@ mod Knowing
 pub mod Walks
 pub mod Small
 pub mod ByKind
+pub mod Stepping
 pub mod Made
 pub mod Succeeding
 pub mod Groups
@@ -56,6 +57,7 @@ mod OutSessions
 mod OutAcks
 mod Few
 mod FlowChunks
+mod Pieces
 mod OutChunks
 mod Counted
 mod Counts
@@ -79,6 +81,7 @@ mod Complete
 mod AllHanded
 mod FlowsWithin
 mod FlowsFew
+mod PiecesFew
 mod Components
 pub mod EachRow
 mod EventTold

@@ -35,7 +35,7 @@ use Rattle.glare_core.specs.declared.facts.Held.TheVariants.{HalfOpen, KeptAsIni
 use Rattle.glare_core.specs.declared.facts.Held.{Held}
 use Rattle.startup.specs.declared.attempt.Stage.TheVariants.{Hello, Keying}
 use Rattle.startup.specs.declared.kept.KeptKeying.{KeptKeying}
-use Rattle.endpoint_model.specs.Effects.{Hellos, InSession, InStartup, Introduction, Reply, Silence, seeking, unseeking, cancelling, chunk_did, chunks_did, due_done, forwarded, initiator_keyed, keying_done, most_acks, opening, opening_done, outset, part_received, read_done, read_fact, read_left, read_reply, received, replied, responder_keyed, tick_once, ticks, walked, walked_and_acked, with_opened}
+use Rattle.endpoint_model.specs.Effects.{Hellos, InSession, InStartup, Introduction, Reply, Silence, seeking, unseeking, cancelling, chunk_did, chunks_did, steps_did, WalkStep, in_order, walk_of, due_done, forwarded, initiator_keyed, keying_done, most_acks, opening, opening_done, part_received, read_done, read_fact, read_left, read_reply, received, replied, responder_keyed, tick_once, ticks, walked_and_acked, with_opened}
 use Rattle.session_core.specs.declared.stage.SessionDue.TheVariants.{Idle, Over, RepeatClose, Unconfirmed}
 use Rattle.startup_packets.specs.Readings.{InitiatorKeying, ResponderKeying, initiator_keying_in, responder_keying_in}
 use Rattle.startup.specs.Keyings.{after_keying, after_opening, again_by, again_or_birth, born_session, change_answer, kept_answer, keyed_reading, keyed_with, keying_of, opened_as, opened_reading, opened_with, repeated_session, session_answer}
@@ -62,12 +62,16 @@ use Rattle.startup.specs.Due.{repeat_of, repeat_under}
 use Rattle.session_core.specs.Closing.{first_due as session_first_due, after_due as after_due_in, asked_to_close, closed_near, is_held, is_near_close, kept_alive, needs_keepalive}
 use Rattle.endpoint_model.specs.FlowTimes.{end_due, abandon_due, all_late, data_body, row_due, row_due_done}
 use Rattle.endpoint_model.specs.OnFlows.{call_refusal, call_refusal_by, flow_called, flow_called_by, flows_done}
-use Rattle.endpoint_laws.proofs.ByKind.{chunk_by_kind}
+use Rattle.endpoint_laws.proofs.ByKind.{is_taken, chunk_by_kind}
+use Rattle.endpoint_laws.proofs.Stepping.{AreAllSmall, small_in_order, small_steps, walk_is, part_is}
 use Rattle.endpoint_laws.proofs.Spelled.{hello_kind}
 use Rattle.rtmfp_chunks.specs.Writing.{chunk_bytes}
 use Rattle.endpoint_model.specs.Causes.{initiator_keying_cause, takes}
 use Rattle.rtmfp_chunks.specs.FieldReading.{chunk_reading}
-use Rattle.endpoint_model.specs.Keying.{chunks_of}
+use Rattle.rtmfp_fragments.specs.Pieces.{PieceParts, piece}
+use Rattle.rtmfp_fragments.specs.Answers.{taken}
+use Rattle.rtmfp_fragments.proofs.Limits.{limits_taken}
+use Rattle.endpoint_model.specs.Gathering.{fault_entries, whole_by, whole_cause, whole_faults, gathered_more, piece_taken_by, piece_taken}
 use Rattle.endpoint_model.specs.InSessions.{close_taken_by, closing, closing_by, dropped, ended_as, held_row, if_held, kept_alive_by, lingering, moved_by, moved_where, sent_home, sent_home_by, session_due_done, tested as tested_at, tested_by, told_in_session}
 use Rattle.rtmfp_base.specs.Reasons.{where_true, first_that_stands}
 use Rattle.glare_core.specs.Calls.{confirmed_fact, ended_fact, started_fact, way_made}
@@ -81,7 +85,7 @@ use Rattle.glare_core.specs.Ledger.{held_with, noted}
 use Rattle.endpoint_model.specs.Succession.{advancing, advancing_to, no_next}
 use Rattle.endpoint_model.specs.Sending.{is_spent, last_count, sent_answer, sent_by, sent_each, sent_if, sent_in_session, sent_spread, sent_startup}
 use Rattle.sha2.specs.Sha256.{sha256}
-use Rattle.rtmfp_data_chunks.proofs.Fitting.{small_next, what_is_read_fits}
+use Rattle.rtmfp_data_chunks.proofs.Fitting.{what_is_read_fits}
 use Rattle.endpoint_laws.proofs.Small.{FlowThing, GoesOn, Called, Came, Acked, Unowed, Late, Overdue, Packed, on_flows, birth, stated, began, MayBe, IsNoChunk, Any, Sends, Quiet, Timed, All, Begins, Enters, Succession}
 use Rattle.startup.specs.Due.{repeated}
 use Rattle.startup.specs.Attempts.{with_attempt, without_attempt_by}
@@ -201,7 +205,7 @@ module _ {Body : List ℕ → Type 0} {P : State → Did → Type 0} (l : Sends 
 -- ---- sessions that go on
 
 same_goes : (row : Row) → GoesOn row row
-same_goes row = record { descends = descends_same row.session; flows = refl }
+same_goes row = record { descends = descends_same row.session; flows = refl; pieces = λ h. h }
 
 not_opening : (stage : Stage) → is_opening (confirmed_stage stage) ≡ true → ⊥
 not_opening Opening e = cc
@@ -211,18 +215,18 @@ not_opening FarLinger e = cc
 not_opening Closed e = cc
 
 confirmed_goes : (row : Row) → GoesOn row (record row { session = confirmed row.session })
-confirmed_goes row = record { descends = record { same = refl; opening = λ e. absurd (not_opening row.session.stage e) }; flows = refl }
+confirmed_goes row = record { descends = record { same = refl; opening = λ e. absurd (not_opening row.session.stage e) }; flows = refl; pieces = λ h. h }
 
 closed_goes : (b : Bool) (moment : ℕ) (row : Row) → GoesOn row (record row { session = if b then record row.session { stage = NearClose; since = moment; close_sent = Some moment } else row.session })
-closed_goes true moment row = record { descends = record { same = refl; opening = λ e. absurd (cc) }; flows = refl }
+closed_goes true moment row = record { descends = record { same = refl; opening = λ e. absurd (cc) }; flows = refl; pieces = λ h. h }
 closed_goes false moment row = same_goes row
 
 lingering_goes : (b : Bool) (moment : ℕ) (row : Row) → GoesOn row (record row { session = if b then record row.session { stage = FarLinger; since = moment } else row.session })
-lingering_goes true moment row = record { descends = record { same = refl; opening = λ e. absurd (cc) }; flows = refl }
+lingering_goes true moment row = record { descends = record { same = refl; opening = λ e. absurd (cc) }; flows = refl; pieces = λ h. h }
 lingering_goes false moment row = same_goes row
 
 alive_goes : (b : Bool) (moment : ℕ) (row : Row) → GoesOn row (record row { session = if b then record row.session { keepalive = Some moment } else row.session })
-alive_goes true moment row = record { descends = record { same = refl; opening = λ e. (e, refl) }; flows = refl }
+alive_goes true moment row = record { descends = record { same = refl; opening = λ e. (e, refl) }; flows = refl; pieces = λ h. h }
 alive_goes false moment row = same_goes row
 
 pub held_is_there : (o : Option Row) (row : Row) → if_held o ≡ Some row → o ≡ Some row
@@ -314,11 +318,32 @@ module _ {Body : List ℕ → Type 0} {P : State → Did → Type 0} (q : Quiet 
       by moves (Some to) =
           let new : Row = record row { session = moved_to to row.session; moves = moves } in
           let t : State = with_row s near new in
-          q.sends.steps.and_then s (nothing t) _ (q.goes_on s near row new is (record { descends = record { same = refl; opening = λ e. (e, refl) }; flows = refl })) (q.moves t near to)
+          q.sends.steps.and_then s (nothing t) _ (q.goes_on s near row new is (record { descends = record { same = refl; opening = λ e. (e, refl) }; flows = refl; pieces = λ h. h })) (q.moves t near to)
 
   pub told_made : (s : State) (near : ℕ) (from : AddressParts) (c : Placed) → P s (told_in_session s near from c)
   told_made s near from c =
       either_made q.sends s (c.kind == 0x0c) _ _ (close_taken_made s near (get s.sessions near) refl) (either_made q.sends s (c.kind == 0x4c) _ _ (q.closes s near) (moved_made s near from c.payload (get s.sessions near) refl))
+
+  -- ---- pieces of packets
+
+  fault_made : (s : State) (at : ℕ) (o : Option Cause) → P s (record { state = s; entries = fault_entries at o })
+  fault_made s at None = q.sends.steps.does_nothing s
+  fault_made s at (Some cause) = q.discards s at cause
+
+  faults_made : (s t : State) (near at : ℕ) (o : Option (List ℕ)) → P t (record { state = t; entries = whole_faults s near at o })
+  faults_made s t near at None = q.sends.steps.does_nothing t
+  faults_made s t near at (Some packet) = fault_made t at (whole_cause s near (packet_in packet))
+
+  piece_by_made : (s : State) (near at id : ℕ) (x : PieceParts) (o : Option Row) → get s.sessions near ≡ o → P s (piece_taken_by s near at id x o)
+  piece_by_made s near at id x None is = q.sends.steps.does_nothing s
+  piece_by_made s near at id x (Some row) is =
+      let new : Row = gathered_more s.moment id x row in
+      let t : State = with_row s near new in
+      q.sends.steps.and_then s (nothing t) _ (q.goes_on s near row new is (record { descends = descends_same row.session; flows = refl; pieces = limits_taken (taken row.gathering id x s.moment).1 row.gathering new.gathering id s.moment x refl })) (faults_made s t near at (whole_by s.moment (Some row) id x))
+
+  pub piece_made : (s : State) (near at : ℕ) (read : Result Chunk ChunkFault) → P s (piece_taken s near at read)
+  piece_made s near at (Ok (Fragment more id number bytes)) = piece_by_made s near at id (piece number more bytes) (get s.sessions near) refl
+  piece_made s near at read = q.sends.steps.does_nothing s
 
   -- ---- tests of addresses, and confirming
 
@@ -328,7 +353,7 @@ module _ {Body : List ℕ → Type 0} {P : State → Did → Type 0} (q : Quiet 
       let new : Row = record row { moves = after_seen row.moves row.session.address from token s.moment } in
       let t : State = with_row s near new in
       either_made q.sends s (asks row.moves row.session.address from s.moment) _ _
-      (q.sends.steps.and_then s (nothing t) _ (q.goes_on s near row new (held_is_there (get s.sessions near) row is) (record { descends = descends_same row.session; flows = refl })) (in_session_made q.sends t near from (chunk_bytes (Ping token)) carries))
+      (q.sends.steps.and_then s (nothing t) _ (q.goes_on s near row new (held_is_there (get s.sessions near) row is) (record { descends = descends_same row.session; flows = refl; pieces = λ h. h })) (in_session_made q.sends t near from (chunk_bytes (Ping token)) carries))
       (q.sends.steps.does_nothing s)
 
   pub tested_made : (s : State) (place : Place) (from : AddressParts) (draws : Draws) → Body (chunk_bytes (Ping draws.token)) → P s (tested_at s place from draws)
@@ -368,7 +393,7 @@ module _ {Body : List ℕ → Type 0} {P : State → Did → Type 0} (q : Quiet 
   session_due_made s near row Over is = q.closes s near
   session_due_made s near row RepeatClose is =
       let new : Row = record row { session = after_due_in (Some RepeatClose) s.moment row.session } in
-      and_home_made q.sends s near (chunk_bytes CloseChunk) (nothing (with_row s near new)) (q.goes_on s near row new is (record { descends = record { same = refl; opening = λ e. (e, refl) }; flows = refl })) q.close
+      and_home_made q.sends s near (chunk_bytes CloseChunk) (nothing (with_row s near new)) (q.goes_on s near row new is (record { descends = record { same = refl; opening = λ e. (e, refl) }; flows = refl; pieces = λ h. h })) q.close
 
 -- ---- responders' hellos come in the startup context alone
 
@@ -473,12 +498,13 @@ module _ {Body : List ℕ → Type 0} {P : State → Did → Type 0} (a : All Bo
       R (chunk_did place from draws walk s c)
   chunk_by R place from draws walk s c small up initiator responder hello = chunk_by_kind R place from draws walk s c (record {
     discarded = λ cause. up _ (a.timed.quiet.discards s c.at cause);
-    initiator = λ kind taken none formed. initiator kind taken none;
-    responder = λ kind taken none formed. responder taken;
+    initiator = λ kind taken none formed. initiator kind (is_taken place walk 0x38 taken) none;
+    responder = λ kind taken none formed. responder (is_taken place walk 0x78 taken);
     told = λ told taken has. up _ (told_made a.timed.quiet s (sid_at place) from c);
     flows = λ is taken none. up _ (flow_taken_made s (sid_at place) (data_reading walk.cursor c.kind c.payload) (λ chunk read. (what_is_read_fits walk.cursor c.kind c.payload chunk small read).0) none);
+    piece = λ kind taken. up _ (piece_made a.timed.quiet s (sid_at place) c.at (chunk_reading c.kind c.payload));
     reads = λ taken formed none.
-        by_hello (λ read. chunk_reading c.kind c.payload ≡ read → R (read_done s place from read)) (λ tag cookie cert is. hello tag cookie cert is taken)
+        by_hello (λ read. chunk_reading c.kind c.payload ≡ read → R (read_done s place from read)) (λ tag cookie cert is. hello tag cookie cert is (is_taken place walk c.kind taken))
         (λ read other is. up _ (quiet_read_made a.timed.quiet s place from read other (carries_any Body a.bodies (read_reply s place from read)))) (chunk_reading c.kind c.payload) refl;
   })
 
@@ -705,25 +731,28 @@ module _ {Body : List ℕ → Type 0} {Q P : State → Did → Type 0} (a : All 
   chunk_made place from draws walk s c small =
       chunk_by a (P s) place from draws walk s c small (b.quiet s) (λ kind taken none. initiator_at a.timed.quiet b place s from draws c.payload taken) (λ taken. responder_made a.timed.quiet b s (sid_at place) from c.payload) (λ tag cookie cert is taken. hello_made a.timed.quiet b s place from tag cookie cert)
 
-  pub chunks_made : (place : Place) (from : AddressParts) (draws : Draws) (walk : Walk) (s : State) (cs : List Placed) → AreSmall walk.cursor → P s (chunks_did place from draws walk s cs)
-  chunks_made place from draws walk s [] small = b.steps.does_nothing s
-  chunks_made place from draws walk s (c ∷ cs) small =
-      let d : Did = chunk_did place from draws walk s c in
-      b.steps.and_then s d _ (chunk_made place from draws walk s c small) (chunks_made place from draws (walked walk c) d.state cs (small_next walk.cursor c.kind c.payload small))
+  pub steps_made : (place : Place) (from : AddressParts) (draws : Draws) (s : State) (xs : List WalkStep) → AreAllSmall xs → P s (steps_did place from draws s xs)
+  steps_made place from draws s [] small = b.steps.does_nothing s
+  steps_made place from draws s (x ∷ xs) small =
+      let d : Did = chunk_did place from draws x.walk s x.chunk in
+      b.steps.and_then s d (steps_did place from draws d.state xs) (chunk_made place from draws x.walk s x.chunk small.0) (steps_made place from draws d.state xs small.1)
 
-  acked_after_made : (from : AddressParts) (draws : Draws) (s : State) (place : Place) (cs : List Placed) (count : ℕ) → P s (walked_and_acked place from draws s cs count)
-  acked_after_made from draws s place cs count =
-      let went : Did = chunks_did place from draws outset s cs in
-      b.steps.and_then s went (acked count went.state place) (chunks_made place from draws outset s cs tt) (b.quiet went.state _ (acked_made a.timed count went.state place))
+  pub chunks_made : (place : Place) (from : AddressParts) (draws : Draws) (walk : Walk) (s : State) (cs : List Placed) → AreSmall walk.cursor → P s (chunks_did place from draws walk s cs)
+  chunks_made place from draws walk s cs small = steps_made place from draws s (in_order walk cs) (small_in_order walk cs small)
+
+  acked_after_made : (from : AddressParts) (draws : Draws) (s : State) (place : Place) (xs : List WalkStep) (count : ℕ) → AreAllSmall xs → P s (walked_and_acked place from draws s xs count)
+  acked_after_made from draws s place xs count small =
+      let went : Did = steps_did place from draws s xs in
+      b.steps.and_then s went (acked count went.state place) (steps_made place from draws s xs small) (b.quiet went.state _ (acked_made a.timed count went.state place))
 
   -- once the session is confirmed, and with what comes last
-  walked_made : (from : AddressParts) (draws : Draws) (s : State) (place : Place) (cs : List Placed) (count : ℕ) (last : State → Did) → ((t : State) → P t (last t)) →
-      P s (then_do (confirming s place) (λ t. then_do (walked_and_acked place from draws t cs count) last))
-  walked_made from draws s place cs count last ends =
+  walked_made : (from : AddressParts) (draws : Draws) (s : State) (place : Place) (xs : State → List WalkStep) (count : ℕ) (last : State → Did) → ((t : State) → AreAllSmall (xs t)) → ((t : State) → P t (last t)) →
+      P s (then_do (confirming s place) (λ t. then_do (walked_and_acked place from draws t (xs t) count) last))
+  walked_made from draws s place xs count last small ends =
       let first : Did = confirming s place in
-      let went : Did = walked_and_acked place from draws first.state cs count in
+      let went : Did = walked_and_acked place from draws first.state (xs first.state) count in
       b.steps.and_then s first (then_do went last) (b.quiet s first (confirming_made a.timed.quiet s place))
-      (b.steps.and_then first.state went (last went.state) (acked_after_made from draws first.state place cs count) (ends went.state))
+      (b.steps.and_then first.state went (last went.state) (acked_after_made from draws first.state place (xs first.state) count (small first.state)) (ends went.state))
 
   -- ---- a datagram, and a call
 
@@ -732,13 +761,13 @@ module _ {Body : List ℕ → Type 0} {Q P : State → Did → Type 0} (a : All 
     received_made s from draws (Rejected t cause) entered = b.steps.and_then s (nothing t) _ entered (b.quiet t _ (a.timed.quiet.discards t 0 cause))
     received_made s from draws (Admitted t place packet) entered =
         b.steps.and_then s (nothing t) (received from draws (Admitted t place packet)) entered
-        (walked_made from draws t place (chunks_of packet) most_acks (λ u. tested_at u place from draws) (λ u. b.quiet u _ (tested_made a.timed.quiet u place from draws (a.bodies (chunk_bytes (Ping draws.token))))))
+        (walked_made from draws t place (λ u. walk_of place from draws u packet) most_acks (λ u. tested_at u place from draws) (λ u. small_steps packet (walk_of place from draws u packet) (walk_is packet place from draws u)) (λ u. b.quiet u _ (tested_made a.timed.quiet u place from draws (a.bodies (chunk_bytes (Ping draws.token))))))
 
     part_made : (s : State) (from : AddressParts) (draws : Draws) (d : Admission) (count acks : ℕ) → P s (nothing (left_by d)) → P s (part_received from draws d count acks)
     part_made s from draws (Rejected t cause) count acks entered = entered
     part_made s from draws (Admitted t place packet) count acks entered =
         b.steps.and_then s (nothing t) (part_received from draws (Admitted t place packet) count acks) entered
-        (walked_made from draws t place (take count (chunks_of packet)) acks (λ u. nothing (unowed u place)) (λ u. b.quiet u _ (unowed_made a.timed u place)))
+        (walked_made from draws t place (λ u. take count (walk_of place from draws u packet)) acks (λ u. nothing (unowed u place)) (λ u. small_steps packet (take count (walk_of place from draws u packet)) (part_is packet place from draws u count)) (λ u. b.quiet u _ (unowed_made a.timed u place)))
 
     stopped_made : (s : State) (from : AddressParts) (draws : Draws) (d : Admission) (stop : Stop) (acks : ℕ) → P s (nothing (left_by d)) → P s (stopped s from draws d stop acks)
     stopped_made s from draws d stop acks entered = by stop.taken

@@ -17,7 +17,7 @@ use Rattle.rtmfp_data_chunks.specs.Chunk.{DataChunk}
 use Rattle.rtmfp_data_chunks.specs.Fitting.{AreSmall, FitsIn}
 use Rattle.rtmfp_data_chunks.specs.Reader.{data_reading}
 use Rattle.rtmfp_data_chunks.specs.declared.view.DataFault.{DataFault}
-use Rattle.rtmfp_data_chunks.proofs.Fitting.{small_next, what_is_read_fits}
+use Rattle.rtmfp_data_chunks.proofs.Fitting.{what_is_read_fits}
 use Rattle.session_core.specs.Session.{context_of, head_at}
 use Rattle.session_core.specs.Sealed.{after_seal}
 use Rattle.endpoint_model.specs.declared.entry.Entry.TheVariants.{Out}
@@ -35,13 +35,12 @@ use Rattle.endpoint_model.specs.declared.walk.Walk.{Walk}
 use Rattle.endpoint_model.specs.Admission.{Admission, Admitted, Rejected, admission, confirming}
 use Rattle.endpoint_model.specs.Admission.{sid_at}
 use Rattle.endpoint_model.specs.Causes.{takes}
-use Rattle.endpoint_model.specs.Effects.{chunk_did, chunks_did, most_acks, outset, part_received}
-use Rattle.endpoint_model.specs.Effects.{read_reply, received, walked}
+use Rattle.endpoint_model.specs.Effects.{WalkStep, chunk_did, steps_did, most_acks, part_received}
+use Rattle.endpoint_model.specs.Effects.{read_reply, received, walk_of}
 use Rattle.endpoint_model.specs.FlowChunks.{acked, acked_by, acked_if, acked_in, acks_body}
 use Rattle.endpoint_model.specs.FlowChunks.{flow_cause, flow_taken, flow_taken_by, is_of_flows}
 use Rattle.endpoint_model.specs.FlowChunks.{owes_by, taking_cause, unowed, unowed_by}
 use Rattle.endpoint_model.specs.InSessions.{sent_home_by}
-use Rattle.endpoint_model.specs.Keying.{chunks_of}
 use Rattle.endpoint_model.specs.Log.{stopped}
 use Rattle.endpoint_model.specs.OnFlows.{with_flows}
 use Rattle.endpoint_model.specs.Sending.{last_count, packet_head, session_datagram}
@@ -50,15 +49,17 @@ use Rattle.endpoint_laws.specs.Within.{NoAckIsOwed}
 use Rattle.endpoint_laws.proofs.AcksFew.{AreShort, IsShort, fewer, at_most, none_put, none_paid}
 use Rattle.endpoint_laws.proofs.AcksFew.{chunk_short, acks_short, paid_short, call_same}
 use Rattle.endpoint_laws.proofs.AcksFew.{abandon_same, late_same}
-use Rattle.endpoint_laws.proofs.ByKind.{chunk_by_kind}
-use Rattle.endpoint_laws.proofs.EachRow.{IsKeptAlone, Each, Keeps, put, each_quiet, each_timed}
+use Rattle.endpoint_laws.proofs.ByKind.{is_taken, chunk_by_kind}
+use Rattle.endpoint_laws.proofs.EachRow.{IsKeptAlone, AreKeptAlone, OfFlows, in_rows}
+use Rattle.endpoint_laws.proofs.EachRow.{Each, Keeps, put, each_quiet, each_timed}
 use Rattle.endpoint_laws.proofs.EachRow.{each_calls, each_begins, each_enters, each_succession, after_every_log}
 use Rattle.endpoint_laws.proofs.FlowsWithin.{sound_is_kept}
 use Rattle.endpoint_laws.proofs.Made.{Given, admission_made, answers_by, acked_made, carries_any}
 use Rattle.endpoint_laws.proofs.Made.{confirming_made, initiator_at, left_by}
-use Rattle.endpoint_laws.proofs.Made.{read_made, responder_made, tested_made, told_made}
+use Rattle.endpoint_laws.proofs.Made.{piece_made, read_made, responder_made, tested_made, told_made}
 use Rattle.endpoint_laws.proofs.Made.{unowed_made}
 use Rattle.endpoint_laws.proofs.Small.{Any}
+use Rattle.endpoint_laws.proofs.Stepping.{AreAllSmall, small_steps, walk_is, part_is}
 
 -- ---- what is so of the flows of a session
 
@@ -70,13 +71,16 @@ IsOf (Session id) near = near ≡ id
 
 -- No ack is owed but in the session of the place, and all that may be owed there go into 256
 -- packets.
-record IsPaidBut (place : Place) (near : ℕ) (f : FlowsState) : Type 0 where
+record ArePaidBut (place : Place) (near : ℕ) (f : FlowsState) : Type 0 where
   sound : IsSound f
   short : AreShort f
   paid : (IsOf place near → ⊥) → owes f ≡ false
 
+abbrev IsPaidBut : Place → ℕ → Row → Type 0
+IsPaidBut place = OfFlows (ArePaidBut place)
+
 -- no ack is owed in any
-abbrev IsPaid : ℕ → FlowsState → Type 0
+abbrev IsPaid : ℕ → Row → Type 0
 IsPaid = IsPaidBut (Startup 0)
 
 but : (place : Place) (s : State) → Each IsPaid s → Each (IsPaidBut place) s
@@ -93,8 +97,8 @@ same_owes : (ts us : List TakingFlow) → us ≡ ts → list_any is_owed ts ≡ 
 same_owes ts us same none = ap (λ (ts : List TakingFlow). list_any is_owed ts) same ∙ none
 
 module _ (place : Place) where
-  kept : IsKeptAlone (IsPaidBut place)
-  kept = record {
+  alone : AreKeptAlone (ArePaidBut place)
+  alone = record {
     none = λ near. record { sound = sound_is_kept.none; short = tt; paid = λ other. refl };
     called = λ near f c may h. record {
       sound = sound_is_kept.called f c may h.sound;
@@ -128,6 +132,9 @@ module _ (place : Place) where
       paid = h.paid;
     };
   }
+
+  kept : IsKeptAlone (IsPaidBut place)
+  kept = in_rows (ArePaidBut place) alone
 
   abbrev Stays : State → Did → Type 0
   Stays = Keeps (IsPaidBut place)
@@ -169,23 +176,26 @@ module _ (place : Place) (from : AddressParts) (draws : Draws) where
       let b = each_begins (IsPaidBut place) (kept place) in
       chunk_by_kind (Stays place s) place from draws walk s c (record {
         discarded = λ cause. q.discards s c.at cause;
-        initiator = λ kind taken none formed. initiator_at q b place s from draws c.payload taken;
+        initiator = λ kind taken none formed. initiator_at q b place s from draws c.payload
+            (is_taken place walk 0x38 taken);
         responder = λ kind taken none formed. responder_made q b s (sid_at place) from c.payload;
         told = λ told taken has. told_made q s (sid_at place) from c;
-        flows = λ is taken none. taken_stays place s (sid_at place) (own_of place c.kind is taken)
+        flows = λ is taken none. taken_stays place s (sid_at place)
+            (own_of place c.kind is (is_taken place walk c.kind taken))
             (data_reading walk.cursor c.kind c.payload) (λ chunk read.
             (what_is_read_fits walk.cursor c.kind c.payload chunk small read).0) none;
+        piece = λ kind taken. piece_made q s (sid_at place) c.at (chunk_reading c.kind c.payload);
         reads = λ taken formed none. read_made q b s place from (chunk_reading c.kind c.payload)
             (carries_any Any (λ body. tt) (read_reply s place from
             (chunk_reading c.kind c.payload)));
       })
 
-  chunks_stay : (walk : Walk) (s : State) (cs : List Placed) → AreSmall walk.cursor →
-      Stays place s (chunks_did place from draws walk s cs)
-  chunks_stay walk s [] small each = each
-  chunks_stay walk s (c ∷ cs) small each =
-      chunks_stay (walked walk c) (chunk_did place from draws walk s c).state cs
-      (small_next walk.cursor c.kind c.payload small) (chunk_stays walk s c small each)
+  steps_stay : (s : State) (xs : List WalkStep) → AreAllSmall xs →
+      Stays place s (steps_did place from draws s xs)
+  steps_stay s [] small each = each
+  steps_stay s (x ∷ xs) small each =
+      steps_stay (chunk_did place from draws x.walk s x.chunk).state xs small.1
+      (chunk_stays x.walk s x.chunk small.0 each)
 
 -- ---- the acks of a session
 
@@ -339,31 +349,34 @@ module _ (s : State) where
 
 -- the chunks, once the session is confirmed
 walked_stays : (s : State) (place : Place) (from : AddressParts) (draws : Draws)
-    (cs : List Placed) → Each IsPaid s →
-    Each (IsPaidBut place) (chunks_did place from draws outset (confirming s place).state cs).state
-walked_stays s place from draws cs each =
+    (xs : List WalkStep) → AreAllSmall xs → Each IsPaid s →
+    Each (IsPaidBut place) (steps_did place from draws (confirming s place).state xs).state
+walked_stays s place from draws xs small each =
     let t : State = (confirming s place).state in
-    chunks_stay place from draws outset t cs tt (but place t (confirming_made
+    steps_stay place from draws t xs small (but place t (confirming_made
     (each_quiet IsPaid (kept (Startup 0))) s place each))
 
 received_pays : (s : State) (from : AddressParts) (draws : Draws) (a : Admission) →
     Each IsPaid (left_by a) → Each IsPaid (received from draws a).state
 received_pays s from draws (Rejected t cause) each = each
 received_pays s from draws (Admitted t place packet) each =
-    let u : State = (chunks_did place from draws outset (confirming t place).state
-    (chunks_of packet)).state in
+    let xs : List WalkStep = walk_of place from draws (confirming t place).state packet in
+    let u : State = (steps_did place from draws (confirming t place).state xs).state in
     tested_made (each_quiet IsPaid (kept (Startup 0))) (acked most_acks u place).state place from draws
-    tt (acked_pays u place (walked_stays t place from draws (chunks_of packet) each))
+    tt (acked_pays u place (walked_stays t place from draws xs (small_steps packet xs
+    (walk_is packet place from draws (confirming t place).state)) each))
 
 part_pays : (s : State) (from : AddressParts) (draws : Draws) (a : Admission) (count acks : ℕ) →
     Each IsPaid (left_by a) → Each IsPaid (part_received from draws a count acks).state
 part_pays s from draws (Rejected t cause) count acks each = each
 part_pays s from draws (Admitted t place packet) count acks each =
-    let u : State = (chunks_did place from draws outset (confirming t place).state
-    (take count (chunks_of packet))).state in
+    let xs : List WalkStep = take count
+    (walk_of place from draws (confirming t place).state packet) in
+    let u : State = (steps_did place from draws (confirming t place).state xs).state in
     unowed_pays (acked acks u place).state place
     (acked_made (each_timed (IsPaidBut place) (kept place)) acks u place
-    (walked_stays t place from draws (take count (chunks_of packet)) each))
+    (walked_stays t place from draws xs (small_steps packet xs
+    (part_is packet place from draws (confirming t place).state count)) each))
 
 stopped_pays : (s : State) (from : AddressParts) (draws : Draws) (a : Admission) (stop : Stop)
     (acks : ℕ) → Each IsPaid s → Each IsPaid (left_by a) →

@@ -1,6 +1,5 @@
 -- What every thing that an end does keeps and adds. A thing after an orderly one is orderly, so the chunks of a datagram and the things of a tick are gone through once, for all that is said of them.
-use Rattle.std.proofs.Common.{◌≡◌, ℕ, ◌==◌, List, [], ◌∷◌, ◌++◌, take, drop, Bool, true, false, ◌||◌, if◌then◌else◌, Some, None, inl, inr, ◌⊎◌, refl, sym, ap, subst, ◌∙◌, append_assoc}
-use Rattle.std.proofs.lemmas.List.{take-append-drop, append-nil}
+use Rattle.std.proofs.Common.{◌≡◌, ℕ, List, [], ◌∷◌, take, Bool, true, false, if◌then◌else◌, Some, None, refl, subst, ◌∙◌}
 use Rattle.std.specs.FinMap.{get}
 use Rattle.rtmfp_forms.specs.Address.{AddressParts}
 use Rattle.rtmfp_packet.specs.Walk.{Placed}
@@ -13,17 +12,14 @@ use Rattle.endpoint_model.specs.declared.row.Row.{Row}
 use Rattle.rtmfp_base.specs.declared.cause.Cause.{Cause}
 use Rattle.endpoint_model.specs.declared.answers.Stopped.{Stopped as Stop}
 use Rattle.endpoint_model.specs.Event.{Setup, Call, Receive}
-use Rattle.endpoint_model.specs.Keying.{IsAmong, IsFirst, chunks_of}
 use Rattle.endpoint_model.specs.State.{State, Did, nothing, then_do}
 use Rattle.endpoint_model.specs.Admission.{Admission, Rejected, Admitted, confirming}
-use Rattle.endpoint_model.specs.Effects.{tick_once, ticks, discarded, chunk_did, walked, chunks_did, most_acks, walked_and_acked, received, part_received, outset}
+use Rattle.endpoint_model.specs.Effects.{tick_once, ticks, discarded, WalkStep, chunk_did, steps_did, walk_of, most_acks, walked_and_acked, received, part_received}
 use Rattle.endpoint_model.specs.InSessions.{tested as tested_at}
 use Rattle.endpoint_model.specs.FlowChunks.{acked_by, owes_by, acked, unowed_by, unowed}
 use Rattle.endpoint_model.specs.FlowTimes.{late_marked, late_at, all_late}
 use Rattle.endpoint_model.specs.Log.{stopped}
-use Rattle.endpoint_model.proofs.Members.{tested}
 use Rattle.rtmfp_data_chunks.specs.Fitting.{AreSmall}
-use Rattle.rtmfp_data_chunks.proofs.Fitting.{small_next}
 use Rattle.endpoint_laws.specs.Contexts.{Secrets}
 use Rattle.endpoint_laws.specs.Past.{Past, onto}
 use Rattle.endpoint_laws.specs.Lawful.{IsTick}
@@ -56,6 +52,7 @@ use Rattle.endpoint_laws.proofs.Outset.{IsOutset}
 use Rattle.endpoint_laws.proofs.Coming.{came_on, came_confirming}
 use Rattle.endpoint_laws.proofs.Chunked.{chunk_goes}
 use Rattle.endpoint_laws.proofs.OutChunks.{meets_chunk}
+use Rattle.endpoint_laws.proofs.Stepping.{AreStepsOf, walk_is, part_is}
 
 -- The facts of the thing meet their lines, and the state after it agrees with what was done; its datagrams meet theirs, and what went out is counted; and what is known of the sessions stays true.
 pub record Orderly (secrets : Secrets) (setup : Setup) (call : Call) (past : Past) (s : State) (d : Did) : Type 0 where
@@ -138,42 +135,6 @@ tick_all_orderly secrets setup call is is_tick = tick_all_walked (orderly_steps 
 
 -- ---- the chunks of a datagram
 
--- these chunks come after some, of which one is a keying where one was before, and the numbers that they stand behind are of 64 bits
-pub record IsNext (packet : Whole) (walk : Walk) (before cs : List Placed) : Type 0 where
-  pub whole : chunks_of packet ≡ before ++ cs
-  pub keyed : walk.keyed ≡ false → (c : Placed) → IsAmong c before → c.kind ≡ 0x38 → ⊥
-  pub small : AreSmall walk.cursor
-
-among_back : (before : List Placed) (c : Placed) (cs : List Placed) → IsAmong c (before ++ c ∷ cs)
-among_back [] c cs = inl refl
-among_back (b ∷ before) c cs = inr (among_back before c cs)
-
-first_back : (before : List Placed) (c : Placed) (cs : List Placed) → ((b : Placed) → IsAmong b before → b.kind ≡ 0x38 → ⊥) → c.kind ≡ 0x38 → IsFirst c (before ++ c ∷ cs)
-first_back [] c cs none kind = inl refl
-first_back (b ∷ before) c cs none kind = inr ((λ e. none b (inl refl) (e ∙ kind)), first_back before c cs (λ x among. none x (inr among)) kind)
-
-among_end : (before : List Placed) (c b : Placed) → IsAmong b (before ++ c ∷ []) → IsAmong b before ⊎ (b ≡ c)
-among_end [] c b (inl is) = inr is
-among_end [] c b (inr none) = absurd none
-among_end (x ∷ before) c b (inl is) = inl (inl is)
-among_end (x ∷ before) c b (inr later) = elim (among_end before c b later) [ inl there ↦ inl (inr there) | inr is ↦ inr is ]
-
-neither : (a b : Bool) → (a || b) ≡ false → (a ≡ false) × (b ≡ false)
-neither true b e = absurd (cc)
-neither false b e = (refl, e)
-
-one_next : (packet : Whole) (walk : Walk) (before : List Placed) (c : Placed) (rest : List Placed) → IsNext packet walk before (c ∷ rest) → IsNext packet (walked walk c) (before ++ c ∷ []) rest
-one_next packet walk before c rest next = record {
-  whole = next.whole ∙ sym (append_assoc before (c ∷ []) rest);
-  keyed = λ e b in_all kind.
-      let both = neither walk.keyed (c.kind == 0x38) e in
-      elim (among_end before c b in_all) [
-        | inl there ↦ next.keyed both.0 b there kind
-        | inr is ↦ elim (tested c.kind 0x38) [ inl same ↦ (let clash : true ≡ false = sym same.1 ∙ both.1 in cc) | inr other ↦ other.0 (ap (λ (p : Placed). p.kind) (sym is) ∙ kind) ]
-      ];
-  small = small_next walk.cursor c.kind c.payload next.small;
-}
-
 -- a session's datagram still passes after a chunk
 passed_on : (place : Place) (from : AddressParts) (datagram : List ℕ) (draws : Draws) (packet : Whole) (walk : Walk) (past : Past) (s : State) (c : Placed) → AreSmall walk.cursor → PassedAt past place datagram packet s →
     PassedAt (onto s.moment (chunk_did place from draws walk s c).entries past) place datagram packet (chunk_did place from draws walk s c).state
@@ -192,21 +153,19 @@ module _ (secrets : Secrets) (setup : Setup) (is : IsSetup setup) (from : Addres
   abbrev call : Call
   call = Receive from datagram draws
 
-  pub chunks_orderly : (place : Place) (walk : Walk) (before cs rest : List Placed) (s : State) (past : Past) → IsNext packet walk before (cs ++ rest) → Came secrets setup past s datagram place packet →
-      Tied secrets setup past s → Sent secrets setup past s → HeardWell past s → PassedAt past place datagram packet s → Orderly secrets setup call past s (chunks_did place from draws walk s cs)
-  chunks_orderly place walk before [] rest s past next came tied sent well passed = orderly_nothing secrets setup call past s tied sent well
-  chunks_orderly place walk before (c ∷ cs) rest s past next came tied sent well passed =
-      let among : IsAmong c (chunks_of packet) = subst (IsAmong c) (sym next.whole) (among_back before c (cs ++ rest)) in
-      let first : walk.keyed ≡ false → c.kind ≡ 0x38 → IsFirst c (chunks_of packet) = λ e kind. subst (IsFirst c) (sym next.whole) (first_back before c (cs ++ rest) (next.keyed e) kind) in
-      let d : Did = chunk_did place from draws walk s c in
+  pub steps_orderly : (place : Place) (xs : List WalkStep) (s : State) (past : Past) → AreStepsOf packet xs → Came secrets setup past s datagram place packet →
+      Tied secrets setup past s → Sent secrets setup past s → HeardWell past s → PassedAt past place datagram packet s → Orderly secrets setup call past s (steps_did place from draws s xs)
+  steps_orderly place [] s past are came tied sent well passed = orderly_nothing secrets setup call past s tied sent well
+  steps_orderly place (x ∷ xs) s past are came tied sent well passed =
+      let d : Did = chunk_did place from draws x.walk s x.chunk in
       let one : Orderly secrets setup call past s d = record {
-        goes = chunk_goes secrets setup from datagram draws is.sessions fits.2 packet s past place walk c tied came passed among first;
-        meets = meets_chunk secrets setup from datagram draws packet past s sent tied is.cert.short_named place came passed fits.2 fits.1 walk c among;
-        heard = chunk_made follows_law heard_begins place from draws walk s c next.small past well;
+        goes = chunk_goes secrets setup from datagram draws is.sessions fits.2 packet s past place x.walk x.chunk tied came passed are.0.whence;
+        meets = meets_chunk secrets setup from datagram draws packet past s sent tied is.cert.short_named place came passed fits.2 fits.1 x.walk x.chunk are.0.whence;
+        heard = chunk_made follows_law heard_begins place from draws x.walk s x.chunk are.0.small past well;
       } in
-      orderly_then secrets setup call past s d (λ t. chunks_did place from draws (walked walk c) t cs) one
-      (chunks_orderly place (walked walk c) (before ++ c ∷ []) cs rest d.state (onto s.moment d.entries past) (one_next packet walk before c (cs ++ rest) next) (came_on secrets setup past s datagram packet from draws walk c place next.small came) one.goes.tied one.meets.sent one.heard.well
-      (passed_on place from datagram draws packet walk past s c next.small passed))
+      orderly_then secrets setup call past s d (λ t. steps_did place from draws t xs) one
+      (steps_orderly place xs d.state (onto s.moment d.entries past) are.1 (came_on secrets setup past s datagram packet from draws x.walk x.chunk place are.0.small came) one.goes.tied one.meets.sent one.heard.well
+      (passed_on place from datagram draws packet x.walk past s x.chunk are.0.small passed))
 
 -- ---- the acks after them
 
@@ -250,25 +209,25 @@ module _ (secrets : Secrets) (setup : Setup) (is : IsSetup setup) (from : Addres
     heard = heard_follows t (confirming t place) (confirming_made follows_quiet t place) past well;
   }
 
-  -- these chunks, which are the first of the packet, and then so many packets of acks
-  acked_after_orderly : (t : State) (place : Place) (packet : Whole) (cs rest : List Placed) (count : ℕ) (now : Past) → chunks_of packet ≡ cs ++ rest → Came secrets setup now t datagram place packet →
-      Tied secrets setup now t → Sent secrets setup now t → HeardWell now t → PassedAt now place datagram packet t → Orderly secrets setup this now t (walked_and_acked place from draws t cs count)
-  acked_after_orderly t place packet cs rest count now whole came tied sent well passed =
-      let d : Did = chunks_did place from draws outset t cs in
-      let one : Orderly secrets setup this now t d = chunks_orderly secrets setup is from datagram draws fits packet place outset [] cs rest t now (record { whole = whole; keyed = λ e c none kind. none; small = tt }) came tied sent well passed in
+  -- these steps, and then so many packets of acks
+  acked_after_orderly : (t : State) (place : Place) (packet : Whole) (xs : List WalkStep) (count : ℕ) (now : Past) → AreStepsOf packet xs → Came secrets setup now t datagram place packet →
+      Tied secrets setup now t → Sent secrets setup now t → HeardWell now t → PassedAt now place datagram packet t → Orderly secrets setup this now t (walked_and_acked place from draws t xs count)
+  acked_after_orderly t place packet xs count now are came tied sent well passed =
+      let d : Did = steps_did place from draws t xs in
+      let one : Orderly secrets setup this now t d = steps_orderly secrets setup is from datagram draws fits packet place xs t now are came tied sent well passed in
       orderly_then secrets setup this now t d (λ u. acked count u place) one (acked_orderly secrets setup this count d.state place (onto t.moment d.entries now) one.goes.tied one.meets.sent one.heard.well)
 
   -- the session is confirmed, then come these, and then something that needs nothing of them
-  walked_orderly : (t : State) (place : Place) (packet : Whole) (cs rest : List Placed) (count : ℕ) (last : State → Did) → chunks_of packet ≡ cs ++ rest → ((u : State) → KeepsOrderly secrets setup this u (last u)) →
+  walked_orderly : (t : State) (place : Place) (packet : Whole) (xs : State → List WalkStep) (count : ℕ) (last : State → Did) → ((u : State) → AreStepsOf packet (xs u)) → ((u : State) → KeepsOrderly secrets setup this u (last u)) →
       IsTaken secrets setup past s datagram t place packet → HeardWell past t → PassedAt past place datagram packet t →
-      Orderly secrets setup this past t (then_do (confirming t place) (λ u. then_do (walked_and_acked place from draws u cs count) last))
-  walked_orderly t place packet cs rest count last whole ends taken well passed =
+      Orderly secrets setup this past t (then_do (confirming t place) (λ u. then_do (walked_and_acked place from draws u (xs u) count) last))
+  walked_orderly t place packet xs count last are ends taken well passed =
       let first : Did = confirming t place in
-      let d : Did = walked_and_acked place from draws first.state cs count in
+      let d : Did = walked_and_acked place from draws first.state (xs first.state) count in
       let one : Orderly secrets setup this past t first = confirming_orderly t place packet taken well in
       let now : Past = onto t.moment first.entries past in
-      let two : Orderly secrets setup this now first.state d = acked_after_orderly first.state place packet cs rest count now whole (came_confirming secrets setup past t datagram packet place taken.came) one.goes.tied one.meets.sent one.heard.well (passed_in place datagram packet past t passed) in
-      orderly_then secrets setup this past t first (λ u. then_do (walked_and_acked place from draws u cs count) last) one
+      let two : Orderly secrets setup this now first.state d = acked_after_orderly first.state place packet (xs first.state) count now (are first.state) (came_confirming secrets setup past t datagram packet place taken.came) one.goes.tied one.meets.sent one.heard.well (passed_in place datagram packet past t passed) in
+      orderly_then secrets setup this past t first (λ u. then_do (walked_and_acked place from draws u (xs u) count) last) one
       (orderly_then secrets setup this now first.state d last two (ends d.state (onto first.state.moment d.entries now) two.goes.tied two.meets.sent two.heard.well))
 
   -- the test of its address
@@ -281,13 +240,13 @@ module _ (secrets : Secrets) (setup : Setup) (is : IsSetup setup) (from : Addres
 
   whole_orderly : (t : State) (place : Place) (packet : Whole) → IsTaken secrets setup past s datagram t place packet → HeardWell past t → PassedAt past place datagram packet t →
       Orderly secrets setup this past t (received from draws (Admitted t place packet))
-  whole_orderly t place packet = walked_orderly t place packet (chunks_of packet) [] most_acks (λ u. tested_at u place from draws) (sym (append-nil (chunks_of packet))) (tested_orderly place)
+  whole_orderly t place packet = walked_orderly t place packet (λ u. walk_of place from draws u packet) most_acks (λ u. tested_at u place from draws) (walk_is packet place from draws) (tested_orderly place)
 
   -- or the acks that are owed yet are given up
   given_up_orderly : (t : State) (place : Place) (packet : Whole) (count acks : ℕ) → IsTaken secrets setup past s datagram t place packet → HeardWell past t → PassedAt past place datagram packet t →
       Orderly secrets setup this past t (part_received from draws (Admitted t place packet) count acks)
   given_up_orderly t place packet count acks =
-      walked_orderly t place packet (take count (chunks_of packet)) (drop count (chunks_of packet)) acks (λ u. nothing (unowed u place)) (sym (take-append-drop count (chunks_of packet))) (λ u. unowed_orderly secrets setup this u place)
+      walked_orderly t place packet (λ u. take count (walk_of place from draws u packet)) acks (λ u. nothing (unowed u place)) (λ u. part_is packet place from draws u count) (λ u. unowed_orderly secrets setup this u place)
 
   rejected_orderly : (t : State) (cause : Cause) → IsRejected secrets setup past s t → HeardWell past t → Orderly secrets setup this past t (discarded t 0 cause)
   rejected_orderly t cause so well = record { goes = goes_discarded secrets setup this t 0 cause past so.tied; meets = meets_discarded secrets setup t.moment this past t 0 cause so.sent; heard = heard_follows t (discarded t 0 cause) (follows_quiet.discards t 0 cause) past well }

@@ -27,7 +27,8 @@ use Rattle.endpoint_laws.specs.Past.{Past, before_event, last_call, open_of, rec
 use Rattle.endpoint_model.specs.State.{State}
 use Rattle.endpoint_model.specs.Admission.{sid_at, group_at, attempt_group}
 use Rattle.endpoint_model.specs.Effects.{is_told_in_session, chunk_did}
-use Rattle.endpoint_model.specs.Causes.{takes, read_fault}
+use Rattle.endpoint_model.specs.Gathering.{may_be_gathered}
+use Rattle.endpoint_model.specs.Causes.{takes, takes_in, read_fault}
 use Rattle.endpoint_laws.proofs.Facts.{test_fails}
 use Rattle.endpoint_laws.proofs.Bearing.{good_certificate}
 use Rattle.endpoint_laws.proofs.Tied.{Tied}
@@ -35,7 +36,9 @@ use Rattle.endpoint_laws.proofs.OutSends.{Sent, Meets}
 use Rattle.endpoint_laws.proofs.OutItems.{meets_discarded}
 use Rattle.endpoint_laws.proofs.Replies.{HelloCame, meets_read}
 use Rattle.endpoint_laws.proofs.FlowChunks.{meets_flow_taken}
-use Rattle.endpoint_laws.proofs.ByKind.{told_kinds, chunk_by_kind}
+use Rattle.endpoint_laws.proofs.ByKind.{told_kinds, is_taken, chunk_by_kind}
+use Rattle.endpoint_laws.proofs.Stepping.{IsFrom, of_packet, close_apart}
+use Rattle.endpoint_laws.proofs.Pieces.{meets_piece}
 use Rattle.endpoint_laws.proofs.Chunked.{not_at_startup, not_at_attempt}
 use Rattle.endpoint_laws.proofs.Passing.{PassedAt}
 use Rattle.endpoint_laws.proofs.Admitting.{Came}
@@ -77,11 +80,11 @@ module _ (secrets : Secrets) (setup : Setup) (from : AddressParts) (datagram : L
   abbrev call : Call
   call = Receive from datagram draws
 
-  module _ (place : Place) (came : Came secrets setup past s datagram place packet) (passed : PassedAt past place datagram packet s) (small : draws.word < 2 ^ 32) (nonce : length draws.nonce ≡ 16) (walk : Walk) (c : Placed) (among : IsAmong c (chunks_of packet)) where
-    told_at : (p : Place) → PassedAt past p datagram packet s → is_told_in_session c.kind ≡ true → takes p c.kind ≡ true → Meets secrets setup s.moment call past (told_in_session s (sid_at p) from c)
-    told_at (Startup generation) passed told taken = absurd (not_at_startup c.kind (told_kinds c.kind told) taken)
-    told_at (Attempt near generation) passed told taken = absurd (not_at_attempt near c.kind (told_kinds c.kind told) taken)
-    told_at (Session near) passed told taken = meets_told secrets setup from datagram draws packet past s tied sent near passed c among
+  module _ (place : Place) (came : Came secrets setup past s datagram place packet) (passed : PassedAt past place datagram packet s) (small : draws.word < 2 ^ 32) (nonce : length draws.nonce ≡ 16) (walk : Walk) (c : Placed) (whence : IsFrom packet walk c) where
+    told_at : (p : Place) → PassedAt past p datagram packet s → is_told_in_session c.kind ≡ true → takes_in p walk c.kind ≡ true → Meets secrets setup s.moment call past (told_in_session s (sid_at p) from c)
+    told_at (Startup generation) passed told taken = absurd (not_at_startup c.kind (told_kinds c.kind told) (is_taken (Startup generation) walk c.kind taken))
+    told_at (Attempt near generation) passed told taken = absurd (not_at_attempt near c.kind (told_kinds c.kind told) (is_taken (Attempt near generation) walk c.kind taken))
+    told_at (Session near) passed told taken = meets_told secrets setup from datagram draws packet past s tied sent near passed c (λ close. (of_packet packet (Session near) walk c whence (close_apart c.kind close) taken).among)
 
     -- the generation in which the datagram of the event opened, where a keying of an initiator came
     opened_at : (p : Place) → Came secrets setup past s datagram p packet → takes p 0x38 ≡ true → EventOpenedIn secrets setup past (group_at s p).generation
@@ -96,9 +99,10 @@ module _ (secrets : Secrets) (setup : Setup) (from : AddressParts) (datagram : L
     attempt_at (Session near) came taken a there = absurd (cc)
 
     -- and where a hello of one did
-    hello_at : (p : Place) → Came secrets setup past s datagram p packet → takes p c.kind ≡ true → (tag cookie their : List ℕ) → chunk_reading c.kind c.payload ≡ Ok (RHello tag cookie their) → read_fault (length c.payload) (Ok (RHello tag cookie their)) ≡ None → HelloCame secrets setup call past s p tag cookie their
+    hello_at : (p : Place) → Came secrets setup past s datagram p packet → takes_in p walk c.kind ≡ true → (tag cookie their : List ℕ) → chunk_reading c.kind c.payload ≡ Ok (RHello tag cookie their) → read_fault (length c.payload) (Ok (RHello tag cookie their)) ≡ None → HelloCame secrets setup call past s p tag cookie their
     hello_at (Startup generation) came taken tag cookie their is formed =
         let kind : c.kind ≡ 0x70 = hello_kind c.kind c.payload tag cookie their is in
+        let among : IsAmong c (chunks_of packet) = (of_packet packet (Startup generation) walk c whence (ap may_be_gathered kind) taken).among in
         record {
           brings = λ more stay near tagged low short. subst (λ (g : ℕ). HasHello secrets setup more (sha256 their) near g datagram) (sym came.group) (record {
             packet = packet;
@@ -121,15 +125,16 @@ module _ (secrets : Secrets) (setup : Setup) (from : AddressParts) (datagram : L
           });
           no_open = no_open secrets setup past generation came.came.event;
         }
-    hello_at (Attempt near generation) came taken tag cookie their is formed = absurd (not_in_attempt near generation c.kind (hello_kind c.kind c.payload tag cookie their is) taken)
-    hello_at (Session near) came taken tag cookie their is formed = absurd (not_in_session near c.kind (hello_kind c.kind c.payload tag cookie their is) taken)
+    hello_at (Attempt near generation) came taken tag cookie their is formed = absurd (not_in_attempt near generation c.kind (hello_kind c.kind c.payload tag cookie their is) (is_taken (Attempt near generation) walk c.kind taken))
+    hello_at (Session near) came taken tag cookie their is formed = absurd (not_in_session near c.kind (hello_kind c.kind c.payload tag cookie their is) (is_taken (Session near) walk c.kind taken))
 
     pub meets_chunk : Meets secrets setup s.moment call past (chunk_did place from draws walk s c)
     meets_chunk = chunk_by_kind (λ d. Meets secrets setup s.moment call past d) place from draws walk s c (record {
       discarded = λ cause. meets_discarded secrets setup s.moment call past s c.at cause sent;
-      initiator = λ kind taken none formed. meets_initiator secrets setup s.moment call past s sent tied from place draws walk c.payload small nonce (opened_at place came taken) none;
-      responder = λ kind taken none formed. meets_responder secrets setup s.moment call past s sent tied from (sid_at place) (attempt_at place came taken) c.payload;
+      initiator = λ kind taken none formed. meets_initiator secrets setup s.moment call past s sent tied from place draws walk c.payload small nonce (opened_at place came (is_taken place walk 0x38 taken)) none;
+      responder = λ kind taken none formed. meets_responder secrets setup s.moment call past s sent tied from (sid_at place) (attempt_at place came (is_taken place walk 0x78 taken)) c.payload;
       told = λ told taken has. told_at place passed told taken;
       flows = λ is taken none. meets_flow_taken secrets setup call past s sent (sid_at place) (data_reading walk.cursor c.kind c.payload);
+      piece = λ kind taken. meets_piece s (sid_at place) c.at secrets setup call past sent (chunk_reading c.kind c.payload);
       reads = λ taken formed none. meets_read secrets setup call past s sent tied cert place from (chunk_reading c.kind c.payload) (λ tag cookie their is. hello_at place came taken tag cookie their is (subst (λ (r : Result Chunk ChunkFault). read_fault (length c.payload) r ≡ None) is formed)) none;
     })

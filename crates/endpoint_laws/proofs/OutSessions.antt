@@ -1,5 +1,5 @@
 -- What an end does of its sessions: each datagram that goes out meets its line.
-use Rattle.std.proofs.Common.{◌≡◌, ℕ, ◌≤◌, List, [], ◌∷◌, length, Bool, true, false, ◌||◌, if◌then◌else◌, Option, Some, None, inl, inr, refl, sym, ◌∙◌, arith}
+use Rattle.std.proofs.Common.{◌≡◌, ℕ, ◌≤◌, List, [], ◌∷◌, length, Bool, true, false, ◌||◌, if◌then◌else◌, Option, Some, None, inl, inr, ◌⊎◌, refl, sym, ◌∙◌, arith}
 use Rattle.std.specs.Prelude.{◌==◌}
 use Rattle.std.specs.FinMap.{get}
 use Rattle.rtmfp_forms.specs.Address.{AddressParts}
@@ -202,7 +202,7 @@ module _ (secrets : Secrets) (setup : Setup) (past : Past) (s : State) (sent : S
 -- ---- closes, their answers, and answers to pings
 
 module _ (secrets : Secrets) (setup : Setup) (from : AddressParts) (datagram : List ℕ) (draws : Draws) (packet : Whole) (past : Past) (s : State) (tied : Tied secrets setup past s) (sent : Sent secrets setup past s) (near : ℕ)
-    (passed : PassedIn past near datagram packet s) (c : Placed) (among : IsAmong c (chunks_of packet)) where
+    (passed : PassedIn past near datagram packet s) (c : Placed) (among : (c.kind ≡ 0x0c) ⊎ (c.kind ≡ 0x4c) → IsAmong c (chunks_of packet)) where
   abbrev call : Call
   call = Receive from datagram draws
 

@@ -1,5 +1,5 @@
 -- What closes, their answers, answers to pings, tests of addresses, and time do to a session: what is stated is lawful, and the state agrees with it.
-use Rattle.std.proofs.Common.{◌≡◌, ℕ, ◌+◌, ◌≤◌, suc, List, [], ◌∷◌, Bool, true, false, ◌&&◌, if◌then◌else◌, Option, Some, None, ◌||◌, inl, inr, refl, sym, ap, subst, ◌∙◌, arith}
+use Rattle.std.proofs.Common.{◌≡◌, ℕ, ◌+◌, ◌≤◌, suc, List, [], ◌∷◌, Bool, true, false, ◌&&◌, if◌then◌else◌, Option, Some, None, ◌||◌, inl, inr, ◌⊎◌, refl, sym, ap, subst, ◌∙◌, arith}
 use Rattle.std.specs.Prelude.{◌==◌}
 use Rattle.std.proofs.lemmas.Bool.Decides.{nat_tests}
 use Rattle.std.specs.FinMap.{get}
@@ -45,6 +45,7 @@ use Rattle.endpoint_laws.specs.Contexts.{inward, ReadsUnder, Secrets, BeganWith,
 use Rattle.endpoint_laws.specs.OfTheLog.{WasThing}
 use Rattle.endpoint_laws.specs.Taken.{count_in, IsNewAfter, PassesIn, TookIn, TookAt, Passes, inward_mode, TakesChunkOf}
 use Rattle.endpoint_laws.specs.Lawful.{IsTick, FarLine, IsIdle}
+use Rattle.endpoint_laws.proofs.ByKind.{and_is}
 use Rattle.endpoint_laws.proofs.Tied.{Tied, StageFits, HasKeys, thing_of}
 use Rattle.endpoint_laws.proofs.Begun.{born_thing, begun_as}
 use Rattle.endpoint_laws.proofs.Moving.{IsAlike, alike_itself}
@@ -196,7 +197,7 @@ module _ (secrets : Secrets) (setup : Setup) (s : State) (near : ℕ) where
 -- ---- closes, their answers, and answers to pings
 
 module _ (secrets : Secrets) (setup : Setup) (from : AddressParts) (datagram : List ℕ) (draws : Draws) (packet : Whole) (past : Past) (s : State) (tied : Tied secrets setup past s) (near : ℕ) (passed : PassedIn past near datagram packet s)
-    (c : Placed) (among : IsAmong c (chunks_of packet)) where
+    (c : Placed) (among : (c.kind ≡ 0x0c) ⊎ (c.kind ≡ 0x4c) → IsAmong c (chunks_of packet)) where
   abbrev call : Call
   call = Receive from datagram draws
 
@@ -207,7 +208,7 @@ module _ (secrets : Secrets) (setup : Setup) (from : AddressParts) (datagram : L
       let line : FarLine secrets setup call past row.session.joined.peer near = record {
         thing = thing;
         is_held = held_facts secrets setup call past s tied near row there held Far;
-        by = takes_chunk secrets setup past from datagram draws packet row.session near thing is.own is.known is.begun (was_itself row.session.role row.session.stage row.session.joined) (passed row there) c among CloseChunk (kind, tt);
+        by = takes_chunk secrets setup past from datagram draws packet row.session near thing is.own is.known is.begun (was_itself row.session.role row.session.stage row.session.joined) (passed row there) c (among (inl kind)) CloseChunk (kind, tt);
       } in
       subst (λ d. Goes secrets setup call past s d) (sym (if_true (is_held row.session.stage) _ (nothing (with_session s near row (asked_to_close s.moment row.session))) held))
       (goes_ended secrets setup call past s tied near row there held Far (asked_to_close s.moment row.session) refl (may_close row.session.role row.session.stage row.session.joined) (far_left s.moment row.session is.stage held)
@@ -237,7 +238,7 @@ module _ (secrets : Secrets) (setup : Setup) (from : AddressParts) (datagram : L
         thing = closed.thing;
         at = closed.at;
         closing = closed.closing;
-        by = inl (takes_chunk secrets setup past from datagram draws packet row.session near closed.thing t.own t.known t.begun closed.was (passed row is) c among CloseAck (kind, tt));
+        by = inl (takes_chunk secrets setup past from datagram draws packet row.session near closed.thing t.own t.known t.begun closed.was (passed row is) c (among (inr kind)) CloseAck (kind, tt));
       })
 
   moved_to_where : (row : Row) → get s.sessions near ≡ Some row → (moves : Option Test) (o : Option AddressParts) → Goes secrets setup call past s (moved_where s near row moves o)
@@ -305,10 +306,6 @@ test_of false false false false due e = absurd (cc)
 abbrev DueOf : SessionState → ℕ → SessionDue → Type 0
 DueOf session moment due = TestOf (is_opening session.stage && is_past 20000 session.since moment) (is_open session.stage && is_past 120000 session.taken moment) (is_over session moment)
     (is_near_close session.stage && is_past_last 5000 session.close_sent moment) due
-
-and_is : (a b : Bool) → (a && b) ≡ true → (a ≡ true) × (b ≡ true)
-and_is true b e = (refl, e)
-and_is false b e = absurd (cc)
 
 past_is : (span at moment : ℕ) → is_past (suc span) at moment ≡ true → at + suc span ≤ moment
 past_is span at moment e = grind (arith, nat_tests)

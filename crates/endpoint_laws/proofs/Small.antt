@@ -24,6 +24,7 @@ use Rattle.session_flows.specs.Causes.{chunk_cause as flows_cause}
 use Rattle.session_flows.specs.Chunks.{chunk_done, session_after}
 use Rattle.session_flows.specs.Owing.{after_acks, owing_none, owes}
 use Rattle.session_flows.specs.Timing.{overdue_in, overdue_done}
+use Rattle.rtmfp_fragments.specs.Held.{IsWithinLimits}
 use Rattle.introducer.specs.Directory.{AddressRows}
 use Rattle.endpoint_model.specs.declared.row.Row.{Row}
 use Rattle.endpoint_model.specs.declared.entry.Entry.TheVariants.{Fact as FactEntry, Moved, Sought, Unsought, Out}
@@ -44,10 +45,11 @@ use Rattle.endpoint_laws.proofs.Hearing.{Descends}
 
 -- ---- the row of a session
 
--- The session goes on, and its flows are the same.
+-- The session goes on, its flows are the same, and the pieces that it holds stay within the limits.
 pub record GoesOn (old new : Row) : Type 0 where
   pub descends : Descends old.session new.session
   pub flows : new.flows ≡ old.flows
+  pub pieces : IsWithinLimits old.gathering → IsWithinLimits new.gathering
 
 -- what is done with the flows of a session: a call, a chunk that came, a packet of acks, acks that
 -- are given up, numbers that are lost by time, a message that is sent no longer, a packet of data

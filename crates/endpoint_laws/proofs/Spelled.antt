@@ -9,7 +9,7 @@ use Rattle.rtmfp_vlu.proofs.Bytes.{IsBytes, IsBytes-drop}
 use Rattle.rtmfp_vlu.proofs.Fields.{behind}
 use Rattle.rtmfp_forms.specs.OptionReading.{◌>>=◌}
 use Rattle.rtmfp_chunks.specs.Fields.{Field, Counted, Number, SessionId, More, OneAddress, Parts, Then, Rest, AddressList, Ignored, Form, CountedForm, SessionIdForm, Row, ThenRow, RestRow, AddressesRow, IgnoredRow, form_of, PartsSpell}
-use Rattle.rtmfp_chunks.specs.Chunk.{Chunk, IHello, FIHello, RHello, Redirect, CookieChange, IIKeying, RIKeying, Ping, PingReply, Close, CloseAck, Fragment, Spells, row_of, parts_of}
+use Rattle.rtmfp_chunks.specs.Chunk.{Chunk, IHello, FIHello, RHello, Redirect, CookieChange, IIKeying, RIKeying, Ping, PingReply, Close, CloseAck, Fragment, Spells, row_of, kind_of, parts_of}
 use Rattle.rtmfp_chunks.specs.FieldReading.{field_then, list_at, row_at, typed, typed_row, chunk_at, chunk_with, known_chunk, chunk_or_fault, chunk_reading}
 use Rattle.rtmfp_chunks.proofs.FieldLaws.{FieldIs, field_is}
 use Rattle.rtmfp_chunks.proofs.RowLaws.{row_of_parts, RowIs, row_is}
@@ -185,28 +185,28 @@ unfolding chunk_reading chunk_at row_of
 hello_spelled b chunk are e =
     hello_in b (row_at (ThenRow CountedForm (ThenRow CountedForm RestRow)) b) chunk (spelled_row (ThenRow CountedForm (ThenRow CountedForm RestRow)) b are) e
 
--- no other type of chunk reads as one
+-- ---- a chunk that is read has its type
 
-is_hello : Option Chunk → Bool
-is_hello (Some (RHello tag cookie cert)) = true
-is_hello other = false
+kind_if : (k n : ℕ) (t : Bool) (x chunk : Chunk) (o : Option Chunk) → (k == n) ≡ t → n ≡ kind_of x → (o ≡ Some chunk → k ≡ kind_of chunk) → (if t then Some x else o) ≡ Some chunk → k ≡ kind_of chunk
+kind_if k n true x chunk o is of later e = let same : x ≡ chunk = cc in eqb-true k n is ∙ of ∙ ap kind_of same
+kind_if k n false x chunk o is of later e = later e
 
-no_hello_if : (b : Bool) (x : Chunk) (o : Option Chunk) → is_hello (Some x) ≡ false → is_hello o ≡ false → is_hello (if b then Some x else o) ≡ false
-no_hello_if true x o first later = first
-no_hello_if false x o first later = later
+none_left : (k : ℕ) (chunk : Chunk) → ◌≡◌ {A = Option Chunk} None (Some chunk) → k ≡ kind_of chunk
+none_left k chunk e = absurd (cc)
 
-other_with : (kind : ℕ) (parts : Parts) → (kind == 0x70) ≡ false → is_hello (chunk_with kind parts) ≡ false
-unfolding chunk_with is_hello
-other_with kind (Then (Counted x) (Rest y)) other = no_hello_if (kind == 0x30) (IHello x y) _ refl (no_hello_if (kind == 0x79) (CookieChange x y) None refl refl)
-other_with kind (Then (Counted epd) (Then (OneAddress reply) (Rest tag))) other = no_hello_if (kind == 0x0f) (FIHello epd reply tag) None refl refl
-other_with kind (Then (Counted tag) (Then (Counted cookie) (Rest cert))) other = ap (λ (b : Bool). is_hello (if b then Some (RHello tag cookie cert) else None)) other
-other_with kind (Then (Counted tag) (AddressList list)) other = no_hello_if (kind == 0x71) (Redirect tag list) None refl refl
-other_with kind (Then (SessionId near) (Then (Counted cookie) (Then (Counted cert) (Then (Counted part) (Rest sign))))) other = no_hello_if (kind == 0x38) (IIKeying near cookie cert part sign) None refl refl
-other_with kind (Then (SessionId near) (Then (Counted part) (Rest sign))) other = no_hello_if (kind == 0x78) (RIKeying near part sign) None refl refl
-other_with kind (Rest bytes) other = no_hello_if (kind == 0x01) (Ping bytes) _ refl (no_hello_if (kind == 0x41) (PingReply bytes) None refl refl)
-other_with kind Ignored other = no_hello_if (kind == 0x0c) Close _ refl (no_hello_if (kind == 0x4c) CloseAck None refl refl)
-other_with kind (Then (More more) (Then (Number id) (Then (Number number) (Rest bytes)))) other = no_hello_if (kind == 0x7f) (Fragment more id number bytes) None refl refl
-other_with kind parts other = refl
+with_kind : (k : ℕ) (parts : Parts) (chunk : Chunk) → chunk_with k parts ≡ Some chunk → k ≡ kind_of chunk
+unfolding chunk_with
+with_kind k (Then (Counted x) (Rest y)) chunk e = kind_if k 0x30 (k == 0x30) (IHello x y) chunk _ refl refl (kind_if k 0x79 (k == 0x79) (CookieChange x y) chunk None refl refl (none_left k chunk)) e
+with_kind k (Then (Counted epd) (Then (OneAddress reply) (Rest tag))) chunk e = kind_if k 0x0f (k == 0x0f) (FIHello epd reply tag) chunk None refl refl (none_left k chunk) e
+with_kind k (Then (Counted tag) (Then (Counted cookie) (Rest cert))) chunk e = kind_if k 0x70 (k == 0x70) (RHello tag cookie cert) chunk None refl refl (none_left k chunk) e
+with_kind k (Then (Counted tag) (AddressList list)) chunk e = kind_if k 0x71 (k == 0x71) (Redirect tag list) chunk None refl refl (none_left k chunk) e
+with_kind k (Then (SessionId near) (Then (Counted cookie) (Then (Counted cert) (Then (Counted part) (Rest sign))))) chunk e =
+    kind_if k 0x38 (k == 0x38) (IIKeying near cookie cert part sign) chunk None refl refl (none_left k chunk) e
+with_kind k (Then (SessionId near) (Then (Counted part) (Rest sign))) chunk e = kind_if k 0x78 (k == 0x78) (RIKeying near part sign) chunk None refl refl (none_left k chunk) e
+with_kind k (Rest bytes) chunk e = kind_if k 0x01 (k == 0x01) (Ping bytes) chunk _ refl refl (kind_if k 0x41 (k == 0x41) (PingReply bytes) chunk None refl refl (none_left k chunk)) e
+with_kind k Ignored chunk e = kind_if k 0x0c (k == 0x0c) Close chunk _ refl refl (kind_if k 0x4c (k == 0x4c) CloseAck chunk None refl refl (none_left k chunk)) e
+with_kind k (Then (More more) (Then (Number id) (Then (Number number) (Rest bytes)))) chunk e = kind_if k 0x7f (k == 0x7f) (Fragment more id number bytes) chunk None refl refl (none_left k chunk) e
+with_kind k parts chunk e = none_left k chunk e
 
 known_is : (kind : ℕ) (o : Option Chunk) (chunk : Chunk) → known_chunk kind o ≡ Ok chunk → o ≡ Some chunk
 known_is kind None chunk e = absurd (cc)
@@ -220,18 +220,17 @@ row_kind : (kind : ℕ) (b : List ℕ) (o : Option Row) (found : ℕ × Parts) �
 row_kind kind b None found e = absurd (cc)
 row_kind kind b (Some row) found e = typed_kind kind (row_at row b) found (let same : typed kind (row_at row b) ≡ Ok found = cc in same)
 
-pub hello_kind : (kind : ℕ) (b tag cookie cert : List ℕ) → chunk_reading kind b ≡ Ok (RHello tag cookie cert) → kind ≡ 0x70
-unfolding chunk_reading chunk_at is_hello
-hello_kind kind b tag cookie cert e = by (chunk_at kind b) refl e
+pub read_kind : (kind : ℕ) (b : List ℕ) (chunk : Chunk) → chunk_reading kind b ≡ Ok chunk → kind ≡ kind_of chunk
+unfolding chunk_reading chunk_at
+read_kind kind b chunk e = by (chunk_at kind b) refl e
   where
-    at_kind : (k : ℕ) (t : Bool) → (k == 0x70) ≡ t → (parts : Parts) → chunk_with k parts ≡ Some (RHello tag cookie cert) → k ≡ 0x70
-    at_kind k true is parts e = eqb-true k 0x70 is
-    at_kind k false is parts e = absurd (let clash : true ≡ false = sym (ap is_hello e) ∙ other_with k parts is in cc)
-
-    by : (o : Option (Result (ℕ × Parts) ℕ)) → chunk_at kind b ≡ o → chunk_or_fault kind b o ≡ Ok (RHello tag cookie cert) → kind ≡ 0x70
+    by : (o : Option (Result (ℕ × Parts) ℕ)) → chunk_at kind b ≡ o → chunk_or_fault kind b o ≡ Ok chunk → kind ≡ kind_of chunk
     by None is e = absurd (cc)
     by (Some (Err left)) is e = absurd (cc)
-    by (Some (Ok found)) is e = row_kind kind b (row_of kind) found is ∙ at_kind found.0 (found.0 == 0x70) refl found.1 (known_is kind (chunk_with found.0 found.1) (RHello tag cookie cert) e)
+    by (Some (Ok found)) is e = row_kind kind b (row_of kind) found is ∙ with_kind found.0 found.1 chunk (known_is kind (chunk_with found.0 found.1) chunk e)
+
+pub hello_kind : (kind : ℕ) (b tag cookie cert : List ℕ) → chunk_reading kind b ≡ Ok (RHello tag cookie cert) → kind ≡ 0x70
+hello_kind kind b tag cookie cert e = read_kind kind b (RHello tag cookie cert) e
 
 -- ---- what ends a payload
 

@@ -34,6 +34,7 @@ use Rattle.endpoint_laws.proofs.Matching.{of_peer, ids_more, ids_started}
 use Rattle.endpoint_laws.proofs.Tied.{Tied}
 use Rattle.endpoint_laws.proofs.Agrees.{IsAt, combined, thing_at, used_here, used_elsewhere, agrees_changed, agrees_of, tied_of}
 use Rattle.endpoint_laws.proofs.Moving.{beside_fact, none_there_still, noted_matches, rows_after_known, rows_after_new, still_unsought, none_sought}
+use Rattle.endpoint_laws.proofs.ByKind.{and_is}
 use Rattle.endpoint_laws.proofs.Facts.{all_none, test_fails, stands_of}
 use Rattle.endpoint_laws.proofs.Made.{spread_made}
 use Rattle.endpoint_laws.proofs.Going.{Goes, goes_then, goes_sends}
@@ -44,10 +45,6 @@ use Rattle.endpoint_laws.proofs.Kin.{kin_begin}
 not_is : (b : Bool) → not b ≡ true → b ≡ false
 not_is true e = absurd (cc)
 not_is false e = refl
-
-and_is : (a b : Bool) → (a && b) ≡ true → (a ≡ true) × (b ≡ true)
-and_is true b e = (refl, e)
-and_is false b e = absurd (cc)
 
 or_is : (a b : Bool) → (a || b) ≡ false → (a ≡ false) × (b ≡ false)
 or_is true b e = absurd (cc)

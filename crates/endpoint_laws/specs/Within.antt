@@ -1,4 +1,5 @@
--- How many flows the sessions of an end have, what their IDs are, and how much each flow holds.
+-- How many flows the sessions of an end have, what their IDs are, and how much each flow holds; and
+-- how many pieces of packets each session holds.
 use Rattle.std.specs.Prelude.{ℕ, ◌≡◌, ◌+◌, ◌≤◌, true, false, List, Some}
 use Rattle.std.specs.List.{AllByRecursion}
 use Rattle.std.specs.FinMap.{get}
@@ -7,6 +8,7 @@ use Rattle.flow_send.specs.Sender.{Sender, bytes_held, fragments_held}
 use Rattle.flow_send.specs.Steady.{AllShort}
 use Rattle.session_flows.specs.Keeping.{FlowsState}
 use Rattle.session_flows.specs.Laws.{IsSound}
+use Rattle.rtmfp_fragments.specs.Held.{IsWithinLimits}
 use Rattle.endpoint_model.specs.declared.row.Row.{Row}
 use Rattle.endpoint_model.specs.Event.{Setup, Event}
 use Rattle.endpoint_model.specs.State.{State}
@@ -40,6 +42,12 @@ pub record HoldFew (s : FlowsState) : Type 0 where
 abbrev pub FlowsHoldFew : Type 0
 FlowsHoldFew = (setup : Setup) (log : List Event) (s : State) (near : ℕ) (row : Row) →
     StandsFor setup log s → get s.sessions near ≡ Some row → HoldFew row.flows
+
+-- In every log, of each session: of the packets whose pieces it holds there are at most 4, no two
+-- have one ID, and each has at most 64 pieces and 4,096 bytes.
+abbrev pub PiecesHoldFew : Type 0
+PiecesHoldFew = (setup : Setup) (log : List Event) (s : State) (near : ℕ) (row : Row) →
+    StandsFor setup log s → get s.sessions near ≡ Some row → IsWithinLimits row.gathering
 
 -- In every log, no session owes an ack: those of a call go out in it, or are given up.
 abbrev pub NoAckIsOwed : Type 0

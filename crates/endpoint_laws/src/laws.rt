@@ -6,7 +6,7 @@ ghost use Rattle.endpoint_laws.specs.Complete.{AdmissibleKeyingsBear, KeyingsWit
 ghost use Rattle.endpoint_laws.specs.Draws.{WhatIsDrawnOnceIsStatedOnce};
 ghost use Rattle.endpoint_laws.specs.Groups.{TheGroupsAreOfTheLog};
 ghost use Rattle.endpoint_laws.specs.Handed.{EveryMessageIsHandedOver};
-ghost use Rattle.endpoint_laws.specs.Within.{FlowsAreWithin, FlowsHoldFew, NoAckIsOwed};
+ghost use Rattle.endpoint_laws.specs.Within.{FlowsAreWithin, FlowsHoldFew, NoAckIsOwed, PiecesHoldFew};
 ghost use Rattle.endpoint_laws.specs.Laws.{EveryLogIsLawful, TheLedgerIsOfTheLog, UsesAreWithin, RowsAreWithin};
 ghost use Rattle.endpoint_laws.specs.OfTheLog.{TheStateIsOfTheLog};
 
@@ -95,6 +95,12 @@ pub fn flows_are_within()
 /// bytes, and at most 65,536 numbers above its lowest missing one.
 pub fn flows_hold_few()
     ensures { FlowsHoldFew }
+{}
+
+/// No session of an end holds more pieces than it may: those of at most 4 packets, no two under one
+/// ID, and of each packet at most 64 pieces and 4,096 bytes.
+pub fn pieces_hold_few()
+    ensures { PiecesHoldFew }
 {}
 
 /// Between calls no ack is owed, in no session: those that the chunks of a call owe go out in that
