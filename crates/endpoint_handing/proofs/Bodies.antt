@@ -1,4 +1,5 @@
 -- What a datagram of a session has of flows is what the chunks of its body have.
+use Rattle.std.specs.Prelude.{◌==◌, if◌then◌else◌}
 use Rattle.std.proofs.Common.{◌≡◌, ℕ, ◌+◌, ◌==◌, List, [], ◌∷◌, ◌++◌, length, drop}
 use Rattle.std.proofs.Common.{cond, not, Bool, true, false, Option, Some, None, Result, Ok, Err}
 use Rattle.std.proofs.Common.{refl, sym, ap, ◌∙◌, append-nil, if◌then◌else◌}
@@ -25,10 +26,10 @@ use Rattle.session_core.specs.Stamps.{tick_of, echo_of}
 use Rattle.session_core.specs.Sealed.{number_bytes, sealed_part}
 use Rattle.endpoint_model.specs.Admission.{packet_in}
 use Rattle.endpoint_model.specs.Sending.{session_packet, session_datagram}
-use Rattle.flow_history.specs.Deeds.{Piece}
+use Rattle.flow_history.specs.Deeds.{Piece, Part}
 use Rattle.endpoint_laws.specs.Contexts.{generation_of}
 use Rattle.endpoint_handing.specs.Told.{sends_in}
-use Rattle.session_deeds.specs.Pieces.{pieces_read, pieces_behind, pieces_of}
+use Rattle.session_deeds.specs.Pieces.{pieces_at, pieces_read, pieces_behind, pieces_of}
 use Rattle.endpoint_handing.proofs.Pieces.{pieces_whole, keys_in, pieces_in}
 use Rattle.endpoint_handing.proofs.Kept.{away, session_of}
 
@@ -60,7 +61,7 @@ session_generation session outward = by session.role
 
 one_placed : (before : Option Numbers) (c : Written) (at other : ℕ) (xs ys : List Placed) → ((b : Option Numbers) → pieces_behind b xs ≡ pieces_behind b ys) → (shown : Bool) →
     pieces_behind before (cond shown (record { kind = c.kind; at = at; payload = c.payload } ∷ xs) xs) ≡ pieces_behind before (cond shown (record { kind = c.kind; at = other; payload = c.payload } ∷ ys) ys)
-one_placed before c at other xs ys same true = ap (λ (p : List Piece). pieces_read (data_reading before c.kind c.payload) ++ p) (same (before_next (data_reading before c.kind c.payload)))
+one_placed before c at other xs ys same true = ap (λ (p : List Piece). pieces_at before c.kind c.payload ++ p) (same (before_next (data_reading before c.kind c.payload)))
 one_placed before c at other xs ys same false = same before
 
 placed_pieces : (before : Option Numbers) (at other : ℕ) (chunks : List Written) → pieces_behind before (visible (all_placed_from at chunks)) ≡ pieces_behind before (visible (all_placed_from other chunks))
@@ -110,7 +111,7 @@ datagram_pieces secret session keyed moment body =
 
 -- ---- a body of one chunk that isn't of flows
 
--- no chunk of flows has the type
+-- no chunk of flows has the type, and no part of a packet
 pub record IsBeside (kind : ℕ) : Type 0 where
   pub data_kind : (kind == 0x10) ≡ false
   pub next_kind : (kind == 0x11) ≡ false
@@ -118,6 +119,7 @@ pub record IsBeside (kind : ℕ) : Type 0 where
   pub ranges : (kind == 0x51) ≡ false
   pub probe : (kind == 0x18) ≡ false
   pub exception : (kind == 0x5e) ≡ false
+  pub part : (kind == 0x7f) ≡ false
 
 beside_read : (a b c d f g : Bool) (x y z w u v r : _) → a ≡ false → b ≡ false → c ≡ false → d ≡ false → f ≡ false → g ≡ false →
     pieces_read (if a then x else if b then y else if c then z else if d then w else if f then u else if g then v else Err r) ≡ []
@@ -129,12 +131,16 @@ beside_read false false false true f g x y z w u v r p q s t o n = absurd cc
 beside_read false false false false true g x y z w u v r p q s t o n = absurd cc
 beside_read false false false false false true x y z w u v r p q s t o n = absurd cc
 
-pub beside_pieces : (before : Option Numbers) (kind : ℕ) (payload : List ℕ) → IsBeside kind → pieces_read (data_reading before kind payload) ≡ []
+beside_all : (before : Option Numbers) (kind : ℕ) (payload : List ℕ) → IsBeside kind → pieces_read (data_reading before kind payload) ≡ []
 unfolding data_reading
-beside_pieces before kind payload is = beside_read (kind == 0x10) (kind == 0x11) (kind == 0x50) (kind == 0x51) (kind == 0x18) (kind == 0x5e) _ _ _ _ _ _ _ is.data_kind is.next_kind is.bitmap is.ranges is.probe is.exception
+beside_all before kind payload is = beside_read (kind == 0x10) (kind == 0x11) (kind == 0x50) (kind == 0x51) (kind == 0x18) (kind == 0x5e) _ _ _ _ _ _ _ is.data_kind is.next_kind is.bitmap is.ranges is.probe is.exception
+
+pub beside_pieces : (before : Option Numbers) (kind : ℕ) (payload : List ℕ) → IsBeside kind → pieces_at before kind payload ≡ []
+beside_pieces before kind payload is =
+    ap (λ (b : Bool). if b then Part ∷ [] else pieces_read (data_reading before kind payload)) is.part ∙ beside_all before kind payload is
 
 one_piece : (b : Bool) (c : Placed) → IsBeside c.kind → pieces_of (cond b (c ∷ []) []) ≡ []
-one_piece true c is = append-nil (pieces_read (data_reading None c.kind c.payload)) ∙ beside_pieces None c.kind c.payload is
+one_piece true c is = append-nil (pieces_at None c.kind c.payload) ∙ beside_pieces None c.kind c.payload is
 one_piece false c is = refl
 
 pub one_beside : (chunk : Written) → IsChunk chunk → IsBeside chunk.kind → body_pieces (written_bytes chunk) ≡ []

@@ -1,4 +1,5 @@
 -- What the chunks of a datagram do.
+use Rattle.std.specs.Prelude.{if◌then◌else◌}
 use Rattle.std.proofs.Common.{◌≡◌, ℕ, ◌==◌, List, [], ◌∷◌, ◌++◌, Bool, true, false, ◌||◌}
 use Rattle.std.proofs.Common.{Option, Some, None, Result, Ok, Err, inl, inr, ◌⊎◌, refl, sym, ap}
 use Rattle.std.proofs.Common.{subst, ◌∙◌}
@@ -36,12 +37,12 @@ use Rattle.endpoint_model.specs.FlowChunks.{flow_taken}
 use Rattle.endpoint_model.specs.Causes.{takes, read_cause}
 use Rattle.endpoint_model.specs.Effects.{without_ended, with_born, with_opened}
 use Rattle.endpoint_model.specs.Effects.{initiator_keyed, chunk_did, read_done, walked, chunks_did}
-use Rattle.flow_history.specs.Deeds.{Context, back, Piece, History}
+use Rattle.flow_history.specs.Deeds.{Context, back, Piece, History, Part}
 use Rattle.flow_history.specs.Lawful.{CameIn}
 use Rattle.endpoint_handing.specs.Told.{sending_context, facts_onto}
 use Rattle.rtmfp_data_chunks.proofs.Fitting.{what_is_read_fits, small_next}
 use Rattle.rtmfp_data_chunks.specs.Fitting.{FitsIn, AreSmall}
-use Rattle.session_deeds.specs.Pieces.{pieces_read, pieces_behind}
+use Rattle.session_deeds.specs.Pieces.{pieces_read, pieces_behind, pieces_at}
 use Rattle.endpoint_laws.proofs.Kin.{holds_still, group_known}
 use Rattle.endpoint_handing.proofs.Kept.{End, away, Stands, AreNew, new_split, IsStill, Hands, Does}
 use Rattle.endpoint_handing.proofs.Kept.{hands_after, does_after, does_nothing}
@@ -51,7 +52,13 @@ use Rattle.endpoint_laws.proofs.Small.{birth, Begins}
 use Rattle.endpoint_laws.proofs.Made.{by_hello, told_made, quiet_read_made, hello_made}
 use Rattle.endpoint_laws.proofs.Made.{initiator_made, responder_made}
 use Rattle.endpoint_laws.proofs.Spelled.{hello_kind}
-use Rattle.endpoint_laws.proofs.ByKind.{is_kind, chunk_by_kind}
+use Rattle.flow_history.proofs.Projected.{came_whole}
+use Rattle.endpoint_model.specs.Gathering.{piece_taken, piece_taken_by}
+use Rattle.endpoint_model.proofs.FlowChunks.{of_flows}
+use Rattle.rtmfp_fragments.specs.Pieces.{piece}
+use Rattle.rtmfp_chunks.specs.declared.reading.ChunkFault.{ChunkFault}
+use Rattle.rtmfp_chunks.specs.Chunk.{Chunk, Fragment}
+use Rattle.endpoint_laws.proofs.ByKind.{is_kind, chunk_by_kind, is_taken}
 use Rattle.endpoint_handing.proofs.Items.{ended_silent, DoesAlways, quiet_does, does_started, does_sought, reply_bare}
 use Rattle.endpoint_handing.proofs.Owed.{FlowsHand}
 
@@ -158,20 +165,42 @@ module _ (e : End) (owed : FlowsHand e) (facts : List Fact) (s : State) (h : His
   taken_at (Attempt near generation) kind read fits here is none came = absurd (no_flows_at_attempt near kind here is)
   taken_at (Session near) kind read fits here is none came = taken_read near read fits none came
 
-  module _ (place : Place) (walk : Walk) (from : AddressParts) (draws : Draws) (c : Placed) (at : BeginsAt e place) (small : AreSmall walk.cursor) (came : CameTo e place s (pieces_read (data_reading walk.cursor c.kind c.payload)) h) where
+  module _ (place : Place) (walk : Walk) (from : AddressParts) (draws : Draws) (c : Placed) (at : BeginsAt e place) (small : AreSmall walk.cursor) (came : CameTo e place s (pieces_at walk.cursor c.kind c.payload) h) where
     pub hands_chunk : AreNew e facts (chunk_did place from draws walk s c).entries → Hands e facts (chunk_did place from draws walk s c) h
     hands_chunk = chunk_by_kind (λ d. AreNew e facts d.entries → Hands e facts d h) place from draws walk s c (record {
       discarded = λ cause. (quiet_does e).discards s c.at cause facts h stands;
-      initiator = λ kind taken none formed. initiator_at place taken (may_begin e place 0x38 (λ q. refl) at taken);
-      responder = λ kind taken none formed. responder_made (quiet_does e) (begins_does e (may_begin e place 0x78 (λ q. refl) at taken)) s (sid_at place) from c.payload facts h stands;
+      initiator = λ kind taken none formed. initiator_at place (is_taken place walk 0x38 taken) (may_begin e place 0x38 (λ q. refl) at (is_taken place walk 0x38 taken));
+      responder = λ kind taken none formed. responder_made (quiet_does e) (begins_does e (may_begin e place 0x78 (λ q. refl) at (is_taken place walk 0x78 taken))) s (sid_at place) from c.payload facts h stands;
       told = λ told taken has. told_made (quiet_does e) s (sid_at place) from c facts h stands;
-      flows = λ is taken none new. taken_at place c.kind (data_reading walk.cursor c.kind c.payload) (λ chunk read. (what_is_read_fits walk.cursor c.kind c.payload chunk small read).0) taken is none came;
+      flows = λ is taken none new. taken_at place c.kind (data_reading walk.cursor c.kind c.payload) (λ chunk read. (what_is_read_fits walk.cursor c.kind c.payload chunk small read).0) (is_taken place walk c.kind taken) is none (flows_came is);
+      piece = λ kind taken new. piece_at place (is_taken place walk 0x7f taken) (part_came kind);
       reads = λ taken formed none.
           by_hello (λ read. chunk_reading c.kind c.payload ≡ read → read_cause s place from read ≡ None → AreNew e facts (read_done s place from read).entries → Hands e facts (read_done s place from read) h)
-          (λ tag cookie cert is none. hello_made (quiet_does e) (begins_does e (may_begin e place 0x70 (λ q. refl) at (subst (λ (k : ℕ). takes place k ≡ true) (hello_kind c.kind c.payload tag cookie cert is) taken))) s place from tag cookie cert facts h stands)
+          (λ tag cookie cert is none. hello_made (quiet_does e) (begins_does e (may_begin e place 0x70 (λ q. refl) at (subst (λ (k : ℕ). takes place k ≡ true) (hello_kind c.kind c.payload tag cookie cert is) (is_taken place walk c.kind taken)))) s place from tag cookie cert facts h stands)
           (λ read other is none. quiet_read_made (quiet_does e) s place from read other (reply_bare s place from read none) facts h stands) (chunk_reading c.kind c.payload) refl none;
     })
       where
+        -- what a chunk of flows has came
+        flows_came : is_of_flows c.kind ≡ true → CameTo e place s (pieces_read (data_reading walk.cursor c.kind c.payload)) h
+        flows_came is =
+            subst (λ (pieces : List Piece). CameTo e place s pieces h)
+            (ap (λ (b : Bool). if b then Part ∷ [] else pieces_read (data_reading walk.cursor c.kind c.payload)) (of_flows (λ k. (k == 0x7f) ≡ false) refl refl refl refl refl refl c.kind is)) came
+
+        -- A part of a packet didn't, since none goes out.
+        piece_by : (near : ℕ) (o : Option Row) → get s.sessions near ≡ o → CameTo e (Session near) s (Part ∷ []) h → (read : Result Chunk ChunkFault) → Hands e facts (piece_taken s near c.at read) h
+        piece_by near None is part (Ok (Fragment more id number bytes)) =
+            subst (λ (o : Option Row). Hands e facts (piece_taken_by s near c.at id (piece number more bytes) o) h) (sym is) (does_nothing e facts s h stands tt)
+        piece_by near None is part read = does_nothing e facts s h stands tt
+        piece_by near (Some row) is part read = absurd (came_whole e.who (back (away row.session)) h stands.lawful stands.honest (part row is Part (inl refl)))
+
+        piece_at : (p : Place) → takes p 0x7f ≡ true → CameTo e p s (Part ∷ []) h → Hands e facts (piece_taken s (sid_at p) c.at (chunk_reading c.kind c.payload)) h
+        piece_at (Startup generation) here part = absurd (cc)
+        piece_at (Attempt near generation) here part = absurd (cc)
+        piece_at (Session near) here part = piece_by near (get s.sessions near) refl part (chunk_reading c.kind c.payload)
+
+        part_came : c.kind ≡ 0x7f → CameTo e place s (Part ∷ []) h
+        part_came kind = subst (λ (pieces : List Piece). CameTo e place s pieces h) (ap (λ (k : ℕ). pieces_at walk.cursor k c.payload) kind) came
+
         initiator_at : (p : Place) → takes p 0x38 ≡ true → e.begins → AreNew e facts (initiator_keyed s p from draws c.payload).entries → Hands e facts (initiator_keyed s p from draws c.payload) h
         initiator_at (Startup generation) taken may = initiator_made (quiet_does e) (begins_does e may) s generation from draws c.payload facts h stands
         initiator_at (Attempt near generation) taken may = absurd (cc)
@@ -179,12 +208,12 @@ module _ (e : End) (owed : FlowsHand e) (facts : List Fact) (s : State) (h : His
 
 -- ---- one chunk after another
 
-in_first : (x : Piece) (xs ys : List Piece) → IsIn x xs → IsIn x (xs ++ ys)
+pub in_first : (x : Piece) (xs ys : List Piece) → IsIn x xs → IsIn x (xs ++ ys)
 in_first x [] ys among = absurd among
 in_first x (y ∷ xs) ys (inl is) = inl is
 in_first x (y ∷ xs) ys (inr among) = inr (in_first x xs ys among)
 
-in_second : (x : Piece) (xs ys : List Piece) → IsIn x ys → IsIn x (xs ++ ys)
+pub in_second : (x : Piece) (xs ys : List Piece) → IsIn x ys → IsIn x (xs ++ ys)
 in_second x [] ys among = among
 in_second x (y ∷ xs) ys among = inr (in_second x xs ys among)
 
@@ -200,13 +229,13 @@ AllCameAt e (Attempt near generation) facts before cs h = Unit {0}
 AllCameAt e (Session near) facts before cs h = AllCame e near facts before cs h
 
 first_came : (e : End) (place : Place) (facts : List Fact) (s : State) (before : Option Numbers) (c : Placed) (cs : List Placed) (h : History) → Stands e facts s h → AllCameAt e place facts before (c ∷ cs) h →
-    CameTo e place s (pieces_read (data_reading before c.kind c.payload)) h
+    CameTo e place s (pieces_at before c.kind c.payload) h
 first_came e (Startup generation) facts s before c cs h stands all = tt
 first_came e (Attempt near generation) facts s before c cs h stands all = tt
 first_came e (Session near) facts s before c cs h stands all = λ row there x among.
     let both : Some all.context ≡ Some (away row.session) = sym all.named ∙ (stands.state.rows near row there).named in
     let is : all.context ≡ away row.session = cc in
-    let one : List Piece = pieces_read (data_reading before c.kind c.payload) in
+    let one : List Piece = pieces_at before c.kind c.payload in
     subst (λ (d : Context). CameIn e.who (back d) x h) is (all.came x (in_first x one (pieces_behind (before_next (data_reading before c.kind c.payload)) cs) among))
 
 pub stays : (e : End) (near : ℕ) (facts more : List Fact) → (e.begins → ⊥) → e.begins ⊎ IsStill e.own near facts more → IsStill e.own near facts more
@@ -220,7 +249,7 @@ rest_came e (Attempt near generation) facts before c cs h d at one all = tt
 rest_came e (Session near) facts before c cs h d at one all = record {
   context = all.context;
   named = stays e near facts (facts_onto d.entries facts) at (one.still near) ∙ all.named;
-  came = λ x among. one.grows.came e.who (back all.context) x (all.came x (in_second x (pieces_read (data_reading before c.kind c.payload)) (pieces_behind (before_next (data_reading before c.kind c.payload)) cs) among));
+  came = λ x among. one.grows.came e.who (back all.context) x (all.came x (in_second x (pieces_at before c.kind c.payload) (pieces_behind (before_next (data_reading before c.kind c.payload)) cs) among));
 }
 
 module _ (e : End) (owed : FlowsHand e) (place : Place) (from : AddressParts) (draws : Draws) (at : BeginsAt e place) where

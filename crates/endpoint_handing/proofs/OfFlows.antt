@@ -25,7 +25,7 @@ use Rattle.endpoint_model.specs.State.{State, nothing, then_do, with_row}
 use Rattle.endpoint_model.specs.OnFlows.{flow_entry}
 use Rattle.endpoint_model.specs.InSessions.{sent_home_by, sent_home}
 use Rattle.endpoint_laws.specs.Past.{fact_and}
-use Rattle.flow_history.specs.Deeds.{Context, back, Name, name, Piece, Data, Ack, Out, History}
+use Rattle.flow_history.specs.Deeds.{Context, back, Name, name, Piece, Data, Ack, Part, Out, History}
 use Rattle.flow_history.specs.Lawful.{MayDo}
 use Rattle.flow_history.specs.Log.{Entry as Tell, Queued as TellQueued, Abandoned as TellAbandoned}
 use Rattle.flow_history.specs.Log.{Handed as TellHanded, log_of}
@@ -253,6 +253,6 @@ module _ (e : End) (facts : List Fact) (s : State) (near : ℕ) (row : Row) (the
       let found : get t.sessions near ≡ Some new = get_inserted s.sessions near new in
       let may : MayDo w.hands.after e.who (Out context (body_pieces body)) =
       subst (λ (ps : List Piece). MayDo w.hands.after e.who (Out context ps)) (sym (put_pieces front packet p.pieces p.put))
-      ((λ f x among. w.said (Data f x) (said_in kept.flows.kept p.deeds p.pieces p.said (Data f x) among)), (λ f a among. w.said (Ack f a) (said_in kept.flows.kept p.deeds p.pieces p.said (Ack f a) among))) in
+      ((λ f x among. w.said (Data f x) (said_in kept.flows.kept p.deeds p.pieces p.said (Data f x) among)), (λ f a among. w.said (Ack f a) (said_in kept.flows.kept p.deeds p.pieces p.said (Ack f a) among)), (λ among. w.said Part (said_in kept.flows.kept p.deeds p.pieces p.said Part among))) in
       hands_after e facts t [] (sent_home t near body) h w.hands
       (subst (λ (o : Option Row). Hands e facts (sent_home_by t near body o) w.hands.after) (sym found) (hands_sent e facts t near new.session.address body new found w.hands.after w.hands.stands may))

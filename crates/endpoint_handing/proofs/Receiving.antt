@@ -41,8 +41,8 @@ use Rattle.endpoint_model.specs.declared.row.Row.{Row}
 use Rattle.endpoint_model.specs.declared.entry.Entry.{Entry}
 use Rattle.endpoint_model.specs.Views.{fact_in}
 use Rattle.endpoint_model.specs.Keying.{chunks_of}
-use Rattle.endpoint_model.specs.State.{State, Did, nothing, then_do}
-use Rattle.endpoint_model.specs.Admission.{packet_in, attempt_group, next_places, places_of, opened_at, heard_by}
+use Rattle.endpoint_model.specs.State.{State, Did, nothing, then_do, after_entries}
+use Rattle.endpoint_model.specs.Admission.{sid_at, packet_in, attempt_group, next_places, places_of, opened_at, heard_by}
 use Rattle.endpoint_model.specs.Admission.{heard_in, placed_or, opened_first}
 use Rattle.endpoint_model.specs.Admission.{counted_by, counted_at, timed_by, timed_at, confirming}
 use Rattle.endpoint_model.specs.Admission.{mode_at, has_mode, Admission, Rejected, Admitted}
@@ -50,14 +50,24 @@ use Rattle.endpoint_model.specs.Admission.{admitted_packet, admitted, admission}
 use Rattle.endpoint_model.specs.InSessions.{tested}
 use Rattle.endpoint_model.specs.FlowChunks.{acked}
 use Rattle.endpoint_model.specs.FlowChunks.{unowed}
-use Rattle.endpoint_model.specs.Effects.{outset, chunks_did, most_acks, walked_and_acked, received, part_received}
+use Rattle.endpoint_model.specs.Gathering.{chunks_in}
+use Rattle.endpoint_model.specs.Causes.{chunk_cause}
+use Rattle.endpoint_model.specs.Effects.{outset, inset, chunks_did, most_acks, walked_and_acked, received, part_received}
+use Rattle.endpoint_model.specs.Effects.{WalkStep, walk_step, walked, in_order, steps_did, steps_of, walk_of, whole_at}
+use Rattle.endpoint_model.specs.Effects.{walked_and_tested, walked_in_part}
+use Rattle.endpoint_model.specs.declared.walk.Walk.{Walk}
+use Rattle.rtmfp_chunks.specs.Chunk.{Fragment}
+use Rattle.rtmfp_chunks.specs.FieldReading.{chunk_reading}
+use Rattle.endpoint_laws.proofs.Spelled.{read_kind}
+use Rattle.endpoint_laws.proofs.Stepping.{fragment_apart, outside_sessions, take_in_order}
+use Rattle.flow_history.proofs.Projected.{sent_whole}
 use Rattle.endpoint_model.specs.Log.{stopped}
 use Rattle.endpoint_laws.specs.Past.{fact_and}
 use Rattle.endpoint_laws.specs.OpensIn.{context_in_session, context_first, opens_in}
-use Rattle.flow_history.specs.Deeds.{Context, back, Piece, In, done, History}
+use Rattle.flow_history.specs.Deeds.{Context, back, Piece, Part, In, done, History}
 use Rattle.flow_history.specs.Lawful.{HasBegun, WasSent}
 use Rattle.endpoint_handing.specs.Told.{sends_in, facts_onto}
-use Rattle.session_deeds.specs.Pieces.{pieces_read, pieces_behind, pieces_of}
+use Rattle.session_deeds.specs.Pieces.{pieces_at, pieces_read, pieces_behind, pieces_of}
 use Rattle.endpoint_handing.proofs.Pieces.{pieces_whole, keys_in, pieces_in}
 use Rattle.endpoint_laws.proofs.Kin.{holds_still}
 use Rattle.endpoint_handing.proofs.Kept.{End, away, session_of, HasStarted, Stands, IsNew, AreNew, new_split}
@@ -70,7 +80,7 @@ use Rattle.endpoint_handing.proofs.Plain.{ping_none}
 use Rattle.endpoint_handing.proofs.Items.{quiet_does}
 use Rattle.endpoint_handing.proofs.Ticks.{timed_does}
 use Rattle.endpoint_handing.proofs.Owed.{FlowsHand}
-use Rattle.endpoint_handing.proofs.Chunks.{BeginsAt, AllCame, AllCameAt, stays, hands_chunks}
+use Rattle.endpoint_handing.proofs.Chunks.{BeginsAt, AllCame, AllCameAt, stays, in_first, in_second, hands_chunks}
 
 -- ---- before the chunks
 
@@ -284,17 +294,17 @@ hands_and e facts h d next first does new =
 
 module _ (e : End) (owed : FlowsHand e) (place : Place) (from : AddressParts) (draws : Draws) (at : BeginsAt e place) (cs : List Placed) (count : ℕ) where
   -- the chunks, and the acks after them
-  hands_acked : (facts : List Fact) (s : State) (h : History) → Stands e facts s h → AllCameAt e place facts None cs h → AreNew e facts (walked_and_acked place from draws s cs count).entries →
-      Hands e facts (walked_and_acked place from draws s cs count) h
+  hands_acked : (facts : List Fact) (s : State) (h : History) → Stands e facts s h → AllCameAt e place facts None cs h → AreNew e facts (walked_and_acked place from draws s (in_order outset cs) count).entries →
+      Hands e facts (walked_and_acked place from draws s (in_order outset cs) count) h
   hands_acked facts s h stands all =
       hands_and e facts h (chunks_did place from draws outset s cs) (λ t. acked count t place) (λ new. hands_chunks e owed place from draws at cs facts outset s h stands tt all new) (λ more t. acked_made (timed_does e owed) count t place more)
 
   -- once the session is confirmed, and with what comes last
   hands_walked : (next : State → Did) (facts : List Fact) (s : State) (h : History) → Stands e facts s h → AllCameAt e place facts None cs h → ((more : List Fact) (t : State) → Does e more t (next t)) →
-      AreNew e facts (then_do (confirming s place) (λ t. then_do (walked_and_acked place from draws t cs count) next)).entries → Hands e facts (then_do (confirming s place) (λ t. then_do (walked_and_acked place from draws t cs count) next)) h
+      AreNew e facts (then_do (confirming s place) (λ t. then_do (walked_and_acked place from draws t (in_order outset cs) count) next)).entries → Hands e facts (then_do (confirming s place) (λ t. then_do (walked_and_acked place from draws t (in_order outset cs) count) next)) h
   hands_walked next facts s h stands all does new =
       let d : Did = confirming s place in
-      let went : Did = walked_and_acked place from draws d.state cs count in
+      let went : Did = walked_and_acked place from draws d.state (in_order outset cs) count in
       let later : Did = then_do went next in
       let parts = new_split e d.entries later.entries facts new in
       let one : Hands e facts d h = confirming_made (quiet_does e) s place facts h stands parts.0 in
@@ -374,7 +384,39 @@ in_some : (x : Piece) (before : Option Numbers) (xs ys : List Placed) → IsIn x
 in_some x before [] ys among = absurd among
 in_some x before (c ∷ xs) ys among =
     let next : Option Numbers = before_next (data_reading before c.kind c.payload) in
-    in_more x (pieces_read (data_reading before c.kind c.payload)) (pieces_behind next xs) (pieces_behind next (xs ++ ys)) (in_some x next xs ys) among
+    in_more x (pieces_at before c.kind c.payload) (pieces_behind next xs) (pieces_behind next (xs ++ ys)) (in_some x next xs ys) among
+
+-- ---- chunks none of which is a part of a packet
+
+abbrev AreWhole : List Placed → Type 0
+AreWhole [] = Unit {0}
+AreWhole (c ∷ cs) = ((c.kind == 0x7f) ≡ false) × AreWhole cs
+
+are_whole : (before : Option Numbers) (cs : List Placed) → (IsIn Part (pieces_behind before cs) → ⊥) → AreWhole cs
+are_whole before [] none = tt
+are_whole before (c ∷ cs) none =
+    let later : List Piece = pieces_behind (before_next (data_reading before c.kind c.payload)) cs in (
+      by (c.kind == 0x7f) refl,
+      are_whole (before_next (data_reading before c.kind c.payload)) cs (λ part. none (in_second Part (pieces_at before c.kind c.payload) later part)),
+    )
+  where
+    by : (b : Bool) → (c.kind == 0x7f) ≡ b → (c.kind == 0x7f) ≡ false
+    by true is = absurd (none (in_first Part (pieces_at before c.kind c.payload) (pieces_behind (before_next (data_reading before c.kind c.payload)) cs)
+        (subst (λ (ps : List Piece). IsIn Part ps) (sym (ap (λ (b : Bool). if b then Part ∷ [] else pieces_read (data_reading before c.kind c.payload)) is)) (inl refl))))
+    by false is = is
+
+none_whole : (s : State) (place : Place) (c : Placed) (o : Option Cause) → (c.kind == 0x7f) ≡ false → whole_at s place o c ≡ None
+none_whole s place c (Some cause) whole = refl
+none_whole s place c None whole = fragment_apart s (sid_at place) (chunk_reading c.kind c.payload) (λ more id number bytes read.
+    let clash : true ≡ false = ap (λ (k : ℕ). k == 0x7f) (sym (read_kind c.kind c.payload (Fragment more id number bytes) read)) ∙ whole in cc)
+
+whole_steps : (place : Place) (from : AddressParts) (draws : Draws) (walk : Walk) (s : State) (cs : List Placed) → AreWhole cs → steps_of place from draws walk s cs ≡ in_order walk cs
+whole_steps place from draws walk s [] whole = refl
+whole_steps place from draws walk s (c ∷ cs) whole =
+    ap (λ (o : Option (List ℕ)).
+    let these : List WalkStep = walk_step walk c ∷ in_order inset (chunks_in s (sid_at place) o) in
+    these ++ steps_of place from draws (walked walk c) (steps_did place from draws s these).state cs) (none_whole s place c (chunk_cause s place walk from c) whole.0)
+    ∙ ap (λ (xs : List WalkStep). walk_step walk c ∷ xs) (whole_steps place from draws (walked walk c) (steps_did place from draws s (walk_step walk c ∷ [])).state cs whole.1)
 
 -- ---- all of it
 
@@ -388,7 +430,7 @@ module _ (e : End) (owed : (A : Type 0) → FlowsHand (with_begins e A)) (from :
   -- the chunks of a packet that was admitted, or some of them, so many packets of acks, and what comes then
   module _ (t : State) (packet : Whole) (cs : List Placed) (rest : List Placed) (whole : chunks_of packet ≡ cs ++ rest) (count : ℕ) (next : State → Did) (does : (A : Type 0) (more : List Fact) (u : State) → Does (with_begins e A) more u (next u)) where
     abbrev did : Place → Did
-    did place = then_do (confirming t place) (λ u. then_do (walked_and_acked place from draws u cs count) next)
+    did place = then_do (confirming t place) (λ u. then_do (walked_and_acked place from draws u (in_order outset cs) count) next)
 
     -- outside of sessions
     hands_outside : (place : Place) → BeginsAt open_end place → AllCameAt open_end place facts None cs h → Stands open_end facts t h → AreNew open_end facts (did place).entries → Hands open_end facts (did place) h
@@ -419,18 +461,39 @@ module _ (e : End) (owed : (A : Type 0) → FlowsHand (with_begins e A)) (from :
     hands_admitted (Attempt near generation) alike opens arrives stands new = hands_outside (Attempt near generation) tt tt (stands_silent open_end facts s t [] tt alike h stands) new
     hands_admitted (Session near) alike opens arrives stands new = hands_inside near opens alike arrives stands (stands_silent open_end facts s t [] tt alike h stands) new
 
+  -- no chunk of a packet that was admitted completes another packet
+  walk_plain : (place : Place) (packet : Whole) → OpensAt s datagram place packet → Arrives open_end s datagram h → Stands open_end facts s h → (u : State) → walk_of place from draws u packet ≡ in_order outset (chunks_of packet)
+  walk_plain (Startup generation) packet opens arrives stands u = outside_sessions (Startup generation) refl from draws outset u (chunks_of packet)
+  walk_plain (Attempt near generation) packet opens arrives stands u = outside_sessions (Attempt near generation) refl from draws outset u (chunks_of packet)
+  walk_plain (Session near) packet opens arrives stands u =
+      let row : Row = opens.row in
+      let c : Context = back (away row.session) in
+      let kept = stands.state.rows near row opens.there in
+      let sent : WasSent c (pieces_in kept.keyed.secret c datagram) h = arrives near row opens.there opens.opens kept.keyed.secret kept.keyed.known in
+      let are : pieces_in kept.keyed.secret c datagram ≡ pieces_of (chunks_of packet) = came_pieces kept.keyed.secret row.session datagram packet kept.keyed.keyed opens.reads in
+      whole_steps (Session near) from draws outset u (chunks_of packet) (are_whole None (chunks_of packet) (λ part. sent_whole c (pieces_in kept.keyed.secret c datagram) h stands.lawful sent (subst (λ (ps : List Piece). IsIn Part ps) (sym are) part)))
+
   module _ (short : length draws.token < 2 ^ 16) (arrives : Arrives open_end s datagram h) (stands : Stands open_end facts s h) where
     received_by : (a : Admission) → AdmissionIs s datagram a → AreNew open_end facts (received from draws a).entries → Hands open_end facts (received from draws a) h
     received_by (Rejected t cause) alike new = (quiet_does open_end).discards t 0 cause facts h (stands_silent open_end facts s t [] tt alike h stands) new
     received_by (Admitted t place packet) so new =
-        hands_admitted t packet (chunks_of packet) [] (sym (append-nil (chunks_of packet))) most_acks (λ u. tested u place from draws) (λ A more u. tested_made (quiet_does (with_begins e A)) u place from draws (ping_none draws.token short) more)
-        place so.0 so.1 arrives stands new
+        let d : Did = confirming t place in
+        let all : List WalkStep → Did = λ xs. after_entries d.entries (walked_and_tested place from draws d.state xs) in
+        let same : all (walk_of place from draws d.state packet) ≡ all (in_order outset (chunks_of packet)) = ap all (walk_plain place packet so.1 arrives stands d.state) in
+        subst (λ (x : Did). AreNew open_end facts x.entries → Hands open_end facts x h) (sym same)
+        (λ fresh. hands_admitted t packet (chunks_of packet) [] (sym (append-nil (chunks_of packet))) most_acks (λ u. tested u place from draws) (λ A more u. tested_made (quiet_does (with_begins e A)) u place from draws (ping_none draws.token short) more)
+        place so.0 so.1 arrives stands fresh) new
 
     part_by : (count acks : ℕ) (a : Admission) → AdmissionIs s datagram a → AreNew open_end facts (part_received from draws a count acks).entries → Hands open_end facts (part_received from draws a count acks) h
     part_by count acks (Rejected t cause) alike new = does_nothing open_end facts t h (stands_silent open_end facts s t [] tt alike h stands) tt
     part_by count acks (Admitted t place packet) so new =
-        hands_admitted t packet (take count (chunks_of packet)) (drop count (chunks_of packet)) (sym (take-append-drop count (chunks_of packet))) acks (λ u. nothing (unowed u place)) (λ A more u. unowed_made (timed_does (with_begins e A) (owed A)) u place more)
-        place so.0 so.1 arrives stands new
+        let d : Did = confirming t place in
+        let all : List WalkStep → Did = λ xs. after_entries d.entries (walked_in_part place from draws d.state xs acks) in
+        let same : all (take count (walk_of place from draws d.state packet)) ≡ all (in_order outset (take count (chunks_of packet))) =
+        ap (λ xs. all (take count xs)) (walk_plain place packet so.1 arrives stands d.state) ∙ ap all (take_in_order count outset (chunks_of packet)) in
+        subst (λ (x : Did). AreNew open_end facts x.entries → Hands open_end facts x h) (sym same)
+        (λ fresh. hands_admitted t packet (take count (chunks_of packet)) (drop count (chunks_of packet)) (sym (take-append-drop count (chunks_of packet))) acks (λ u. nothing (unowed u place)) (λ A more u. unowed_made (timed_does (with_begins e A) (owed A)) u place more)
+        place so.0 so.1 arrives stands fresh) new
 
     pub hands_received : AreNew open_end facts (received from draws (admission s datagram)).entries → Hands open_end facts (received from draws (admission s datagram)) h
     hands_received new = received_by (admission s datagram) (admission_is s datagram) new

@@ -20,7 +20,7 @@ use Rattle.flow_history.specs.Flow.{Hands as HandsStep, Acks as AcksStep}
 use Rattle.flow_history.specs.Flow.{sending_after, sending_at, taking_after, taking_at}
 use Rattle.flow_history.specs.Said.{WasGiven, WasTold, IsGiven, IsTold, Gives, Tells}
 use Rattle.flow_history.specs.Run.{OpensAs, queued_act, abandoned_act, message_in, handed_next_by}
-use Rattle.flow_history.specs.Deeds.{Context, back, same, Name, name, same_name, Piece, Data, Ack}
+use Rattle.flow_history.specs.Deeds.{Context, back, same, Name, name, same_name, Piece, Data, Ack, Part}
 use Rattle.flow_history.specs.Deeds.{Deed as Done_in, OpensFlow, ActsOn as ActsOn_flow, MakesFlow}
 use Rattle.flow_history.specs.Deeds.{TakesFrom}
 use Rattle.flow_history.specs.Deeds.{HandsOn, AcksOn, done, History, by_name, touch_of, steps_of}
@@ -211,10 +211,12 @@ begins_none who c d h at (inr was) = was
 abbrev pub Said : ℕ → Context → History → Piece → Type 0
 Said who c h (Data f x) = WasGiven (steps_of (name c f) h) x
 Said who c h (Ack f a) = WasTold (steps_of (name (back c) f) h) a
+Said who c h Part = ⊥
 
 pub said_later : (who : ℕ) (c : Context) (h after : History) (p : Piece) → Grows who h after → Said who c h p → Said who c after p
 said_later who c h after (Data f x) grows was = grows.given (name c f) x was
 said_later who c h after (Ack f a) grows was = grows.told (name (back c) f) a was
+said_later who c h after Part grows was = was
 
 gives_here : (f : ℕ) (c : Context) (act : Act) (k : Option (Option Opened)) (x : Carried) → IsGiven k act x → Gives k (touch_of (name c f) (ActsOn_flow (name c f) act)) x
 gives_here f c act k x given = subst (λ (t : Touch). Gives k t x) (sym (here f f c (BySender (Acts act)) ∙ ap (λ (b : Bool). cond b (BySender (Acts act)) Beside) (number_self f))) given

@@ -112,4 +112,4 @@ module _ (e : End) (facts : List Fact) (s : State) (near : ℕ) (to : AddressPar
 
     -- a body without pieces
     pub does_out : body_pieces body ≡ [] → Does e facts s out
-    does_out none h stands new = hands_out h stands (subst (λ (p : List Piece). MayDo h e.who (Out context p)) (sym none) ((λ f x among. absurd among), (λ f a among. absurd among)))
+    does_out none h stands new = hands_out h stands (subst (λ (p : List Piece). MayDo h e.who (Out context p)) (sym none) ((λ f x among. absurd among), (λ f a among. absurd among), (λ among. among)))
