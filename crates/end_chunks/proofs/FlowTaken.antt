@@ -221,8 +221,8 @@ module _ (s : State) (place : Place) (walk : Walk) (from : AddressParts) (draws 
       ∙ ap (λ (b : Bool). if b then states_nothing (get s.sessions (sid_at place)) (data_reading walk.cursor c.kind c.payload) else is_idle s place from c) (sym kind) ∙ e
 
 -- the walk behind a chunk that is none of flows
-pub gone_on : (walk new : Walk) (c : Placed) → is_of_flows c.kind ≡ false → new.keyed ≡ (walk.keyed || (c.kind == 0x38)) → new.cursor ≡ None → new ≡ walked walk c
-gone_on walk new c kind keyed cursor = λ i. record { keyed = keyed i; cursor = (cursor ∙ sym (none_behind walk.cursor c.kind c.payload kind)) i }
+pub gone_on : (walk new : Walk) (c : Placed) → is_of_flows c.kind ≡ false → new.keyed ≡ (walk.keyed || (c.kind == 0x38)) → new.gathered ≡ walk.gathered → new.cursor ≡ None → new ≡ walked walk c
+gone_on walk new c kind keyed gathered cursor = λ i. record { keyed = keyed i; gathered = gathered i; cursor = (cursor ∙ sym (none_behind walk.cursor c.kind c.payload kind)) i }
 
 no_length : {A : Type 0} (xs : List A) → length xs ≡ 0 → xs ≡ []
 no_length [] e = refl

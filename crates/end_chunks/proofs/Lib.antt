@@ -8,3 +8,5 @@ mod Found
 pub mod Introduced
 pub mod Relocating
 mod Ways
+mod Fragments
+mod Pieced

@@ -13,7 +13,7 @@ use Rattle.endpoint_model.specs.declared.place.Place.{Place}
 use Rattle.endpoint_model.specs.declared.walk.Walk.{Walk}
 use Rattle.endpoint_model.specs.Admission.{group_at}
 use Rattle.endpoint_model.specs.State.{State, full}
-use Rattle.endpoint_model.specs.Causes.{initiator_keying_cause, takes}
+use Rattle.endpoint_model.specs.Causes.{initiator_keying_cause, takes_in}
 use Rattle.end_chunks.specs.Judging.{judged_cause}
 
 last_stands : (o : Option Cause) → first_that_stands (o ∷ []) ≡ o
@@ -30,23 +30,23 @@ caused found cause (Some other) e = cc
 
 module _ (s : State) (place : Place) (walk : Walk) (from : AddressParts) (payload : List ℕ) (read : InitiatorKeying) where
   -- the causes where its place takes it, it reads, and no keying came before it
-  stands : takes place 0x38 ≡ true → walk.keyed ≡ false → initiator_keying_in payload ≡ Ok read →
-      judged_cause place 0x38 (keying_fault 0x38 payload) (initiator_keying_cause s place walk from payload) ≡ initiator_cause s.startup payload from s.moment (full s) (group_at s place) read
+  stands : takes_in place walk 0x38 ≡ true → walk.keyed ≡ false → initiator_keying_in payload ≡ Ok read →
+      judged_cause place walk 0x38 (keying_fault 0x38 payload) (initiator_keying_cause s place walk from payload) ≡ initiator_cause s.startup payload from s.moment (full s) (group_at s place) read
   stands taken first reads =
       (λ i. first_that_stands (fault_in (reads i) ∷ where_true (not (taken i)) WrongPlace
       ∷ (if first i then Some SecondKeying else cause_by (initiator_cause s.startup payload from s.moment (full s) (group_at s place)) (reads i)) ∷ []))
       ∙ last_stands (initiator_cause s.startup payload from s.moment (full s) (group_at s place) read)
 
-  pub judged_none : (found : Hearing) → takes place 0x38 ≡ true → walk.keyed ≡ false → initiator_keying_in payload ≡ Ok read →
+  pub judged_none : (found : Hearing) → takes_in place walk 0x38 ≡ true → walk.keyed ≡ false → initiator_keying_in payload ≡ Ok read →
       judged_initiator s.startup payload from s.moment (full s) (group_at s place) read ≡ Ok found →
-      judged_cause place 0x38 (keying_fault 0x38 payload) (initiator_keying_cause s place walk from payload) ≡ None
+      judged_cause place walk 0x38 (keying_fault 0x38 payload) (initiator_keying_cause s place walk from payload) ≡ None
   judged_none found taken first reads judged =
       stands taken first reads
       ∙ uncaused (hearing s.startup read (cookie_test s.startup.cookie_secret read.cookie from s.moment)) found (initiator_cause s.startup payload from s.moment (full s) (group_at s place) read) judged
 
-  pub judged_some : (cause : Cause) → takes place 0x38 ≡ true → walk.keyed ≡ false → initiator_keying_in payload ≡ Ok read →
+  pub judged_some : (cause : Cause) → takes_in place walk 0x38 ≡ true → walk.keyed ≡ false → initiator_keying_in payload ≡ Ok read →
       judged_initiator s.startup payload from s.moment (full s) (group_at s place) read ≡ Err cause →
-      judged_cause place 0x38 (keying_fault 0x38 payload) (initiator_keying_cause s place walk from payload) ≡ Some cause
+      judged_cause place walk 0x38 (keying_fault 0x38 payload) (initiator_keying_cause s place walk from payload) ≡ Some cause
   judged_some cause taken first reads judged =
       stands taken first reads
       ∙ caused (hearing s.startup read (cookie_test s.startup.cookie_secret read.cookie from s.moment)) cause (initiator_cause s.startup payload from s.moment (full s) (group_at s place) read) judged

@@ -26,13 +26,14 @@ use Rattle.startup.specs.Judging.{judged_initiator, IsFound, IsGreeted, found_in
 use Rattle.startup.specs.Judging.{after_extension_of, extension_spread}
 use Rattle.endpoint_model.specs.declared.config.Draws.{Draws}
 use Rattle.endpoint_model.specs.declared.place.Place.{Place}
+use Rattle.endpoint_model.specs.declared.walk.Walk.{Walk}
 use Rattle.endpoint_model.specs.State.{State, Did, nothing, after_entries, then_do, fact_entries}
 use Rattle.endpoint_model.specs.State.{with_startup, full}
 use Rattle.endpoint_model.specs.Sending.{is_spent, sent_answer, sent_if, sent_in_session}
 use Rattle.endpoint_model.specs.Admission.{group_at, sid_at}
 use Rattle.endpoint_model.specs.InSessions.{answers_by, close_taken_by, closed, moved_by}
 use Rattle.endpoint_model.specs.InSessions.{told_in_session}
-use Rattle.endpoint_model.specs.Causes.{has_state_for, read_cause, takes}
+use Rattle.endpoint_model.specs.Causes.{has_state_for, read_cause, takes_in}
 use Rattle.endpoint_model.specs.Effects.{initiator_keyed, responder_keyed, read_done}
 use Rattle.endpoint_model.specs.Effects.{adds_nothing, forwarded, is_told_in_session}
 use Rattle.endpoint_model.specs.Effects.{sent_spread_if}
@@ -46,9 +47,9 @@ use Rattle.end_chunks.specs.declared.judging.Verdict.TheVariants.{Reply, Close, 
 use Rattle.end_chunks.specs.declared.judging.Verdict.TheVariants.{PingReply, Quiet}
 
 -- the causes of a chunk that is judged, where these are that of its form and its last one
-abbrev pub judged_cause : Place → ℕ → Option Cause → Option Cause → Option Cause
-judged_cause place kind form last =
-    first_that_stands (form ∷ where_true (not (takes place kind)) WrongPlace ∷ last ∷ [])
+abbrev pub judged_cause : Place → Walk → ℕ → Option Cause → Option Cause → Option Cause
+judged_cause place walk kind form last =
+    first_that_stands (form ∷ where_true (not (takes_in place walk kind)) WrongPlace ∷ last ∷ [])
 
 -- the last cause of one that is no keying
 abbrev pub other_cause : State → Place → AddressParts → Placed → Option Cause

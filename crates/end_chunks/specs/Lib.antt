@@ -1,3 +1,4 @@
 pub mod Judging
 pub mod Steps
 pub mod FlowChunks
+pub mod Pieces

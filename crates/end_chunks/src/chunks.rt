@@ -1,7 +1,8 @@
 //! One chunk of a datagram: it is discarded for its cause, or does what it does.
 
-ghost use Rattle.std.specs.Prelude.{ℕ, ◌≡◌, ◌||◌, ◌<◌, ◌≤◌, ◌^◌, IsOk, OnErr, OnOk};
-ghost use Rattle.std.specs.Prelude.{List, length, Option, None};
+ghost use Rattle.std.specs.Prelude.{ℕ, ◌≡◌, ◌==◌, ◌||◌, ◌<◌, ◌≤◌, ◌^◌, IfOk, IsOk, OnErr, OnOk};
+ghost use Rattle.std.specs.Prelude.{List, false, length, Option, None};
+ghost use Rattle.rtmfp_chunks.specs.declared.kinds.TheConstants.{FRAGMENT};
 ghost use Rattle.rtmfp_chunks.specs.Chunk.{chunk_of};
 ghost use Rattle.rtmfp_chunks.specs.Writing.{IsWritable, chunk_bytes};
 ghost use Rattle.rtmfp_packet.specs.Chunks.{shown};
@@ -11,6 +12,7 @@ ghost use Rattle.startup.specs.Keyings.{initiator_hello_answer};
 ghost use Rattle.startup.specs.Judging.{found_in, IsFound, IsGreeted};
 ghost use Rattle.endpoint_model.specs.Admission.{group_at};
 ghost use Rattle.endpoint_model.specs.Effects.{IsQuiet, chunk_did, discards_for, walked};
+ghost use Rattle.endpoint_model.specs.Effects.{whole_at};
 ghost use Rattle.endpoint_model.specs.Causes.{chunk_cause};
 ghost use Rattle.endpoint_model.specs.Sending.{sent_answer, sent_if, sent_in_session};
 ghost use Rattle.endpoint_model.specs.State.{Done, nothing, with_startup};
@@ -22,11 +24,14 @@ use crate::introducing::{extend, introduce};
 use crate::judging::{Verdict, judge, sid_at};
 use crate::keyings::{initiator_keyed, responder_keyed};
 use crate::moving::take_ping_reply;
+use crate::pieces::take_piece;
 use end_state::{EndState, Outbox, blank, fact_entry};
 use endpoint_model::{Draws, Kind, Place, Walk, kind_of};
 use rtmfp_base::Cause;
 use rtmfp_chunks::ChunkView;
+use rtmfp_chunks::kinds::FRAGMENT;
 use rtmfp_forms::Address;
+use rtmfp_fragments::Plain;
 use rtmfp_packet::RawChunk;
 use startup::{Found, Greeting};
 use std::alloc::AllocError;
@@ -236,15 +241,16 @@ fn reply(
 /// The walk goes on behind a chunk that is none of flows, which is an initiator's keying or isn't.
 fn go_on(walk: &mut Walk, is_keying: bool)
     ensures keyed { walk.new.keyed ≡ (walk.old.keyed || is_keying) }
+    ensures gathered { walk.new.gathered ≡ walk.old.gathered }
     ensures cursor { walk.new.cursor ≡ None }
 {
     walk.keyed = walk.keyed || is_keying;
     walk.cursor.other();
 }
 
-/// Takes one chunk, which came from an address: it is discarded for its cause, or does what it
-/// does, and the walk over the datagram's chunks goes on behind it.
-pub fn take_chunk(
+/// Takes a chunk that is no fragment: it is discarded for its cause, or does what it does, and the
+/// walk goes on behind it.
+fn take_other(
     end: &mut EndState,
     place: Place,
     from: &Address,
@@ -253,7 +259,8 @@ pub fn take_chunk(
     chunk: &RawChunk<'_>,
     out: &mut Outbox,
 ) -> Result<(), AllocError>
-    requires { chunk.now.at < 2 ^ 32 }
+    requires place { chunk.now.at < 2 ^ 32 }
+    requires apart { (chunk.now.kind == FRAGMENT) ≡ false }
     ensures ok { OnOk result
         (Done (chunk_did place from.now draws.now walk.old end.old (shown chunk.now))
         end.new out.old out.new) }
@@ -285,5 +292,41 @@ pub fn take_chunk(
                 Err(cause) => end.discard(chunk.at, cause, out),
             }
         }
+    }
+}
+
+/// Takes one chunk, which came from an address: it is discarded for its cause, or does what it
+/// does, and the walk over the chunks of its packet goes on behind it. The packet that it completes,
+/// where it is a piece of one, is given.
+pub fn take_chunk(
+    end: &mut EndState,
+    place: Place,
+    from: &Address,
+    draws: &Draws,
+    walk: &mut Walk,
+    chunk: &RawChunk<'_>,
+    out: &mut Outbox,
+) -> Result<Option<Plain>, AllocError>
+    requires { chunk.now.at < 2 ^ 32 }
+    ensures ok { OnOk result
+        (Done (chunk_did place from.now draws.now walk.old end.old (shown chunk.now))
+        end.new out.old out.new) }
+    ensures whole { IfOk result (λ plain. plain ≡ whole_at end.old place
+        (chunk_cause end.old place walk.old from.now (shown chunk.now)) (shown chunk.now)) }
+    ensures err { OnErr result (Done (nothing end.old) end.new out.old out.new) }
+    ensures walk { walk.new ≡ walked walk.old (shown chunk.now) }
+    // A chunk that adds nothing but its discard asks for no memory where there is room.
+    ensures enough { IsQuiet end.old place walk.old from.now (shown chunk.now) →
+        discards_for (chunk_cause end.old place walk.old from.now (shown chunk.now))
+        ≤ out.old.free → IsOk result }
+{
+    if chunk.kind == FRAGMENT {
+        let taken = take_piece(end, place, walk, chunk.at, chunk.payload, out);
+        go_on(walk, false);
+        return taken;
+    }
+    match take_other(end, place, from, draws, walk, chunk, out) {
+        Ok(()) => Ok(None),
+        Err(error) => Err(error),
     }
 }

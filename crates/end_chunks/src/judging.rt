@@ -1,10 +1,10 @@
 //! One look at a chunk: why it is discarded, or what it would do. Nothing changes here, and no
 //! memory is taken.
 
-ghost use Rattle.std.specs.Prelude.{◌≡◌, ◌∷◌, [], IfErr, IfOk, None, Ok, Some, false, length};
+ghost use Rattle.std.specs.Prelude.{◌≡◌, ◌==◌, IfErr, IfOk, None, Ok, Some, false, length};
 ghost use Rattle.std.specs.Prelude.{nat_lt, true};
 ghost use Rattle.std.specs.FinMap.{get};
-ghost use Rattle.rtmfp_base.specs.Reasons.{first_that_stands, where_true};
+ghost use Rattle.rtmfp_base.specs.Reasons.{where_true};
 ghost use Rattle.rtmfp_forms.specs.Address.{AddressParts};
 ghost use Rattle.rtmfp_chunks.specs.declared.kinds.TheConstants.{FRAGMENT, IIKEYING, RIKEYING};
 ghost use Rattle.rtmfp_chunks.specs.Chunk.{chunk_of, kind_of, CookieChange};
@@ -29,7 +29,6 @@ use end_state::{EndState, RowAddresses};
 use endpoint_model::{KindRow, Place, Walk, Way};
 use identity::Certificate;
 use rtmfp_base::Cause;
-use rtmfp_chunks::kinds::FRAGMENT;
 use rtmfp_chunks::{ChunkFault, ChunkView, read_chunk};
 use rtmfp_forms::Address;
 use rtmfp_packet::RawChunk;
@@ -136,7 +135,7 @@ fn view_fault(len: usize, view: &ChunkView<'_>) -> Option<Cause>
 }
 
 /// The fields of a chunk that is no keying, or why one of them or its certificate can't be read.
-fn read_formed(kind: u8, payload: &[u8]) -> Result<ChunkView<'_>, Cause>
+pub(crate) fn read_formed(kind: u8, payload: &[u8]) -> Result<ChunkView<'_>, Cause>
     ensures reads { IfOk result (λ view. chunk_reading kind payload.now ≡ Ok (chunk_of view)) }
     ensures kind { IfOk result (λ view. kind_of (chunk_of view) ≡ kind) }
     ensures none { IfOk result (λ _. read_fault (length payload.now) (chunk_reading kind
@@ -234,6 +233,7 @@ fn judge_view<'a>(
     from: &Address,
     view: ChunkView<'a>,
 ) -> Result<Verdict<'a>, Cause>
+    requires { (kind_of (chunk_of view) == FRAGMENT) ≡ false }
     ensures ok { IfOk result (Stands end.now place from.now
         (λ _. view_done end.now place from.now (chunk_of view.entry))) }
     ensures none { IfOk result (λ _. read_cause end.now place from.now
@@ -268,10 +268,9 @@ fn judge_view<'a>(
         ChunkView::Close => Ok(Verdict::Close),
         ChunkView::CloseAck => Ok(Verdict::CloseAck),
         ChunkView::PingReply { bytes } => Ok(judge_reply(end, place, from, bytes)),
-        // None of these is judged by its fields.
-        ChunkView::IIKeying { .. } | ChunkView::RIKeying { .. } | ChunkView::Fragment { .. } => {
-            Ok(Verdict::Quiet)
-        }
+        // Neither of these is judged by its fields.
+        ChunkView::IIKeying { .. } | ChunkView::RIKeying { .. } => Ok(Verdict::Quiet),
+        ChunkView::Fragment { .. } => unreachable!(),
     }
 }
 
@@ -288,10 +287,10 @@ fn judge_initiator<'a>(
     requires kind { kind.now.kind ≡ IIKEYING }
     ensures ok { IfOk result (Stands end.now place from.now
         (λ draws. initiator_keyed end.now place from.now draws payload.now)) }
-    ensures none { IfOk result (λ _. judged_cause place IIKEYING
+    ensures none { IfOk result (λ _. judged_cause place walk.now IIKEYING
         (keying_fault IIKEYING payload.now)
         (initiator_keying_cause end.now place walk.now from.now payload.now) ≡ None) }
-    ensures refused { IfErr result (λ cause. judged_cause place IIKEYING
+    ensures refused { IfErr result (λ cause. judged_cause place walk.now IIKEYING
         (keying_fault IIKEYING payload.now)
         (initiator_keying_cause end.now place walk.now from.now payload.now) ≡ Some cause) }
 {
@@ -299,7 +298,7 @@ fn judge_initiator<'a>(
         Ok(fields) => fields,
         Err(cause) => return Err(cause),
     };
-    if !kind.takes(place) {
+    if !kind.takes_in(place, walk) {
         return Err(Cause::WrongPlace);
     }
     if walk.keyed {
@@ -320,6 +319,7 @@ fn judge_initiator<'a>(
 fn judge_responder<'a>(
     end: &EndState,
     place: Place,
+    walk: &Walk,
     kind: &KindRow,
     payload: &'a [u8],
 ) -> Result<Verdict<'a>, Cause>
@@ -327,10 +327,10 @@ fn judge_responder<'a>(
     requires kind { kind.now.kind ≡ RIKEYING }
     ensures ok { IfOk result (λ verdict. (from : AddressParts) → Stands end.now place from
         (λ _. responder_keyed end.now (sid_at place) from payload.now) verdict) }
-    ensures none { IfOk result (λ _. judged_cause place RIKEYING
+    ensures none { IfOk result (λ _. judged_cause place walk.now RIKEYING
         (keying_fault RIKEYING payload.now)
         (responder_keying_cause end.now place payload.now) ≡ None) }
-    ensures refused { IfErr result (λ cause. judged_cause place RIKEYING
+    ensures refused { IfErr result (λ cause. judged_cause place walk.now RIKEYING
         (keying_fault RIKEYING payload.now)
         (responder_keying_cause end.now place payload.now) ≡ Some cause) }
 {
@@ -338,7 +338,7 @@ fn judge_responder<'a>(
         Ok(fields) => fields,
         Err(cause) => return Err(cause),
     };
-    if !kind.takes(place) {
+    if !kind.takes_in(place, walk) {
         return Err(Cause::WrongPlace);
     }
     let group = end.group_at(place);
@@ -348,34 +348,25 @@ fn judge_responder<'a>(
     }
 }
 
-/// Why a part of a packet is discarded.
-fn fragment_cause(payload: &[u8]) -> Cause
-    ensures { first_that_stands (read_fault (length payload.now)
-        (chunk_reading FRAGMENT payload.now) ∷ Some Cause.Fragment ∷ []) ≡ Some result }
-{
-    match read_formed(FRAGMENT, payload) {
-        Ok(_) => Cause::Fragment,
-        Err(cause) => cause,
-    }
-}
-
 /// What a chunk does that is judged by its fields, or why it is discarded.
 fn judge_fields<'a>(
     end: &EndState,
     place: Place,
+    walk: &Walk,
     from: &Address,
     kind: &KindRow,
     chunk: &RawChunk<'a>,
 ) -> Result<Verdict<'a>, Cause>
     requires row { IsRow kind.now }
     requires kind { kind.now.kind ≡ chunk.now.kind }
+    requires apart { (chunk.now.kind == FRAGMENT) ≡ false }
     ensures ok { IfOk result (Stands end.now place from.now
         (λ _. other_done end.now place from.now (shown chunk.now))) }
-    ensures none { IfOk result (λ _. judged_cause place chunk.now.kind
+    ensures none { IfOk result (λ _. judged_cause place walk.now chunk.now.kind
         (read_fault (length chunk.now.payload.now)
         (chunk_reading chunk.now.kind chunk.now.payload.now))
         (other_cause end.now place from.now (shown chunk.now)) ≡ None) }
-    ensures refused { IfErr result (λ cause. judged_cause place chunk.now.kind
+    ensures refused { IfErr result (λ cause. judged_cause place walk.now chunk.now.kind
         (read_fault (length chunk.now.payload.now)
         (chunk_reading chunk.now.kind chunk.now.payload.now))
         (other_cause end.now place from.now (shown chunk.now)) ≡ Some cause) }
@@ -386,7 +377,7 @@ fn judge_fields<'a>(
         Ok(view) => view,
         Err(cause) => return Err(cause),
     };
-    if !kind.takes(place) {
+    if !kind.takes_in(place, walk) {
         return Err(Cause::WrongPlace);
     }
     if !has_state_for(end, place, kind) {
@@ -395,8 +386,8 @@ fn judge_fields<'a>(
     judge_view(end, place, from, view)
 }
 
-/// What a chunk does that is none of flows and of a type with this row, which came from an address
-/// after the walk over those before it; or why it is discarded.
+/// What a chunk does that is none of flows, no fragment and of a type with this row, which came from
+/// an address after the walk over those before it; or why it is discarded.
 pub(crate) fn judge<'a>(
     end: &EndState,
     place: Place,
@@ -407,6 +398,7 @@ pub(crate) fn judge<'a>(
 ) -> Result<Verdict<'a>, Cause>
     requires row { IsRow kind.now }
     requires kind { kind.now.kind ≡ chunk.now.kind }
+    requires apart { (chunk.now.kind == FRAGMENT) ≡ false }
     ensures ok { IfOk result (Stands end.now place from.now
         (λ draws. effect end.now place walk.now from.now draws (shown chunk.now))) }
     ensures none { IfOk result (λ _. chunk_cause end.now place walk.now from.now
@@ -419,8 +411,8 @@ pub(crate) fn judge<'a>(
 {
     match kind.way {
         Way::InitiatorKeying => judge_initiator(end, place, walk, from, kind, chunk.payload),
-        Way::ResponderKeying => judge_responder(end, place, kind, chunk.payload),
-        Way::Fragment => Err(fragment_cause(chunk.payload)),
-        Way::Fields => judge_fields(end, place, from, kind, chunk),
+        Way::ResponderKeying => judge_responder(end, place, walk, kind, chunk.payload),
+        Way::Fragment => unreachable!(),
+        Way::Fields => judge_fields(end, place, walk, from, kind, chunk),
     }
 }

@@ -9,5 +9,6 @@ mod introducing;
 mod judging;
 mod keyings;
 mod moving;
+mod pieces;
 
 pub use chunks::take_chunk;

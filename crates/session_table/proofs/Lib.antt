@@ -10,3 +10,4 @@ mod Staying
 mod Behind
 pub mod Late
 mod LateKept
+pub mod Gathered

@@ -1,9 +1,9 @@
-//! Chunks of flows that are judged and taken in one of the sessions. Where no session has the
-//! session ID, no chunk is taken.
+//! Chunks of flows and pieces of packets that are judged and taken in one of the sessions. Where no
+//! session has the session ID, none is taken.
 
 ghost use Rattle.std.specs.Prelude.{◌≡◌, ◌<◌, ◌≤◌, ◌+◌, ◌-◌, ◌^◌, ◌++◌, IfErr, IfOk, IfSome, IsOk};
-ghost use Rattle.std.specs.Prelude.{MatchOption, Err, None, OnErr, OnOk, Some, false, length, map};
-ghost use Rattle.std.specs.Prelude.{min};
+ghost use Rattle.std.specs.Prelude.{MatchOption, Err, None, Ok, OnErr, OnOk, Some, false, length};
+ghost use Rattle.std.specs.Prelude.{map, min};
 ghost use Rattle.std.specs.FinMap.{get};
 ghost use Rattle.rtmfp_data_chunks.specs.Chunk.{user_parts};
 ghost use Rattle.flow_send.specs.Acks.{told};
@@ -15,11 +15,15 @@ ghost use Rattle.session_flows.specs.Keeping.{Abandoned};
 ghost use Rattle.session_table.specs.Chunks.{cause_in, handed_in, heard_in, of_flows, rejected_in};
 ghost use Rattle.session_table.specs.Chunks.{waiting_in};
 ghost use Rattle.session_table.specs.Table.{in_row};
+ghost use Rattle.rtmfp_fragments.specs.Pieces.{piece_parts};
+ghost use Rattle.endpoint_model.specs.Gathering.{gathered_more, given, holds_it, piece_cause};
+ghost use Rattle.endpoint_model.specs.Gathering.{whole_by};
 
 use crate::slot::slot_near;
 use crate::table::SessionTable;
 use rtmfp_base::{Cause, Message};
 use rtmfp_data_chunks::{AckedSpans, UserData};
+use rtmfp_fragments::{Gathered, Piece};
 use session_flows::JudgedData;
 use std::alloc::AllocError;
 
@@ -174,5 +178,32 @@ impl SessionTable {
         let last = self.kept.rows[slot].flows.apply_exception(flow, abandoned);
         self.kept.settle(slot);
         last
+    }
+
+    /// Takes a piece of the packet that has this id, which nothing refuses in the session at this
+    /// moment.
+    pub fn gather(
+        &mut self,
+        near: u32,
+        id: u64,
+        piece: &Piece<'_>,
+        moment: u64,
+    ) -> Result<Gathered, AllocError>
+        requires { piece_cause moment (get self.old.rows near) id (piece_parts piece.now) ≡ None }
+        ensures rows { OnOk result (self.new.rows
+            ≡ in_row (gathered_more moment id (piece_parts piece.now)) self.old.rows near) }
+        ensures given { IfOk result (λ gathered. given (Ok gathered)
+            ≡ whole_by moment (get self.old.rows near) id (piece_parts piece.now)) }
+        ensures err { OnErr result (self.new.rows ≡ self.old.rows) }
+        ensures is_new { OnErr result (holds_it moment (get self.old.rows near) id
+            (piece_parts piece.now) ≡ false) }
+    {
+        let Some(slot) = slot_near(&self.kept, near, self.likely) else {
+            return Ok(Gathered::Again);
+        };
+        let packets = &mut self.kept.rows[slot].gathering;
+        let gathered = packets.gather(id, piece.number, piece.more, piece.bytes, moment);
+        self.kept.settle(slot);
+        gathered
     }
 }

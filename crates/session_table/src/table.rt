@@ -6,6 +6,7 @@ use crate::slot::{key_near, slot_near};
 use endpoint_model::Row;
 use keyed_slab::Key;
 use mobility::Moves;
+use rtmfp_fragments::Reassembly;
 use session_core::Session;
 use session_flows::Flows;
 use std::alloc::{AllocError, Global};
@@ -106,7 +107,7 @@ impl SessionTable {
     }
 
     /// Keeps a session that begins under its session ID, for which there is room: no address of it
-    /// is tested, and it has no flows.
+    /// is tested, it has no flows, and no pieces of packets came.
     pub fn keep(&mut self, session: Session)
         requires { 0 < self.old.free }
         ensures { self.new.rows ≡ insert self.old.rows session.joined.near (new_row session) }
@@ -115,6 +116,7 @@ impl SessionTable {
             session,
             moves: Moves::new(),
             flows: Flows::new(self.alloc),
+            gathering: Reassembly::new(self.alloc),
         });
     }
 

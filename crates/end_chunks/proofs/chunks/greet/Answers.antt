@@ -1,5 +1,4 @@
-use Rattle.std.proofs.Common.{◌≡◌, ◌++◌, ℕ, List, length, Option, refl, sym, ap, ◌∙◌, subst, arith}
-use Rattle.startup.specs.State.{AttemptState}
+use Rattle.std.proofs.Common.{◌++◌, List, length, refl, sym, ap, ◌∙◌, subst, arith}
 use Rattle.startup.specs.Attempts.{after_answer}
 use Rattle.startup.specs.Judging.{IsFound, found_in}
 use Rattle.startup.proofs.Choices.{found_is}

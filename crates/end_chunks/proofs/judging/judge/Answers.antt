@@ -8,7 +8,7 @@ use Rattle.endpoint_model.specs.Effects.{responder_keyed}
 use Rattle.endpoint_model.specs.State.{Did}
 use Rattle.end_chunks.specs.declared.judging.Verdict.{Verdict}
 use Rattle.end_chunks.specs.Judging.{Stands}
-use Rattle.end_chunks.proofs.Ways.{fields_cause, fields_do, initiator_busy, initiator_cause, initiator_does, part_cause, responder_busy, responder_cause, responder_does}
+use Rattle.end_chunks.proofs.Ways.{fields_cause, fields_do, initiator_busy, initiator_cause, initiator_does, responder_busy, responder_cause, responder_does}
 use Rattle.end_chunks.proofs.judging.judge.Goals as goal
 
 -- what is so wherever a chunk came from
@@ -49,9 +49,6 @@ returns-in-ResponderKeying-clause-refused c =
 
 pub returns-in-ResponderKeying-clause-quiet : goal.returns-in-ResponderKeying-clause-quiet
 returns-in-ResponderKeying-clause-quiet c idle = absurd (responder_busy c.args.end.now c.args.place c.args.walk.now c.args.from.now (shown c.args.chunk.now) c.args.kind.now c.requires.row c.requires.kind c.in-ResponderKeying.is idle)
-
-pub returns-in-Fragment-clause-refused : goal.returns-in-Fragment-clause-refused
-returns-in-Fragment-clause-refused c = part_cause c.args.end.now c.args.place c.args.walk.now c.args.from.now (shown c.args.chunk.now) c.args.kind.now c.requires.row c.requires.kind c.in-Fragment.is c.fragment_cause.result c.fragment_cause.ensures
 
 pub returns-in-Fields-clause-ok : goal.returns-in-Fields-clause-ok
 returns-in-Fields-clause-ok c =
