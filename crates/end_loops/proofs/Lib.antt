@@ -3,6 +3,7 @@ mod Chunks
 mod DueItems
 mod Endings
 mod Falling
+mod Gathered
 mod Near
 mod Opening
 mod Refusals

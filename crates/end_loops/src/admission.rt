@@ -3,21 +3,21 @@
 ghost use Rattle.std.specs.Prelude.{◌≡◌, ◌≤◌, ◌==◌, false, IfOk, IfErr, OnErr, OnOk, Ok, Err};
 ghost use Rattle.std.specs.Prelude.{drop, length, take};
 ghost use Rattle.std.specs.FinMap.{get};
-ghost use Rattle.endpoint_model.specs.Admission.{fault_number, has_mode, heard_in, mode_at};
-ghost use Rattle.endpoint_model.specs.Admission.{opened_at, opened_datagram, opened_first};
-ghost use Rattle.endpoint_model.specs.Admission.{opened_in_startup, packet_in, peers_mode};
+ghost use Rattle.endpoint_model.specs.Admission.{heard_in, opened_at, opened_datagram};
+ghost use Rattle.endpoint_model.specs.Admission.{opened_first};
+ghost use Rattle.endpoint_model.specs.Admission.{opened_in_startup, packet_in};
 ghost use Rattle.endpoint_model.specs.Admission.{places_of, sid_at};
-ghost use Rattle.endpoint_model.specs.Keying.{AreNear};
+ghost use Rattle.endpoint_model.specs.Keying.{AreNear, chunks_of};
 ghost use Rattle.rtmfp_base.specs.declared.cause.Cause.TheVariants.{UnknownSession};
 ghost use Rattle.end_loops.specs.Walks.{packet_at};
 
 use crypto_profile::open_in_place;
-use end_state::{EndState, session_id};
+use end_state::{EndState, fault_number, has_mode, session_id};
 use endpoint_model::Place;
 use packet_scramble::SEALED_AT;
 use rtmfp_base::Cause;
-use rtmfp_packet::{Mode, Packet, PacketFault, PacketHead, read_packet};
-use session_core::{Role, Unheard};
+use rtmfp_packet::{Packet, read_packet};
+use session_core::Unheard;
 
 /// Opens a sealed part in startup at a place with this session ID, in place. Where it doesn't open
 /// it stays as it was.
@@ -138,63 +138,22 @@ pub fn open_datagram(end: &mut EndState, datagram: &mut [u8]) -> Result<Place, C
 
 /// Reads a plain packet that came at a place, or says why it is refused.
 pub fn packet_at<'a>(end: &EndState, place: Place, plain: &'a [u8]) -> Result<Packet<'a>, Cause>
-    requires { length plain.now ≤ 2048 }
+    requires { length plain.now ≤ 4096 }
     ensures ok { IfOk result (λ packet. packet_at end.now place (packet_in plain.now)
         ≡ Ok packet) }
     ensures near { IfOk result (λ packet. AreNear packet) }
+    ensures few { IfOk result (λ packet. length (chunks_of packet) ≤ 4096) }
     ensures err { IfErr result (λ cause. packet_at end.now place (packet_in plain.now)
         ≡ Err cause) }
 {
     match read_packet(plain) {
         Ok(packet) => {
-            if has_mode(packet.head(), mode_at(end, place)) {
+            if has_mode(packet.head(), end.mode_at(place)) {
                 Ok(packet)
             } else {
                 Err(Cause::WrongPlace)
             }
         }
         Err(fault) => Err(Cause::BadPacket(fault_number(fault))),
-    }
-}
-
-/// The mode that packets have at a place.
-fn mode_at(end: &EndState, place: Place) -> Mode
-    ensures { result ≡ mode_at end.now place }
-{
-    match place {
-        Place::Startup { .. } => Mode::Startup,
-        Place::Attempt { .. } => Mode::Startup,
-        Place::Session(near) => match end.sessions.row(near) {
-            Some(row) => peers_mode(row.session.role()),
-            None => Mode::Startup,
-        },
-    }
-}
-
-/// The mode of the packets of the peer of an end with this role.
-fn peers_mode(role: Role) -> Mode
-    ensures { result ≡ peers_mode role }
-{
-    match role {
-        Role::Initiator => Mode::Responder,
-        Role::Responder => Mode::Initiator,
-    }
-}
-
-/// Whether a head has this mode.
-fn has_mode(head: &PacketHead, mode: Mode) -> bool
-    ensures { result ≡ has_mode head.now mode }
-{
-    head.mode == mode
-}
-
-/// The number that a fault of a packet has in the cause of its discard.
-fn fault_number(fault: PacketFault) -> u8
-    ensures { result ≡ fault_number fault }
-{
-    match fault {
-        PacketFault::Empty => 1,
-        PacketFault::ModeZero => 2,
-        PacketFault::ShortStamp => 3,
     }
 }

@@ -1,18 +1,22 @@
 //! One datagram: it is refused as a whole, or its chunks are gone through, one after another.
 
-ghost use Rattle.std.specs.Prelude.{◌≡◌, ◌+◌, ◌<◌, ◌≤◌, ◌^◌, IfErr, IsOk, OnErr, OnOk};
+ghost use Rattle.std.specs.Prelude.{◌≡◌, ◌+◌, ◌<◌, ◌≤◌, ◌^◌, IfErr, IfOk, IsOk, OnErr, OnOk};
 ghost use Rattle.std.specs.Prelude.{false, length, true};
 ghost use Rattle.std.specs.List.{AllByRecursion};
-ghost use Rattle.rtmfp_packet.specs.Chunks.{left};
-ghost use Rattle.endpoint_model.specs.Admission.{confirming, confirms, counted_at, timed_at};
-ghost use Rattle.endpoint_model.specs.Effects.{AreQuiet, EndsQuietly, chunks_did, discarded};
-ghost use Rattle.endpoint_model.specs.Effects.{discards_among, most_acks, outset};
-ghost use Rattle.endpoint_model.specs.Effects.{walked_and_tested};
+ghost use Rattle.rtmfp_packet.specs.Chunks.{left, shown};
+ghost use Rattle.endpoint_model.specs.Admission.{confirming, confirms, counted_at, packet_in};
+ghost use Rattle.endpoint_model.specs.Admission.{timed_at};
+ghost use Rattle.endpoint_model.specs.Effects.{AreQuiet, EndsQuietly, discarded};
+ghost use Rattle.endpoint_model.specs.Effects.{discards_among, in_order, inset, most_acks, outset};
+ghost use Rattle.endpoint_model.specs.Effects.{steps_did, steps_of, walked, walked_and_tested};
+ghost use Rattle.endpoint_model.specs.Effects.{with_gathered};
 ghost use Rattle.endpoint_model.specs.FlowChunks.{acked, owes_at, unowed};
 ghost use Rattle.endpoint_model.specs.Log.{not_taken};
 ghost use Rattle.endpoint_model.specs.State.{Done, nothing};
-ghost use Rattle.end_loops.specs.Walks.{StopsIn, StopsOwing, taken_upto};
+ghost use Rattle.end_loops.specs.Walks.{StopsIn, StopsOwing, TakesAll, TakesSome};
+ghost use Rattle.end_loops.specs.Walks.{gathered_steps, taken_upto};
 
+use crate::admission::packet_at;
 use crate::testing::test;
 use end_chunks::take_chunk;
 use end_state::{EndState, Outbox, blank};
@@ -20,7 +24,8 @@ use endpoint_model::{Draws, Entry, Place, Stopped, Walk};
 use rtmfp_base::Cause;
 use rtmfp_data_chunks::DataCursor;
 use rtmfp_forms::Address;
-use rtmfp_packet::{Chunks, PacketHead};
+use rtmfp_fragments::Plain;
+use rtmfp_packet::{Chunks, PacketHead, RawChunk};
 use std::alloc::AllocError;
 
 /// The most packets of acks that a datagram's chunks can owe, one for each flow (own).
@@ -108,8 +113,116 @@ pub fn enter(
     Ok(())
 }
 
-/// Goes through the chunks of a datagram, sends the acks that they owe, and tests the address that
-/// the datagram came from then.
+/// Goes through the chunks of a packet that was gathered at a place, and says how many they were.
+/// Where no memory is found it says how many were gone through.
+fn go_through_gathered(
+    end: &mut EndState,
+    place: Place,
+    from: &Address,
+    draws: &Draws,
+    mut chunks: Chunks<'_>,
+    out: &mut Outbox,
+) -> Result<u32, u32>
+    requires near { AllByRecursion (λ c. c.at < 2 ^ 32) (left chunks) }
+    requires few { length (left chunks) ≤ 4096 }
+    ensures ok { IfOk result (TakesAll place from.now draws.now end.old
+        (in_order inset (left chunks.entry)) end.new out.old out.new) }
+    ensures stop { IfErr result (TakesSome place from.now draws.now end.old
+        (in_order inset (left chunks.entry)) end.new out.old out.new) }
+    ensures few { IfOk result (λ count. count ≤ 4096) }
+    ensures fewer { IfErr result (λ count. count ≤ 4096) }
+    ensures enough { AreQuiet place from.now draws.now end.old (in_order inset (left chunks.entry)) →
+        discards_among place from.now draws.now end.old (in_order inset (left chunks.entry))
+        ≤ out.old.free → IsOk result }
+{
+    let mut gone = 0u32;
+    let mut walk = Walk {
+        keyed: false,
+        gathered: true,
+        cursor: DataCursor::new(),
+    };
+    while let Some(chunk) = chunks.next() {
+        match take_chunk(end, place, from, draws, &mut walk, &chunk, out) {
+            Ok(whole) => {
+                // No piece of a packet stands in one that was gathered, so this is none.
+                drop(whole);
+                gone += 1;
+            }
+            Err(_) => return Err(gone),
+        }
+    }
+    Ok(gone)
+}
+
+/// Goes through a packet that was gathered at a place: through its chunks, where it reads and has
+/// the mode of that place.
+fn go_through_whole(
+    end: &mut EndState,
+    place: Place,
+    from: &Address,
+    draws: &Draws,
+    plain: &Plain,
+    out: &mut Outbox,
+) -> Result<u32, u32>
+    requires { length plain.now ≤ 4096 }
+    ensures ok { IfOk result (TakesAll place from.now draws.now end.old
+        (gathered_steps end.old place (packet_in plain.now)) end.new out.old out.new) }
+    ensures stop { IfErr result (TakesSome place from.now draws.now end.old
+        (gathered_steps end.old place (packet_in plain.now)) end.new out.old out.new) }
+    ensures few { IfOk result (λ count. count ≤ 4096) }
+    ensures fewer { IfErr result (λ count. count ≤ 4096) }
+    ensures enough { AreQuiet place from.now draws.now end.old
+        (gathered_steps end.old place (packet_in plain.now)) →
+        discards_among place from.now draws.now end.old
+        (gathered_steps end.old place (packet_in plain.now)) ≤ out.old.free → IsOk result }
+{
+    match packet_at(end, place, plain.as_slice()) {
+        Ok(packet) => go_through_gathered(end, place, from, draws, packet.chunks(), out),
+        Err(_) => Ok(0),
+    }
+}
+
+/// Goes through one chunk of a datagram, and behind it through the packet that it completes, where
+/// it does. It says how many chunks were gone through.
+fn go_on_with(
+    end: &mut EndState,
+    place: Place,
+    from: &Address,
+    draws: &Draws,
+    walk: &mut Walk,
+    chunk: &RawChunk<'_>,
+    out: &mut Outbox,
+) -> Result<u32, u32>
+    requires { chunk.now.at < 2 ^ 32 }
+    ensures ok { IfOk result (TakesAll place from.now draws.now end.old
+        (with_gathered place from.now walk.old end.old (shown chunk.now)) end.new out.old
+        out.new) }
+    ensures stop { IfErr result (TakesSome place from.now draws.now end.old
+        (with_gathered place from.now walk.old end.old (shown chunk.now)) end.new out.old
+        out.new) }
+    ensures walk { walk.new ≡ walked walk.old (shown chunk.now) }
+    ensures few { IfOk result (λ count. count ≤ 4097) }
+    ensures fewer { IfErr result (λ count. count ≤ 4097) }
+    ensures enough { AreQuiet place from.now draws.now end.old
+        (with_gathered place from.now walk.old end.old (shown chunk.now)) →
+        discards_among place from.now draws.now end.old
+        (with_gathered place from.now walk.old end.old (shown chunk.now)) ≤ out.old.free →
+        IsOk result }
+{
+    let plain = match take_chunk(end, place, from, draws, walk, chunk, out) {
+        Ok(Some(plain)) => plain,
+        Ok(None) => return Ok(1),
+        Err(_) => return Err(0),
+    };
+    match go_through_whole(end, place, from, draws, &plain, out) {
+        Ok(count) => Ok(count + 1),
+        Err(count) => Err(count + 1),
+    }
+}
+
+/// Goes through the chunks of a datagram, and behind each one that completes a packet through those
+/// of that packet, sends the acks that they owe, and tests the address that the datagram came from
+/// then.
 pub fn go_through(
     end: &mut EndState,
     place: Place,
@@ -119,27 +232,32 @@ pub fn go_through(
     out: &mut Outbox,
 ) -> Result<(), Stopped>
     requires near { AllByRecursion (λ c. c.at < 2 ^ 32) (left chunks) }
-    requires few { length (left chunks) < 2 ^ 32 }
+    requires few { length (left chunks) ≤ 4096 }
     ensures ok { OnOk result
-        (Done (walked_and_tested place from.now draws.now end.old (left chunks.entry)) end.new
+        (Done (walked_and_tested place from.now draws.now end.old
+        (steps_of place from.now draws.now outset end.old (left chunks.entry))) end.new
         out.old out.new) }
-    ensures stop { IfErr result (StopsIn place from.now draws.now end.old (left chunks.entry)
-        end.new out.old out.new) }
-    ensures enough { AreQuiet place from.now draws.now outset end.old (left chunks.entry) →
-        EndsQuietly from.now place
-        (chunks_did place from.now draws.now outset end.old (left chunks.entry)).state →
-        discards_among place from.now draws.now outset end.old (left chunks.entry)
+    ensures stop { IfErr result (StopsIn place from.now draws.now end.old
+        (steps_of place from.now draws.now outset end.old (left chunks.entry)) end.new
+        out.old out.new) }
+    ensures enough { AreQuiet place from.now draws.now end.old
+        (steps_of place from.now draws.now outset end.old (left chunks.entry)) →
+        EndsQuietly from.now place (steps_did place from.now draws.now end.old
+        (steps_of place from.now draws.now outset end.old (left chunks.entry))).state →
+        discards_among place from.now draws.now end.old
+        (steps_of place from.now draws.now outset end.old (left chunks.entry))
         ≤ out.old.free → IsOk result }
 {
     let mut gone = 0u32;
     let mut walk = Walk {
         keyed: false,
+        gathered: false,
         cursor: DataCursor::new(),
     };
     while let Some(chunk) = chunks.next() {
-        match take_chunk(end, place, from, draws, &mut walk, &chunk, out) {
-            Ok(()) => gone += 1,
-            Err(_) => return Err(stop(end, place, gone)),
+        match go_on_with(end, place, from, draws, &mut walk, &chunk, out) {
+            Ok(count) => gone += count,
+            Err(count) => return Err(stop(end, place, gone + count)),
         }
     }
     match send_acks(end, place, out) {

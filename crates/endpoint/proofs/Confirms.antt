@@ -11,10 +11,8 @@ use Rattle.endpoint_model.specs.Added.{Added}
 use Rattle.endpoint_model.specs.State.{State, Did, Done, with_session, with_startup, fact_entries, nothing}
 use Rattle.rtmfp_forms.specs.Address.{AddressParts}
 use Rattle.rtmfp_packet.specs.Whole.{Whole}
-use Rattle.endpoint_model.specs.Keying.{chunks_of}
-use Rattle.rtmfp_packet.specs.Walk.{Placed}
 use Rattle.endpoint_model.specs.declared.config.Draws.{Draws}
-use Rattle.endpoint_model.specs.Effects.{AreQuiet, EndsQuietly, AddsDiscards, chunks_did, discards, discards_among, outset}
+use Rattle.endpoint_model.specs.Effects.{WalkStep, AreQuiet, EndsQuietly, AddsDiscards, discards, discards_among, steps_did, walk_of}
 use Rattle.endpoint_model.specs.Log.{StopsSo, not_taken}
 use Rattle.endpoint_model.specs.Admission.{confirms, confirms_by, confirming, confirming_by, taken_packet, counted_at, timed_at}
 use Rattle.end_loops.proofs.Confirms.{confirms_counted, confirms_timed}
@@ -55,19 +53,19 @@ not_refused A s place part from draws packet confirming refused =
     let both : false ≡ true = sym refused.0 ∙ confirms_taken s place part packet.head ∙ confirming in
     absurd (cc)
 
--- what the chunks of a refused datagram meet, after it was taken
-pub record AreRefused (entered : State) (place : Place) (from : AddressParts) (draws : Draws) (cs : List Placed) (free : ℕ) : Type 0 where
-  pub quiet : AreQuiet place from draws outset entered cs
-  pub ends : EndsQuietly from place (chunks_did place from draws outset entered cs).state
-  pub room : discards_among place from draws outset entered cs ≤ free
+-- what the steps over a refused datagram meet, after it was taken
+pub record AreRefused (entered : State) (place : Place) (from : AddressParts) (draws : Draws) (xs : List WalkStep) (free : ℕ) : Type 0 where
+  pub quiet : AreQuiet place from draws entered xs
+  pub ends : EndsQuietly from place (steps_did place from draws entered xs).state
+  pub room : discards_among place from draws entered xs ≤ free
 
-pub refused_chunks : (s entered : State) (place : Place) (part : List ℕ) (from : AddressParts) (draws : Draws) (packet : Whole) (before after : Added) →
+pub refused_steps : (s entered : State) (place : Place) (part : List ℕ) (from : AddressParts) (draws : Draws) (packet : Whole) (before after : Added) →
     Done (confirming (timed_at (counted_at s place part) place packet.head) place) entered before after → AddsDiscards from draws (taken_packet s place part packet) →
-    discards from draws (taken_packet s place part packet) ≤ before.free → AreRefused entered place from draws (chunks_of packet) after.free
-refused_chunks s entered place part from draws packet before after done refused room =
+    discards from draws (taken_packet s place part packet) ≤ before.free → AreRefused entered place from draws (walk_of place from draws entered packet) after.free
+refused_steps s entered place part from draws packet before after done refused room =
     let t = timed_at (counted_at s place part) place packet.head in
     let quiet : confirming t place ≡ nothing t = unconfirmed t place refused.0 in
     let same : entered ≡ t = done.state ∙ ap (λ (d : Did). d.state) quiet in
     let free : before.free ≤ after.free + length (confirming t place).entries = done.free in
     let none : length (confirming t place).entries ≡ 0 = ap (λ (d : Did). length d.entries) quiet in
-    subst (λ (u : State). AreRefused u place from draws (chunks_of packet) after.free) (sym same) (record { quiet = refused.1; ends = refused.2; room = omega (arith, free, none, room) })
+    subst (λ (u : State). AreRefused u place from draws (walk_of place from draws u packet) after.free) (sym same) (record { quiet = refused.1; ends = refused.2; room = omega (arith, free, none, room) })

@@ -22,10 +22,10 @@ use Rattle.startup.specs.declared.aim.Aim.TheVariants.{AtPeer, ByName}
 use Rattle.startup.specs.Aims.{IsHeldAs}
 use Rattle.startup.specs.State.{AttemptState}
 use Rattle.endpoint_laws.specs.OfTheLog.{IsOfAim, IsThing, SessionStands, IsClosingStage, IsOfTheLog, TheStateIsOfTheLog}
-use Rattle.endpoint_laws.specs.Within.{FlowsAreWithin, FlowsHoldFew, NoAckIsOwed}
+use Rattle.endpoint_laws.specs.Within.{FlowsAreWithin, FlowsHoldFew, NoAckIsOwed, PiecesHoldFew}
 use Rattle.endpoint.specs.Reached.{IsReached}
 use Rattle.endpoint.proofs.Reaching.{tied_there}
-use Rattle.endpoint.specs.Holding.{SessionIsHeld, SessionIsThere, HoldsWhatIsThere, AllFlowsAreWithin, AllFlowsHoldFew, NoneOwesAcks}
+use Rattle.endpoint.specs.Holding.{SessionIsHeld, SessionIsThere, HoldsWhatIsThere, AllFlowsAreWithin, AllFlowsHoldFew, AllPiecesHoldFew, NoneOwesAcks}
 
 -- ---- how many there are
 
@@ -44,6 +44,9 @@ flows_within law s is near row there = law is.setup is.log s near row is.stands 
 
 pub flows_few : FlowsHoldFew → (s : State) → IsReached s → AllFlowsHoldFew s
 flows_few law s is near row there = law is.setup is.log s near row is.stands there
+
+pub pieces_few : PiecesHoldFew → (s : State) → IsReached s → AllPiecesHoldFew s
+pieces_few law s is near row there = law is.setup is.log s near row is.stands there
 
 pub none_owed : NoAckIsOwed → (s : State) → IsReached s → NoneOwesAcks s
 none_owed law s is near = law is.setup is.log s near is.stands

@@ -1,6 +1,7 @@
 -- What an end holds with its peers, and the attempts and the sessions that are there.
 use Rattle.std.specs.Prelude.{ℕ, ◌≡◌, ◌⊎◌, false, List, Some, None}
 use Rattle.std.specs.FinMap.{get}
+use Rattle.rtmfp_fragments.specs.Held.{IsWithinLimits}
 use Rattle.glare_core.specs.declared.facts.Held.{Held}
 use Rattle.glare_core.specs.declared.facts.Held.TheVariants.{Opening as AttemptHeld}
 use Rattle.glare_core.specs.Things.{IsSession, near_of}
@@ -58,6 +59,11 @@ AllFlowsAreWithin s = (near : ℕ) (row : Row) → get s.sessions near ≡ Some 
 -- No flow of a session holds more bytes, fragments and numbers than it may.
 abbrev pub AllFlowsHoldFew : State → Type 0
 AllFlowsHoldFew s = (near : ℕ) (row : Row) → get s.sessions near ≡ Some row → HoldFew row.flows
+
+-- No session holds pieces of more packets, or more pieces and bytes of one, than it may.
+abbrev pub AllPiecesHoldFew : State → Type 0
+AllPiecesHoldFew s = (near : ℕ) (row : Row) → get s.sessions near ≡ Some row →
+    IsWithinLimits row.gathering
 
 -- Between calls no session owes an ack.
 abbrev pub NoneOwesAcks : State → Type 0

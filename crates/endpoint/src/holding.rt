@@ -5,7 +5,7 @@ ghost use Rattle.std.specs.Prelude.{◌≤◌};
 ghost use Rattle.glare_core.specs.Ledger.{row_count};
 ghost use Rattle.endpoint_model.specs.State.{uses};
 ghost use Rattle.endpoint.specs.Holding.{AllFlowsAreWithin, AllFlowsHoldFew, HoldsWhatIsThere};
-ghost use Rattle.endpoint.specs.Holding.{NoneOwesAcks};
+ghost use Rattle.endpoint.specs.Holding.{AllPiecesHoldFew, NoneOwesAcks};
 
 use crate::endpoint::Endpoint;
 use crate::laws;
@@ -38,6 +38,15 @@ impl Endpoint {
         let _end = &self.end;
         laws::flows_are_within();
         laws::flows_hold_few();
+    }
+
+    /// No session holds more pieces than it may: those of at most 4 packets, no two under one ID,
+    /// and of each packet at most 64 pieces and 4,096 bytes.
+    pub fn pieces_hold_few(&self)
+        ensures { AllPiecesHoldFew self.now }
+    {
+        let _end = &self.end;
+        laws::pieces_hold_few();
     }
 
     /// No session owes an ack: those that a call owes go out in it, or are given up.

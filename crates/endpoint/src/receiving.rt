@@ -15,13 +15,14 @@ use rtmfp_forms::Address;
 
 impl Endpoint {
     /// Takes a datagram, which came from an address (RFC 7016 section 3.5). It is opened in place,
-    /// and its chunks are gone through in order; a chunk that is refused adds its Discard and
-    /// changes nothing else. After the chunks, the address that a datagram of a held session came
-    /// from is tested where it is another one than the session's (RFC 7016 section 3.5.4.2).
+    /// and its chunks are gone through in order, and behind a piece that completes a packet the
+    /// chunks of that packet; a chunk that is refused adds its Discard and changes nothing else.
+    /// After the chunks, the address that a datagram of a held session came from is tested where it
+    /// is another one than the session's (RFC 7016 section 3.5.4.2).
     ///
     /// Where no memory is found the call stops: `Stopped` tells whether the datagram was taken, and
-    /// how many of its chunks were gone through: all of them, where the test or a packet of acks
-    /// found none. Where it wasn't taken all is as before but for the moment. A datagram that adds
+    /// how many chunks were gone through: all of them, where the test or a packet of acks found
+    /// none. Where it wasn't taken all is as before but for the moment. A datagram that adds
     /// discards alone, or nothing, asks for no memory where the outbox has room for them.
     pub fn receive(
         &mut self,

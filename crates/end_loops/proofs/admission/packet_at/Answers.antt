@@ -6,7 +6,7 @@ use Rattle.rtmfp_base.specs.declared.cause.Cause.TheVariants.{BadPacket, WrongPl
 use Rattle.endpoint_model.specs.Admission.{packet_in, has_mode, mode_at}
 use Rattle.endpoint_model.proofs.Reading.{packet_reads}
 use Rattle.end_loops.specs.Walks.{packet_at}
-use Rattle.end_loops.proofs.Near.{near_if_short}
+use Rattle.end_loops.proofs.Near.{few_if_short, near_if_short}
 use Rattle.end_loops.proofs.admission.packet_at.Goals as goal
 
 abbrev by_mode : Whole → Bool → Result Whole Cause
@@ -21,6 +21,9 @@ returns-then-has_mode-clause-ok c =
 
 pub returns-then-has_mode-clause-near : goal.returns-then-has_mode-clause-near
 returns-then-has_mode-clause-near c = near_if_short c.in-Ok.packet c.args.plain.now c.in-Ok.ensures.reads c.requires
+
+pub returns-then-has_mode-clause-few : goal.returns-then-has_mode-clause-few
+returns-then-has_mode-clause-few c = few_if_short c.in-Ok.packet c.args.plain.now c.in-Ok.ensures.reads c.requires
 
 pub returns-else-has_mode-clause-err : goal.returns-else-has_mode-clause-err
 returns-else-has_mode-clause-err c =

@@ -3,9 +3,10 @@ use Rattle.rtmfp_packet.specs.Walk.{Placed}
 use Rattle.rtmfp_packet.specs.declared.head.PacketHead.{PacketHead}
 use Rattle.rtmfp_packet.specs.Chunks.{left}
 use Rattle.endpoint_model.specs.Admission.{admission, confirming, counted_at, opened_datagram, timed_at}
+use Rattle.endpoint_model.specs.Effects.{WalkStep, outset, steps_of}
 use Rattle.endpoint_model.specs.Log.{IsTaken, not_taken}
 use Rattle.endpoint_model.specs.State.{State, Did, Done, at_moment}
-use Rattle.endpoint.proofs.Confirms.{stopped_before, not_refused, refused_chunks, AreRefused}
+use Rattle.endpoint.proofs.Confirms.{stopped_before, not_refused, refused_steps, AreRefused}
 use Rattle.endpoint.proofs.Extending.{receive_extends}
 use Rattle.endpoint.proofs.Taking.{packet_refused, packet_taken, unopened_taken}
 use Rattle.endpoint.proofs.Walking.{received_ok, stops_if}
@@ -75,9 +76,10 @@ taken c now same =
           stops_if s c.in-Ok.place c.behind-part.result.now c.args.from c.args.draws.now c.in-Ok-packet_at.packet c.go_through.result (left c.chunks.result) c.enter.new.end c.go_through.new.end
           c.args.out.now c.enter.new.out c.go_through.new.out c.chunks.ensures entered c.go_through.ensures.stop;
       enough = λ refused room.
-          let are : AreRefused c.enter.new.end c.in-Ok.place c.args.from c.args.draws.now (left c.chunks.result) c.enter.new.out.free =
-          subst (λ (cs : List Placed). AreRefused c.enter.new.end c.in-Ok.place c.args.from c.args.draws.now cs c.enter.new.out.free) (sym c.chunks.ensures)
-          (refused_chunks s c.enter.new.end c.in-Ok.place c.behind-part.result.now c.args.from c.args.draws.now c.in-Ok-packet_at.packet c.args.out.now c.enter.new.out entered refused room) in
+          let steps : List Placed → List WalkStep = steps_of c.in-Ok.place c.args.from c.args.draws.now outset c.enter.new.end in
+          let are : AreRefused c.enter.new.end c.in-Ok.place c.args.from c.args.draws.now (steps (left c.chunks.result)) c.enter.new.out.free =
+          subst (λ (cs : List Placed). AreRefused c.enter.new.end c.in-Ok.place c.args.from c.args.draws.now (steps cs) c.enter.new.out.free) (sym c.chunks.ensures)
+          (refused_steps s c.enter.new.end c.in-Ok.place c.behind-part.result.now c.args.from c.args.draws.now c.in-Ok-packet_at.packet c.args.out.now c.enter.new.out entered refused room) in
           c.go_through.ensures.enough are.quiet are.ends are.room;
     })
 
