@@ -75,6 +75,13 @@ cause_shown (cause.FlowsFull count) = (28, count)
 cause_shown (cause.Wide count) = (29, count)
 cause_shown (cause.AlreadyHeld near) = (30, near)
 cause_shown cause.AttemptsSpent = (31, 0)
+cause_shown (cause.Piece refusal told) = (32, told)
+cause_shown (cause.BadWhole fault) = (33, fault)
+
+-- the number of the refusal of a piece; 0 for any other cause
+abbrev pub refusal_shown : Cause → ℕ
+refusal_shown (cause.Piece refusal told) = refusal
+refusal_shown c = 0
 
 -- a fact of a session has all its values
 abbrev pub shown_joined : ℕ → Joined → CEntry
@@ -137,5 +144,9 @@ shown at (entry.Queued near flow seq message) =
     record (shown_flow 11 near flow seq) { at = at; len = length message }
 shown at (entry.Finished near flow seq) = shown_flow 12 near flow seq
 shown at (entry.Abandoned near flow seq) = shown_flow 13 near flow seq
-shown at (entry.Discard place c) =
-    record (blank 14) { seq = place; code = (cause_shown c).0; number = (cause_shown c).1 }
+shown at (entry.Discard place c) = record (blank 14) {
+  seq = place;
+  code = (cause_shown c).0;
+  number = (cause_shown c).1;
+  k = refusal_shown c;
+}

@@ -1,7 +1,7 @@
 //! The numbers of why something ended and why something was discarded (rtmfp.h).
 
 ghost use Rattle.std.specs.Prelude.{◌≡◌};
-ghost use Rattle.c_shapes.specs.Shown.{cause_shown, why_number};
+ghost use Rattle.c_shapes.specs.Shown.{cause_shown, refusal_shown, why_number};
 
 use glare_core::Why;
 use rtmfp_base::Cause;
@@ -58,5 +58,17 @@ pub(crate) fn cause_shown(cause: &Cause) -> (u32, u64)
         Cause::Wide(count) => (29, *count),
         Cause::AlreadyHeld(near) => (30, u64::from(*near)),
         Cause::AttemptsSpent => (31, 0),
+        Cause::Piece(_, told) => (32, *told),
+        Cause::BadWhole(fault) => (33, u64::from(*fault)),
+    }
+}
+
+/// The number of the refusal of a piece; 0 for any other cause.
+pub(crate) fn refusal_shown(cause: &Cause) -> u64
+    ensures { result ≡ refusal_shown cause.now }
+{
+    match cause {
+        Cause::Piece(refusal, _) => u64::from(*refusal),
+        _ => 0,
     }
 }

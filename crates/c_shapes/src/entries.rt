@@ -6,7 +6,7 @@ ghost use Rattle.c_shapes.specs.Shown.{blank, bytes_of, shown, shown_fact, shown
 ghost use Rattle.c_shapes.specs.Shown.{shown_joined};
 
 use crate::address::address;
-use crate::causes::{cause_shown, why_number};
+use crate::causes::{cause_shown, refusal_shown, why_number};
 use crate::shapes::{CEntry, nowhere, shown_address};
 use endpoint_model::Entry;
 use glare_core::{Fact, Joined};
@@ -59,6 +59,7 @@ pub fn entry_of(entry: &Entry) -> CEntry
             told.seq = u64::from(*place);
             told.code = code;
             told.number = value;
+            told.k = refusal_shown(cause);
             told
         }
     }

@@ -12,7 +12,7 @@
  *         while (a datagram is there)                    // at most RTMFP_MAX_DATAGRAM bytes
  *             rtmfp_receive(&end, &from, now, bytes, len, &draws);
  *         rtmfp_tick(&end, now, &draws);                 // some times a second
- *         rtmfp_entry e;
+ *         rtmfp_entry e = {0};
  *         for (size_t i = 0; rtmfp_entry_at(&end, i, &e) == RTMFP_OK; i++)
  *             if (e.kind == RTMFP_OUT) sendto(socket, e.data, e.len, .. e.to ..);
  *             else if (e.kind == RTMFP_HANDED) take(e.near, e.flow, e.data, e.len);
@@ -176,7 +176,8 @@ typedef struct rtmfp_address {
  *   FINISHED     near, flow, seq
  *   ABANDONED    near, flow, seq: the message is sent no longer
  *   DISCARD      seq (the place in the plain packet, 0 for the whole datagram), code (a cause),
- *                number (its value): a datagram or a part of one was discarded
+ *                number (its value), k (of a piece, the number of its refusal: 1 too many, 2 conflict,
+ *                3 too long, 4 packets full): a datagram or a part of one was discarded
  *
  * Each other field is 0. */
 #define RTMFP_KINDS(X) \
@@ -205,7 +206,7 @@ typedef struct rtmfp_entry {
     uint64_t flow;
     uint64_t seq;    /* the number of a message's first fragment */
     uint64_t number; /* the number of an attempt, or a cause's value */
-    uint64_t k;      /* how many attempts the responder had started */
+    uint64_t k;      /* how many attempts the responder had started, or a piece's refusal */
     const uint8_t *data;
     size_t len;
     rtmfp_address to;
@@ -223,7 +224,7 @@ typedef struct rtmfp_entry {
     X(18, "glare") X(19, "peers-full") X(20, "sessions-full") X(21, "second-keying") \
     X(22, "unknown-flow") X(23, "beyond-buffer") X(24, "after-final") X(25, "ack-beyond") \
     X(26, "candidates-full") X(27, "fragment") X(28, "flows-full") X(29, "wide") \
-    X(30, "already-held") X(31, "attempts-spent")
+    X(30, "already-held") X(31, "attempts-spent") X(32, "piece") X(33, "bad-whole")
 
 static inline const char *rtmfp_cause_name(uint32_t code) {
     switch (code) {
@@ -253,8 +254,9 @@ void rtmfp_free(rtmfp_end *end);
 int32_t rtmfp_open(rtmfp_end *end, const uint8_t print[32], const rtmfp_address *candidates, size_t count,
                    uint64_t moment, const rtmfp_draws *draws, uint64_t *number);
 
-/* Begins a search for an end of this name, 1 to 64 ASCII bytes, at 1 to 16 addresses, its own or
- * those of an introducer; *near is the search's session ID. RTMFP_STARTED or RTMFP_UNSOUGHT follows.
+/* Begins a search for an end of this name, 1 to 64 ASCII bytes, at 1 to 16 addresses of its own, since
+ * introducers pass on no call for a name; *near is the search's session ID. RTMFP_STARTED or
+ * RTMFP_UNSOUGHT follows.
  * The first that stands: RTMFP_E_NAME, RTMFP_E_ADDRESS, RTMFP_E_MEMORY, RTMFP_E_EMPTY, and then
  * what the end refuses. */
 int32_t rtmfp_seek(rtmfp_end *end, const uint8_t *name, size_t len, const rtmfp_address *candidates, size_t count,

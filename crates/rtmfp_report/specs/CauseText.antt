@@ -1,7 +1,7 @@
 -- The names of the causes for which datagrams and chunks are discarded.
-use Rattle.std.specs.Prelude.{ℕ, List, [], ◌∷◌, codes}
+use Rattle.std.specs.Prelude.{ℕ, List, [], ◌∷◌, ◌++◌, codes}
 use Rattle.rtmfp_base.specs.declared.cause.Cause.{Cause}
-use Rattle.rtmfp_base.specs.declared.cause.Cause.TheVariants.{Short, UnknownSession, BadTag, Repeated, BadPacket, UnknownChunk, Malformed, WrongPlace, NotSelected, NoAttempt, WrongPeer, WrongState, BadCookie, BadSignature, WrongResponder, OwnCertificate, Stale, Glare, PeersFull, SessionsFull, SecondKeying, UnknownFlow, BeyondBuffer, AfterFinal, AckBeyond, CandidatesFull, Fragment, FlowsFull, Wide, AlreadyHeld, AttemptsSpent}
+use Rattle.rtmfp_base.specs.declared.cause.Cause.TheVariants.{Short, UnknownSession, BadTag, Repeated, BadPacket, UnknownChunk, Malformed, WrongPlace, NotSelected, NoAttempt, WrongPeer, WrongState, BadCookie, BadSignature, WrongResponder, OwnCertificate, Stale, Glare, PeersFull, SessionsFull, SecondKeying, UnknownFlow, BeyondBuffer, AfterFinal, AckBeyond, CandidatesFull, Fragment, FlowsFull, Wide, AlreadyHeld, AttemptsSpent, Piece, BadWhole}
 use Rattle.rtmfp_text.specs.Words.{field_text, number_field_text}
 
 -- the name of a cause, and its value where it has one: a chunk type in two hexadecimal digits, any
@@ -38,3 +38,6 @@ cause_text (FlowsFull count) = number_field_text (codes "flows-full ") count
 cause_text (Wide count) = number_field_text (codes "wide ") count
 cause_text (AlreadyHeld near) = number_field_text (codes "already-held ") near
 cause_text AttemptsSpent = codes "attempts-spent"
+cause_text (Piece refusal told) = number_field_text (codes "piece ") refusal
+    ++ number_field_text (codes " ") told
+cause_text (BadWhole fault) = number_field_text (codes "bad-whole ") fault

@@ -43,5 +43,10 @@ pub(crate) fn push_cause(cause: &Cause, text: &mut Text) -> Result<(), AllocErro
         Cause::Wide(count) => text.push_number_field("wide ", *count),
         Cause::AlreadyHeld(near) => text.push_number_field("already-held ", u64::from(*near)),
         Cause::AttemptsSpent => text.push("attempts-spent"),
+        Cause::Piece(refusal, told) => {
+            text.push_number_field("piece ", u64::from(*refusal))?;
+            text.push_number_field(" ", *told)
+        }
+        Cause::BadWhole(fault) => text.push_number_field("bad-whole ", u64::from(*fault)),
     }
 }

@@ -18,7 +18,7 @@ use std::test::Fail;
 const SECRET: [u8; 32] = [7; 32];
 
 /// Each cause of a discard, in the order of the rules. What has a value has its own here.
-const CAUSES: [Cause; 31] = [
+const CAUSES: [Cause; 33] = [
     Cause::Short,
     Cause::UnknownSession,
     Cause::BadTag,
@@ -50,6 +50,8 @@ const CAUSES: [Cause; 31] = [
     Cause::Wide(12),
     Cause::AlreadyHeld(13),
     Cause::AttemptsSpent,
+    Cause::Piece(2, 14),
+    Cause::BadWhole(4),
 ];
 
 const CAUSE_LINES: &str = "1 a drop 9 short
@@ -83,6 +85,8 @@ const CAUSE_LINES: &str = "1 a drop 9 short
 1 a drop 9 wide 12
 1 a drop 9 already-held 13
 1 a drop 9 attempts-spent
+1 a drop 9 piece 2 14
+1 a drop 9 bad-whole 4
 ";
 
 const WHYS: [Why; 8] = [
