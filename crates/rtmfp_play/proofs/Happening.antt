@@ -276,16 +276,3 @@ taken_moments w n step r t moments new ends at given lines are ends_is room time
     ∙ ap (λ (k : ℕ). raised moments most (slice_get lines k)) at_is
     ∙ ap (λ (l : List JournalLine). raised moments most (slice_get l (length w.world.lines))) lines_is in
     subst (λ (xs : List ℕ). AreMomentsOf xs t.world) (sym is) (moments_kept w.world t.world most moments are (subst (λ (k : ℕ). k < length moments) ends_is room) (step_goes w n step r t timely done undone))
-
-zero_more : (xs : List ℕ) (k : ℕ) → slice_index (xs ++ 0 ∷ []) k ≡ slice_index xs k
-zero_more [] zero = refl
-zero_more [] (suc k) = refl
-zero_more (x ∷ xs) zero = refl
-zero_more (x ∷ xs) (suc k) = zero_more xs k
-
--- a moment 0 more
-pub room_kept : (w : Seen) (moments : List ℕ) → AreMomentsOf moments w → AreMomentsOf (moments ++ 0 ∷ []) w
-room_kept w moments are =
-    let enough : length w.ends ≤ length moments = are.enough in
-    let long : length (moments ++ 0 ∷ []) ≡ length moments + 1 = length-append moments (0 ∷ []) in
-    record { enough = omega arith; each = λ who. zero_more moments who ∙ are.each who }

@@ -121,35 +121,7 @@ refused_step w step (Err BadStep) t some none = let h = refused_placed (placed_f
 refused_step w step (Err ForgedStep) t some none = let h = refused_placed (placed_fault w step) (comes_to w step) (Err ForgedStep) ForgedStep w t refl (λ x. cc) some none in (h.is, h.same)
 refused_step w step (Err Memory) t some none = tt
 
--- What is told of a step that was refused.
-pub record IsToldRefused (told : Said) (w : PlacedSeen) (n : ℕ) (step : PlacedStep) (t : PlacedSeen) (text : List ℕ) : Type 0 where
-  pub stepped : JournaledStep told w n step t text text
-  pub stays : StaysAs told w t text text
-  pub no_text : told ≢ Text
-
-bad_told : (fault : StepFault) (w : PlacedSeen) (n : ℕ) (step : PlacedStep) (t : PlacedSeen) (text : List ℕ) → IsBadStep (Some fault) → (placed_fault w step ≡ Some fault) × (t ≡ w) → IsToldRefused Bad w n step t text
-bad_told fault w n step t text bad h = record { stepped = subst (λ (o : Option StepFault). IsBadStep o) (sym h.0) bad; stays = (h.1, refl); no_text = λ e. cc }
-
-told_refused : (fault : StepFault) (w : PlacedSeen) (n : ℕ) (step : PlacedStep) (t : PlacedSeen) (text : List ℕ) → IsRefusedStep w step fault t → IfSome (refused_as fault) (λ told. IsToldRefused told w n step t text)
-told_refused NoEnd w n step t text h = bad_told NoEnd w n step t text tt h
-told_refused NoDatagram w n step t text h = bad_told NoDatagram w n step t text tt h
-told_refused BadStep w n step t text h = bad_told BadStep w n step t text tt h
-told_refused ForgedStep w n step t text h = record { stepped = h.0; stays = (h.1, refl); no_text = λ e. cc }
-told_refused Memory w n step t text h = tt
-
-pub refused_told : (fault : StepFault) (told : Said) (w : PlacedSeen) (n : ℕ) (step : PlacedStep) (t : PlacedSeen) (text : List ℕ) → refused_as fault ≡ Some told → IsRefusedStep w step fault t → IsToldRefused told w n step t text
-refused_told fault told w n step t text is h = subst (λ (o : Option Said). IfSome o (λ x. IsToldRefused x w n step t text)) is (told_refused fault w n step t text h)
-
 -- ---- what the line says
-
--- what the step tells, what is said tells
-pub said_journaled : (w : PlacedSeen) (n : ℕ) (said : ScriptLine) (step : PlacedStep) (t : PlacedSeen) (old text : List ℕ) (r : Result Said AllocError) → is_late (history_of w.world) said ≡ false → placed_said w said ≡ Some step →
-    IfOk r (λ told. JournaledStep told w n step t old text) → IfOk r (λ told. JournaledSaid told w n said t old text)
-said_journaled w n said step t old text (Ok Text) timely is done = (step, is, timely, done)
-said_journaled w n said step t old text (Ok Bad) timely is done =
-    inr (λ other e. (let same : ◌≡◌ {A = Option PlacedStep} (Some step) (Some other) = sym is ∙ e in let one : step ≡ other = cc in subst (λ (x : PlacedStep). IsBadStep (placed_fault w x)) one done))
-said_journaled w n said step t old text (Ok Forged) timely is done = (step, is, done)
-said_journaled w n said step t old text (Err error) timely is done = tt
 
 late_end : (w : PlacedSeen) (line : List ℕ) (said : ScriptLine) → IsLineOf line said → is_late (history_of w.world) said ≡ true → IsLateEnd w line
 late_end w line (says.End name peers sessions cert) is late = record {
