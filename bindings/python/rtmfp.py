@@ -5,19 +5,25 @@
     end.receive(place, datagram)          # when one came
     end.tick()                            # some times a second
     for entry in end.entries():
-        if entry.kind == rtmfp.OUT: send(entry.to, entry.bytes)
+        if entry.kind == rtmfp.OUT: send(entry.to.place, entry.bytes)
     end.clear()
 
+`end.turn(socket)` does the last five lines over a UDP socket; chat.py is a program that calls it.
+
 The library is looked for in the file that LIBRTMFP names, and else in out/library/lib of this checkout. What a call
-refuses is raised as Refused, with the number and the name that rtmfp.h has for it. Use an end in the thread that made it.
+refuses is raised as Refused, with the number and the name that rtmfp.h has for it, and a number that doesn't fit into
+C's as OverflowError. Use an end in the thread that made it.
 """
+import contextlib
 import ctypes as C
 import ipaddress
 import os
+import socket
 import time
 
 _TOP = os.path.dirname(os.path.dirname(os.path.dirname(os.path.abspath(__file__))))
 _NEVER, _ALWAYS = 2**64 - 1, 2**32 - 1
+VERSION = 0x000400
 
 ANSWERS = {
     "OK": 0, "E_MEMORY": -1, "E_EMPTY": -2, "E_FULL": -3, "E_CONFIG": -4, "E_CERTIFICATE": -5, "E_TOO_LONG": -6,
@@ -44,6 +50,11 @@ class Draws(C.Structure):
 
 class Address(C.Structure):
     _fields_ = [("family", C.c_uint8), ("origin", C.c_uint8), ("port", C.c_uint16), ("host", C.c_uint8 * 16)]
+
+    @property
+    def place(self):
+        """The host and the port, as a socket has them."""
+        return str(ipaddress.ip_address(bytes(self.host)[: 4 if self.family == 4 else 16])), self.port
 
 
 class Entry(C.Structure):
@@ -103,12 +114,26 @@ CALLS = {
 }
 
 
+# How many bits a parameter has. (c_size_t is one of these.)
+_BITS = {_U8: 8, _U32: 32, _U64: 64}
+
+
+def _fits(number, bits):
+    """A number that C has in so many bits. It's looked at here, since ctypes drops the upper ones."""
+    if not 0 <= number < 1 << bits:
+        raise OverflowError(f"{number} isn't within {bits} bits")
+    return number
+
+
 def _load():
     path = os.environ.get("LIBRTMFP", os.path.join(_TOP, "out", "library", "lib", "librtmfp.so"))
     lib = C.CDLL(path)
     for name, (result, words) in CALLS.items():
         call = getattr(lib, "rtmfp_" + name)
         call.restype, call.argtypes = result, words
+    found, part = lib.rtmfp_version(), 16 if VERSION >> 16 else 8
+    if found >> part != VERSION >> part:
+        raise ImportError(f"{path} has the version {found:#08x}, and {VERSION:#08x} is wanted")
     return lib
 
 
@@ -134,9 +159,14 @@ def draws():
 
 def address(host, port, origin=0):
     ip = ipaddress.ip_address(host)
-    made = Address(family=ip.version, origin=origin, port=port)
+    made = Address(family=ip.version, origin=_fits(origin, 8), port=_fits(port, 16))
     made.host[: len(ip.packed)] = ip.packed
     return made
+
+
+def certificate(name):
+    """The certificate of a new end with this name, 1 to 64 ASCII characters."""
+    return os.urandom(16) + name.encode()
 
 
 def fingerprint(certificate):
@@ -162,12 +192,16 @@ class End:
 
     def __init__(self, certificate, group, cookies=None, max_peers=64, max_sessions=64, introduces=False, generation=0):
         self._handle = _Handle()
-        config = Config(max_peers, max_sessions, introduces)
+        config = Config(_fits(max_peers, 32), _fits(max_sessions, 32), bool(introduces))
         secret = _thirty_two(cookies or os.urandom(32))
         self._do("new", C.byref(config), bytes(certificate), len(certificate), generation, _thirty_two(group), secret)
 
     def _call(self, name, *words):
-        return getattr(library(), "rtmfp_" + name)(C.byref(self._handle), *words)
+        call = getattr(library(), "rtmfp_" + name)
+        for kind, word in zip(call.argtypes[1:], words):
+            if kind in _BITS:
+                _fits(word, _BITS[kind])
+        return call(C.byref(self._handle), *words)
 
     def _do(self, name, *words):
         number = self._call(name, *words)
@@ -243,6 +277,25 @@ class End:
             entry = Entry()
             self._do("entry_at", index, C.byref(entry))
             yield entry
+
+    def turn(self, udp, wait=0.02):
+        """Waits so many seconds for a datagram of a UDP socket and takes it, does what is due, and sends what goes out.
+        Gives each other entry with its bytes. The socket's timeout is `wait` from now on."""
+        udp.settimeout(wait)
+        with contextlib.suppress(socket.timeout):
+            # (a longer one is cut, and so it's discarded)
+            datagram, place = udp.recvfrom(2048)
+            self.receive(address(*place[:2]), datagram)
+        self.tick()
+        told = [(entry, entry.bytes) for entry in self.entries()]
+        self.clear()
+        for entry, data in told:
+            entry.data = None
+            if entry.kind == OUT:
+                # (one that can't be sent counts as lost)
+                with contextlib.suppress(OSError):
+                    udp.sendto(data, entry.to.place)
+        return [it for it in told if it[0].kind != OUT]
 
     def clear(self):
         """Drops the entries."""

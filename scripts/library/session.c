@@ -145,6 +145,7 @@ static void tick(struct side *it, struct side *other) {
     size_t index;
     int32_t answer;
     rtmfp_end moved = it->end;
+    memset(&entry, 0, sizeof entry);
     memset(&it->end, 0xff, sizeof it->end);
     do {
         const rtmfp_draws draws = draw();
