@@ -4,6 +4,7 @@ use Rattle.std.proofs.Common.{◌≡◌, ℕ, false, List, [], ◌∷◌, Some, 
 use Rattle.std.proofs.Common.{arith}
 use Rattle.rtmfp_data_chunks.specs.Fragments.{Message}
 use Rattle.rtmfp_data_chunks.specs.HandsOver.{IsIn, HandsOver}
+use Rattle.rtmfp_fragments.specs.Pieces.{PieceParts}
 use Rattle.flow_send.specs.Acks.{Told}
 use Rattle.flow_history.specs.Flow.{Carried}
 use Rattle.flow_history.specs.Said.{WasGiven, WasTold}
@@ -69,9 +70,9 @@ no_ack : (P : ℕ → Told → Type 0) (y : Carried) (f : ℕ) (x : Told) → Is
 no_ack P y f x (inl e) = absurd cc
 no_ack P y f x (inr k) = absurd k
 
-whole : (y : Carried) → IsIn Part (Data 0 y ∷ []) → ⊥
-whole y (inl e) = absurd cc
-whole y (inr k) = k
+whole : (y : Carried) (id : ℕ) (x : PieceParts) → IsIn (Part id x) (Data 0 y ∷ []) → ⊥
+whole y id x (inl e) = absurd cc
+whole y id x (inr k) = k
 
 abbrev gone_one : History
 gone_one = done 1 (Out there (Data 0 (part 1 7) ∷ [])) ∷ before
@@ -81,7 +82,7 @@ may_go_two = (
   λ f x i. the_data (λ g y. WasGiven (steps_of (name there g) gone_one) y) (part 2 9) f x
       (inr (inl (record { flow = _; is_open = refl; given = refl; order = refl }))) i,
   λ f a i. no_ack (λ g y. WasTold (steps_of (name (back there) g) gone_one) y) (part 2 9) f a i,
-  λ i. whole (part 2 9) i,
+  λ id x i. absurd (whole (part 2 9) id x i),
 )
 
 may_go_one : MayDo before 1 (Out there (Data 0 (part 1 7) ∷ []))
@@ -89,7 +90,7 @@ may_go_one = (
   λ f x i. the_data (λ g y. WasGiven (steps_of (name there g) before) y) (part 1 7) f x
       (inr (inr (inl (record { flow = _; is_open = refl; given = refl; order = refl })))) i,
   λ f a i. no_ack (λ g y. WasTold (steps_of (name (back there) g) before) y) (part 1 7) f a i,
-  λ i. whole (part 1 7) i,
+  λ id x i. absurd (whole (part 1 7) id x i),
 )
 
 pub broken_lawful : IsLawfulBut broken

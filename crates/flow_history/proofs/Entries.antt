@@ -11,7 +11,7 @@ use Rattle.flow_history.specs.Flow.{ByReceiver, Goes, Beside, sending_at, taking
 use Rattle.flow_history.specs.Run.{queued_act, abandoned_act, handed_next_by, message_in, queued_at}
 use Rattle.flow_history.specs.Run.{abandoned_at, handed_at, queued_in, abandoned_in, handed_in}
 use Rattle.flow_history.specs.Deeds.{back, Name, same, same_name, Deed, Begins, Leaves, OpensFlow}
-use Rattle.flow_history.specs.Deeds.{ActsOn, MakesFlow, TakesFrom, HandsOn, AcksOn, In, Out}
+use Rattle.flow_history.specs.Deeds.{ActsOn, MakesFlow, TakesFrom, HandsOn, AcksOn, In, Out, Splits}
 use Rattle.flow_history.specs.Deeds.{History, data_of, acks_of, touch_of, steps_of}
 use Rattle.flow_history.specs.Lawful.{IsLawful, IsHonest}
 use Rattle.flow_history.specs.Log.{HasOrder, Entry, Queued, Abandoned, Handed, entries_of, log_of}
@@ -205,6 +205,7 @@ queued_deed n h who (AcksOn m pairs) rest =
     (queued_by_flow (sending_at (steps_of n h) who) (same_name m n) (ByReceiver (Acks pairs))
     ∙ either_none (same_name m n))
 queued_deed n h who (In c pieces) rest = refl
+queued_deed n h who (Splits c id size packet) rest = refl
 queued_deed n h who (Out c pieces) rest =
     empty_front (queued_at (sending_at (steps_of n h) who) (touch_of n (Out c pieces)))
     (queued_of n rest)
@@ -265,6 +266,7 @@ abandoned_deed n h who (AcksOn m pairs) rest =
     (abandoned_by_flow (sending_at (steps_of n h) who) (same_name m n) (ByReceiver (Acks pairs))
     ∙ either_none (same_name m n))
 abandoned_deed n h who (In c pieces) rest = refl
+abandoned_deed n h who (Splits c id size packet) rest = refl
 abandoned_deed n h who (Out c pieces) rest =
     empty_front (abandoned_at (sending_at (steps_of n h) who) (touch_of n (Out c pieces)))
     (abandoned_of n rest)
@@ -324,6 +326,7 @@ handed_deed n h who (AcksOn m pairs) rest =
     (handed_by_flow (taking_at (steps_of n h) who) (same_name m n) (ByReceiver (Acks pairs))
     ∙ either_none (same_name m n))
 handed_deed n h who (In c pieces) rest = sym (no_end (handed_of n rest))
+handed_deed n h who (Splits c id size packet) rest = sym (no_end (handed_of n rest))
 handed_deed n h who (Out c pieces) rest =
     empty_end (handed_at (taking_at (steps_of n h) who) (touch_of n (Out c pieces)))
     (handed_of n rest)

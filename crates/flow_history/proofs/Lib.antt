@@ -6,6 +6,8 @@ pub mod Names
 pub mod Projected
 pub mod Entries
 pub mod Lively
+pub mod Splitting
+pub mod Parted
 pub mod Keeping
 pub mod Told
 pub mod Events

@@ -3,6 +3,7 @@ use Rattle.std.proofs.Common.{◌≡◌, ℕ, true, false, [], ◌∷◌, Some, 
 use Rattle.std.proofs.Common.{◌∙◌}
 use Rattle.flow_send.specs.Acks.{Told}
 use Rattle.rtmfp_data_chunks.specs.HandsOver.{IsIn}
+use Rattle.rtmfp_fragments.specs.Pieces.{PieceParts}
 use Rattle.flow_history.specs.Flow.{Carried}
 use Rattle.flow_history.specs.Said.{WasGiven, WasTold}
 use Rattle.flow_history.specs.Deeds.{Context, back, name, Data, Ack, Part, Out, steps_of}
@@ -49,23 +50,23 @@ queued_lawful = (
   ),
 )
 
-whole_data : (y : Carried) → IsIn Part (Data 0 y ∷ []) → ⊥
-whole_data y (inl e) = absurd cc
-whole_data y (inr k) = k
+whole_data : (y : Carried) (id : ℕ) (x : PieceParts) → IsIn (Part id x) (Data 0 y ∷ []) → ⊥
+whole_data y id x (inl e) = absurd cc
+whole_data y id x (inr k) = k
 
-whole_ack : IsIn Part (Ack 0 ack ∷ []) → ⊥
-whole_ack (inl e) = absurd cc
-whole_ack (inr k) = k
+whole_ack : (id : ℕ) (x : PieceParts) → IsIn (Part id x) (Ack 0 ack ∷ []) → ⊥
+whole_ack id x (inl e) = absurd cc
+whole_ack id x (inr k) = k
 
 may_go : MayDo at_given 1 (Out there (Data 0 carried ∷ []))
 may_go = (
   λ f x i. the_data (λ g y. WasGiven (steps_of (name there g) at_given) y) f x
       (inl (record { flow = _; is_open = refl; given = refl; order = refl })) i,
   λ f a i. no_ack (λ g y. WasTold (steps_of (name (back there) g) at_given) y) f a i,
-  λ i. whole_data carried i,
+  λ id x i. absurd (whole_data carried id x i),
 )
 
-sent_lawful : IsLawful at_sent
+pub sent_lawful : IsLawful at_sent
 sent_lawful = (may_go, (((_, refl), tt), queued_lawful))
 
 made_lawful : IsLawful at_made
@@ -80,7 +81,7 @@ may_go_back = (
   λ f x i. no_data (λ g y. WasGiven (steps_of (name (back there) g) at_acked) y) f x i,
   λ f a i. the_ack (λ g y. WasTold (steps_of (name there g) at_acked) y) f a
       (inl (record { receiver = _; is_made = refl; told = refl })) i,
-  λ i. whole_ack i,
+  λ id x i. absurd (whole_ack id x i),
 )
 
 told_lawful : IsLawful at_told

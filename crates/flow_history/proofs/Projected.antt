@@ -13,7 +13,7 @@ use Rattle.flow_history.specs.Run.{BeginsSending, HasBegunSending, BeginsTaking,
 use Rattle.flow_history.specs.Run.{MayAct, May, IsRun}
 use Rattle.flow_history.specs.Deeds.{Context, back, Name, name, same, same_name, Piece, Data, Ack, Part}
 use Rattle.flow_history.specs.Deeds.{Deed, Begins, Leaves, OpensFlow, ActsOn, MakesFlow, TakesFrom}
-use Rattle.flow_history.specs.Deeds.{HandsOn, AcksOn, In, Out, History, data_of, acks_of, touch_of}
+use Rattle.flow_history.specs.Deeds.{HandsOn, AcksOn, In, Out, Splits, History, data_of, acks_of, touch_of}
 use Rattle.flow_history.specs.Deeds.{steps_of}
 use Rattle.flow_history.specs.Lawful.{BeginsIn, HasBegun, Brings, CameIn, SendsOut, WasSent}
 use Rattle.flow_history.specs.Lawful.{MayActOn, MayDo, IsLawful, IsHonestDeed, IsHonest}
@@ -43,7 +43,7 @@ begins_taking_with true t x y f g h = f refl h
 begins_taking_with false true x y f g h = g refl h
 begins_taking_with false false x y f g h = absurd h
 
-sending_begun_at : (n : Name) (d : Deed) → BeginsSending (touch_of n d) → BeginsIn n.context d
+pub sending_begun_at : (n : Name) (d : Deed) → BeginsSending (touch_of n d) → BeginsIn n.context d
 sending_begun_at n (Begins c) h =
     begins_sending_with (same c n.context) (same (back c) n.context) (BySender SendingBegins)
     (ByReceiver TakingBegins) (λ e k. same_is c n.context e) (λ e k. absurd k) h
@@ -62,6 +62,7 @@ sending_begun_at n (HandsOn m) h = absurd (begins_by (same_name m n) (ByReceiver
 sending_begun_at n (AcksOn m pairs) h =
     absurd (begins_by (same_name m n) (ByReceiver (Acks pairs)) (λ k. k) h)
 sending_begun_at n (In c pieces) h = absurd h
+sending_begun_at n (Splits c id size packet) h = absurd h
 sending_begun_at n (Out c pieces) h =
     absurd (begins_sending_with (same c n.context) (same (back c) n.context)
     (Goes (data_of n.flow pieces) []) (Goes [] (acks_of n.flow pieces)) {P = ⊥} (λ e k. k)
@@ -88,6 +89,7 @@ taking_begun_at n (HandsOn m) h =
 taking_begun_at n (AcksOn m pairs) h =
     absurd (begins_taking_by (same_name m n) (ByReceiver (Acks pairs)) (λ k. k) h)
 taking_begun_at n (In c pieces) h = absurd h
+taking_begun_at n (Splits c id size packet) h = absurd h
 taking_begun_at n (Out c pieces) h =
     absurd (begins_taking_with (same c n.context) (same (back c) n.context)
     (Goes (data_of n.flow pieces) []) (Goes [] (acks_of n.flow pieces)) {P = ⊥} (λ e k. k)
@@ -123,8 +125,8 @@ among_data f x (Data g y ∷ rest) i =
     among_data_if f g x y rest (g == f) refl (among_data f x rest) i
 among_data f x (Ack g a ∷ rest) (inl q) = absurd cc
 among_data f x (Ack g a ∷ rest) (inr i) = among_data f x rest i
-among_data f x (Part ∷ rest) (inl q) = absurd cc
-among_data f x (Part ∷ rest) (inr i) = among_data f x rest i
+among_data f x (Part id p ∷ rest) (inl q) = absurd cc
+among_data f x (Part id p ∷ rest) (inr i) = among_data f x rest i
 
 among_acks_if : (f g : ℕ) (x y : Told) (rest : List Piece) (t : Bool) → (g == f) ≡ t →
     (IsIn (Ack f x) rest → IsIn x (acks_of f rest)) → IsIn (Ack f x) (Ack g y ∷ rest) →
@@ -142,8 +144,8 @@ among_acks f x [] i = i
 among_acks f x (Ack g y ∷ rest) i = among_acks_if f g x y rest (g == f) refl (among_acks f x rest) i
 among_acks f x (Data g a ∷ rest) (inl q) = absurd cc
 among_acks f x (Data g a ∷ rest) (inr i) = among_acks f x rest i
-among_acks f x (Part ∷ rest) (inl q) = absurd cc
-among_acks f x (Part ∷ rest) (inr i) = among_acks f x rest i
+among_acks f x (Part id p ∷ rest) (inl q) = absurd cc
+among_acks f x (Part id p ∷ rest) (inr i) = among_acks f x rest i
 
 data_among_if : (f g : ℕ) (x y : Carried) (rest : List Piece) (t : Bool) → (g == f) ≡ t →
     (IsIn x (data_of f rest) → IsIn (Data f x) rest) →
@@ -159,7 +161,7 @@ data_among f x [] i = i
 data_among f x (Data g y ∷ rest) i =
     data_among_if f g x y rest (g == f) refl (data_among f x rest) i
 data_among f x (Ack g a ∷ rest) i = inr (data_among f x rest i)
-data_among f x (Part ∷ rest) i = inr (data_among f x rest i)
+data_among f x (Part id p ∷ rest) i = inr (data_among f x rest i)
 
 acks_among_if : (f g : ℕ) (x y : Told) (rest : List Piece) (t : Bool) → (g == f) ≡ t →
     (IsIn x (acks_of f rest) → IsIn (Ack f x) rest) →
@@ -174,7 +176,7 @@ acks_among : (f : ℕ) (x : Told) (pieces : List Piece) → IsIn x (acks_of f pi
 acks_among f x [] i = i
 acks_among f x (Ack g y ∷ rest) i = acks_among_if f g x y rest (g == f) refl (acks_among f x rest) i
 acks_among f x (Data g a ∷ rest) i = inr (acks_among f x rest i)
-acks_among f x (Part ∷ rest) i = inr (acks_among f x rest i)
+acks_among f x (Part id p ∷ rest) i = inr (acks_among f x rest i)
 
 -- what an end took in a context was sent in it
 pub record IsSentWith (c : Context) (piece : Piece) (h : History) : Type 0 where
@@ -200,41 +202,15 @@ came_at c piece h (In d pieces) honest i =
           subst (λ (e : Context). WasSent e pieces h) i.0 honest;
     }
 came_at c piece h (Out d pieces) honest i = absurd i
+came_at c piece h (Splits d id size packet) honest i = absurd i
 
-came_sent : (who : ℕ) (c : Context) (piece : Piece) (h : History) → IsHonest h →
+pub came_sent : (who : ℕ) (c : Context) (piece : Piece) (h : History) → IsHonest h →
     CameIn who c piece h → IsSentWith c piece h
 came_sent who c piece [] honest i = absurd i
 came_sent who c piece (d ∷ h) honest (inl i) = let k = came_at c piece h d.deed honest.0 i.1 in
     record { pieces = k.pieces; among = k.among; sent = inr k.sent }
 came_sent who c piece (d ∷ h) honest (inr i) = let k = came_sent who c piece h honest.1 i in
     record { pieces = k.pieces; among = k.among; sent = inr k.sent }
-
--- no packet comes in parts
-
-whole_at : (c : Context) (pieces : List Piece) (h : History) (who : ℕ) (d : Deed) → MayDo h who d →
-    SendsOut c pieces d → IsIn Part pieces → ⊥
-whole_at c pieces h who (Begins d) may o i = o
-whole_at c pieces h who (Leaves d) may o i = o
-whole_at c pieces h who (OpensFlow m b) may o i = o
-whole_at c pieces h who (ActsOn m act) may o i = o
-whole_at c pieces h who (MakesFlow m b) may o i = o
-whole_at c pieces h who (TakesFrom m d) may o i = o
-whole_at c pieces h who (HandsOn m) may o i = o
-whole_at c pieces h who (AcksOn m pairs) may o i = o
-whole_at c pieces h who (In d sent) may o i = o
-whole_at c pieces h who (Out d sent) may o i =
-    may.2 (subst (λ (ps : List Piece). IsIn Part ps) (sym o.1) i)
-
-pub sent_whole : (c : Context) (pieces : List Piece) (h : History) → IsLawful h → WasSent c pieces h →
-    IsIn Part pieces → ⊥
-sent_whole c pieces [] lawful o i = o
-sent_whole c pieces (d ∷ h) lawful (inl o) i = whole_at c pieces h d.who d.deed lawful.0 o i
-sent_whole c pieces (d ∷ h) lawful (inr o) i = sent_whole c pieces h lawful.1 o i
-
-pub came_whole : (who : ℕ) (c : Context) (h : History) → IsLawful h → IsHonest h →
-    CameIn who c Part h → ⊥
-came_whole who c h lawful honest i = let k = came_sent who c Part h honest i in
-    sent_whole c k.pieces h lawful k.sent k.among
 
 carries_in : (s t : Bool) (x y : Touch) (c : Carried) → s ≡ true → Carries x c →
     Carries (cond s x (cond t y Beside)) c
@@ -258,6 +234,7 @@ went_at n x pieces (TakesFrom m d) i o = absurd o
 went_at n x pieces (HandsOn m) i o = absurd o
 went_at n x pieces (AcksOn m pairs) i o = absurd o
 went_at n x pieces (In d sent) i o = absurd o
+went_at n x pieces (Splits d id size packet) i o = absurd o
 went_at n x pieces (Out d sent) i o =
     carries_in (same d n.context) (same (back d) n.context) (Goes (data_of n.flow sent) [])
     (Goes [] (acks_of n.flow sent)) x (ap (λ c. same c n.context) o.0 ∙ same_self n.context)
@@ -280,6 +257,7 @@ back_at n a pieces (TakesFrom m d) i o = absurd o
 back_at n a pieces (HandsOn m) i o = absurd o
 back_at n a pieces (AcksOn m pairs) i o = absurd o
 back_at n a pieces (In d sent) i o = absurd o
+back_at n a pieces (Splits d id size packet) i o = absurd o
 back_at n a pieces (Out d sent) i o =
     carries_back (same d n.context) (same (back d) n.context) (Goes (data_of n.flow sent) [])
     (Goes [] (acks_of n.flow sent)) a (ap (λ c. same c n.context) o.0 ∙ same_back n.context)
@@ -360,6 +338,7 @@ may_happen h who (TakesFrom m c) n honest may =
 may_happen h who (HandsOn m) n honest may = named h who m n (ByReceiver Hands) may
 may_happen h who (AcksOn m pairs) n honest may = named h who m n (ByReceiver (Acks pairs)) may
 may_happen h who (In c pieces) n honest may = tt
+may_happen h who (Splits c id size packet) n honest may = tt
 may_happen h who (Out c pieces) n honest may =
     by_way (steps_of n h) who (same c n.context) (same (back c) n.context)
     (Goes (data_of n.flow pieces) []) (Goes [] (acks_of n.flow pieces))

@@ -4,6 +4,7 @@ use Rattle.std.specs.Prelude.{ℕ, ◌==◌, ◌&&◌, if◌then◌else◌, not,
 use Rattle.std.specs.Str.{bytes_eq}
 use Rattle.glare_core.specs.Tells.{Values}
 use Rattle.rtmfp_data_chunks.specs.Runs.{Chunk}
+use Rattle.rtmfp_fragments.specs.Pieces.{PieceParts}
 use Rattle.flow_send.specs.Acks.{Told}
 use Rattle.flow_exchange.specs.Sending.{Act}
 use Rattle.flow_history.specs.Flow.{Carried, SendingBegins, SendingEnds, Opens, Acts, TakingBegins}
@@ -45,15 +46,16 @@ same_name m n = (m.flow == n.flow) && same m.context n.context
 
 -- ---- what ends do
 
--- What a datagram has of flows: chunks of those of its own context, and acks of those of the
--- context back; or a part of a packet, whatever that has.
+-- What a packet has of flows: chunks of those of its own context, and acks of those of the context
+-- back; or a piece of another packet, under that packet's ID.
 pub data Piece : Type 0 where
   Data : (flow : ℕ) (x : Carried) → Piece
   Ack : (flow : ℕ) (a : Told) → Piece
-  Part : Piece
+  Part : (id : ℕ) (x : PieceParts) → Piece
 
 -- Begins and Leaves name the context in which a session sends; it takes in the one back. In and Out
--- are datagrams in a context.
+-- are packets in a context, whole in one datagram, or as they are split and gathered. Splits is a
+-- packet's bytes that go out in the context in pieces of this size, under an ID.
 pub data Deed : Type 0 where
   Begins : (c : Context) → Deed
   Leaves : (c : Context) → Deed
@@ -65,6 +67,7 @@ pub data Deed : Type 0 where
   AcksOn : (n : Name) (pairs : ℕ) → Deed
   In : (c : Context) (pieces : List Piece) → Deed
   Out : (c : Context) (pieces : List Piece) → Deed
+  Splits : (c : Context) (id size : ℕ) (packet : List ℕ) → Deed
 
 pub record Done : Type 0 where
   pub who : ℕ
@@ -83,13 +86,13 @@ abbrev pub data_of : ℕ → List Piece → List Carried
 data_of f [] = []
 data_of f (Data g x ∷ rest) = if g == f then x ∷ data_of f rest else data_of f rest
 data_of f (Ack g a ∷ rest) = data_of f rest
-data_of f (Part ∷ rest) = data_of f rest
+data_of f (Part id x ∷ rest) = data_of f rest
 
 abbrev pub acks_of : ℕ → List Piece → List Told
 acks_of f [] = []
 acks_of f (Data g x ∷ rest) = acks_of f rest
 acks_of f (Ack g a ∷ rest) = if g == f then a ∷ acks_of f rest else acks_of f rest
-acks_of f (Part ∷ rest) = acks_of f rest
+acks_of f (Part id x ∷ rest) = acks_of f rest
 
 -- one thing in the flow's context, another one in the context back
 abbrev pub by_context : Context → Name → Touch → Touch → Touch
@@ -113,6 +116,7 @@ touch_of n (AcksOn m pairs) = by_name m n (ByReceiver (Acks pairs))
 touch_of n (In c pieces) = Beside
 touch_of n (Out c pieces) = by_context c n (Goes (data_of n.flow pieces) [])
     (Goes [] (acks_of n.flow pieces))
+touch_of n (Splits c id size packet) = Beside
 
 abbrev pub steps_of : Name → History → Steps
 steps_of n [] = []

@@ -6,6 +6,7 @@ pub mod Lawful
 pub mod Log
 pub mod Laws
 pub mod Lively
+pub mod Parts
 pub mod Keeping
 pub mod Told
 pub mod Events

@@ -12,6 +12,7 @@ ghost use Rattle.flow_history.specs.Broken.{broken, IsLawfulBut};
 ghost use Rattle.flow_history.specs.Events.{EventsKeep, ThenDo};
 ghost use Rattle.flow_history.specs.Told.{WhatIsWrittenIsTold};
 ghost use Rattle.flow_history.specs.Keeping.{DeedsOfOthersKeep, OwnDeedsKeep};
+ghost use Rattle.flow_history.specs.Parts.{WhatComesWasSplit, AnIdIsGivenOnce, parted};
 
 /// Whatever the ends of one flow do, it hands over what was queued on it: whole, once, in queueing
 /// order and skipping only abandoned messages, or, in arrival order, whole and once.
@@ -44,6 +45,21 @@ pub fn events()
 /// The ack that a receiver writes, in whatever room, is one that it may tell.
 pub fn told()
     ensures { WhatIsWrittenIsTold }
+{}
+
+/// A part of a packet that comes is one of a packet that was split in the context under its ID, and
+/// under one ID only one packet ever was.
+pub fn parts()
+    ensures comes { WhatComesWasSplit }
+    ensures once { AnIdIsGivenOnce }
+{}
+
+/// Such histories are there: in this one a packet goes out in two pieces, which come in the other
+/// order, and the message that the packet has is handed over.
+pub fn lively_parts()
+    ensures lawful { IsLawful parted }
+    ensures honest { IsHonest parted }
+    ensures hands { handed_of flow (log_of parted) ≡ message ∷ [] }
 {}
 
 /// Such histories are there: in this one a message goes from one end to the other, and its ack

@@ -14,8 +14,9 @@ use Rattle.rtmfp_data_chunks.specs.Chunk.{Exception}
 use Rattle.rtmfp_data_chunks.specs.Reader.{data_reading}
 use Rattle.rtmfp_data_chunks.specs.Spelling.{kind_of, before_next}
 use Rattle.rtmfp_data_chunks.specs.Writing.{payload_bytes, data_bytes}
-use Rattle.flow_history.specs.Deeds.{Piece, Part}
-use Rattle.session_deeds.specs.Pieces.{pieces_in, pieces_read, pieces_behind, IsPutBehind}
+use Rattle.flow_history.specs.Deeds.{Piece}
+use Rattle.rtmfp_chunks.specs.FieldReading.{chunk_reading}
+use Rattle.session_deeds.specs.Pieces.{pieces_in, pieces_read, parts_read, pieces_behind, IsPutBehind}
 
 -- a chunk as it stands in a packet
 abbrev pub written : DataChunk → Written
@@ -106,7 +107,7 @@ read_all last (c ∷ cs) at h =
     let rest : List Placed =
     visible (all_placed_from (at + (3 + length (payload_bytes c))) (map written cs)) in
     ap (λ (b : Bool). pieces_behind last (cond b (here ∷ rest) rest)) (is_shown c)
-    ∙ ap (λ (b : Bool). (if b then Part ∷ [] else pieces_read (data_reading last (kind_of c) (payload_bytes c)))
+    ∙ ap (λ (b : Bool). (if b then parts_read (chunk_reading (kind_of c) (payload_bytes c)) else pieces_read (data_reading last (kind_of c) (payload_bytes c)))
     ++ pieces_behind (before_next (data_reading last (kind_of c) (payload_bytes c))) rest) (no_part c)
     ∙ ap (λ (r : Result DataChunk DataFault). pieces_read
     r ++ pieces_behind (before_next r) rest) h.0

@@ -1,9 +1,13 @@
 -- Rows of deeds, computed.
-use Rattle.std.proofs.Common.{◌≡◌, ℕ, Bool, true, false, [], ◌∷◌, Option, Some, None}
+use Rattle.std.proofs.Common.{◌++◌, List, ◌≡◌, ℕ, Bool, true, false, [], ◌∷◌, Option, Some, None}
 use Rattle.std.proofs.Common.{refl, ap, subst, arith, inl, inr}
 use Rattle.rtmfp_vlu.specs.Reading.{end_within, number_at}
 use Rattle.rtmfp_forms.specs.OptionReading.{number_then as form_number, counted_then, piece_then}
 use Rattle.rtmfp_forms.specs.OptionReading.{options_within, options_then}
+use Rattle.rtmfp_chunks.specs.Chunk.{row_of}
+use Rattle.rtmfp_chunks.specs.FieldReading.{number_then as vlu_then, more_then, field_then, row_at}
+use Rattle.rtmfp_chunks.specs.FieldReading.{chunk_at, chunk_with, chunk_reading}
+use Rattle.rtmfp_fragments.specs.Pieces.{piece}
 use Rattle.rtmfp_data_chunks.specs.Acked.{spans_within}
 use Rattle.rtmfp_data_chunks.specs.HandsOver.{IsIn}
 use Rattle.rtmfp_data_chunks.specs.Reader.{number_then, numbers_then, options_at, user_then}
@@ -22,10 +26,19 @@ use Rattle.flow_history.specs.Said.{IsGiven, given_by}
 use Rattle.flow_history.specs.Deeds.{Piece, Data, Ack, Part}
 use Rattle.session_deeds.specs.Deeds.{none_yet}
 use Rattle.session_deeds.specs.Goes.{IsSaid}
-use Rattle.session_deeds.specs.Edges.{carried, ReadsInTurn, an_ack, a_piece, MayBeDone, queue}
+use Rattle.session_deeds.specs.Pieces.{parts_read}
+use Rattle.session_deeds.specs.Edges.{carried, fragment, cut_fragment, ReadsInTurn, an_ack, a_piece, MayBeDone, queue}
 use Rattle.session_deeds.specs.Edges.{at_sender, at_receiver, IsStatedAndSaid}
 
 -- ---- what is read
+
+fragment_read : parts_read (chunk_reading fragment.kind fragment.payload) ≡ Part 2 (piece 3 true (0x09 ∷ [])) ∷ []
+unfolding end_within number_at vlu_then more_then field_then row_at chunk_at chunk_with chunk_reading row_of
+fragment_read = refl
+
+cut_read : parts_read (chunk_reading cut_fragment.kind cut_fragment.payload) ≡ []
+unfolding end_within number_at vlu_then more_then field_then row_at chunk_at chunk_with chunk_reading row_of
+cut_read = refl
 
 pub reads_in_turn : ReadsInTurn
 unfolding end_within number_at form_number counted_then piece_then options_within options_then
@@ -38,7 +51,8 @@ reads_in_turn = record {
   apart = refl;
   arriving = refl;
   beside = refl;
-  part = refl;
+  part = ap (λ (parts : List Piece). Data 0 (carried 1 7 None) ∷ (parts ++ [])) fragment_read;
+  cut = ap (λ (parts : List Piece). parts ++ []) cut_read;
   acks = refl;
 }
 
@@ -59,7 +73,7 @@ order_number (Some true) = 2
 abbrev piece_number : Piece → ℕ
 piece_number (Data f x) = order_number x.order
 piece_number (Ack f a) = f
-piece_number Part = 0
+piece_number (Part id x) = 0
 
 -- it isn't the only piece that came
 not_there : (p q : Piece) → (piece_number p ≡ piece_number q → ⊥) → IsIn p (q ∷ []) → ⊥

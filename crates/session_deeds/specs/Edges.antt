@@ -2,6 +2,7 @@
 use Rattle.std.specs.Prelude.{ℕ, ◌≡◌, Bool, true, false, List, [], ◌∷◌, Option, Some, None}
 use Rattle.rtmfp_packet.specs.Walk.{Placed}
 use Rattle.rtmfp_data_chunks.specs.declared.user_data.Part.TheVariants.{Whole}
+use Rattle.rtmfp_fragments.specs.Pieces.{piece}
 use Rattle.flow_send.specs.Acks.{Told, told}
 use Rattle.flow_exchange.specs.Sending.{Act, Queues, Abandons, Finishes, Sends, Hears}
 use Rattle.flow_history.specs.Flow.{Carried}
@@ -48,8 +49,12 @@ with_metadata byte = placed 0x10
 abbrev pub ranges : Placed
 ranges = placed 0x51 (0x00 ∷ 0x90 ∷ 0x00 ∷ 0x01 ∷ 0x00 ∷ 0x01 ∷ [])
 
+-- of the packet with ID 2, the piece 3, behind which more follow; and one without a number
 abbrev pub fragment : Placed
-fragment = placed 0x7f (0x00 ∷ 0x01 ∷ 0x00 ∷ [])
+fragment = placed 0x7f (0x80 ∷ 0x02 ∷ 0x03 ∷ 0x09 ∷ [])
+
+abbrev pub cut_fragment : Placed
+cut_fragment = placed 0x7f (0x80 ∷ 0x02 ∷ [])
 
 abbrev pub ping : Placed
 ping = placed 0x01 []
@@ -64,9 +69,11 @@ pub record ReadsInTurn : Type 0 where
   -- metadata that begin with the byte 61 have messages handed over as they arrive
   pub arriving : pieces_of (with_metadata 0x61 ∷ []) ≡ Data 0 (carried 1 7 (Some true)) ∷ []
   pub beside : pieces_of (with_metadata 0x60 ∷ []) ≡ Data 0 (carried 1 7 (Some false)) ∷ []
-  -- a fragment is a part of a packet, behind which a next chunk has no number
+  -- a fragment is a part of a packet, behind which a next chunk has no number; one that can't be
+  -- read is none
   pub part : pieces_of (first_data ∷ fragment ∷ next_data ∷ [])
-      ≡ Data 0 (carried 1 7 None) ∷ Part ∷ []
+      ≡ Data 0 (carried 1 7 None) ∷ Part 2 (piece 3 true (0x09 ∷ [])) ∷ []
+  pub cut : pieces_of (cut_fragment ∷ []) ≡ []
   pub acks : pieces_of (ranges ∷ []) ≡ Ack 0 (told 2048 1 ((3, 4) ∷ [])) ∷ []
 
 -- ---- which deeds may be done

@@ -3,7 +3,11 @@ use Rattle.std.specs.Prelude.{ℕ, ◌≡◌, ◌==◌, ◌++◌, if◌then◌el
 use Rattle.std.specs.Prelude.{None, Result, Ok, Err}
 use Rattle.std.specs.List.{AllByRecursion, flat_map}
 use Rattle.std.specs.Option.{option_map}
-use Rattle.rtmfp_packet.specs.Spelling.{Chunk, IsChunk, chunk_bytes}
+use Rattle.rtmfp_chunks.specs.declared.reading.ChunkFault.{ChunkFault}
+use Rattle.rtmfp_chunks.specs.Chunk.{Chunk, Fragment}
+use Rattle.rtmfp_chunks.specs.FieldReading.{chunk_reading}
+use Rattle.rtmfp_fragments.specs.Pieces.{piece}
+use Rattle.rtmfp_packet.specs.Spelling.{Chunk as Written, IsChunk, chunk_bytes}
 use Rattle.rtmfp_packet.specs.Walk.{Placed, all_placed_from, visible}
 use Rattle.rtmfp_data_chunks.specs.declared.user_data.Numbers.{Numbers}
 use Rattle.rtmfp_data_chunks.specs.declared.view.DataFault.{DataFault}
@@ -41,10 +45,15 @@ abbrev pub pieces_read : Result DataChunk DataFault → List Piece
 pieces_read (Ok chunk) = pieces_in chunk
 pieces_read (Err fault) = []
 
--- what a chunk has behind these numbers: a fragment is a part of a packet
+-- a fragment is a part of a packet
+abbrev pub parts_read : Result Chunk ChunkFault → List Piece
+parts_read (Ok (Fragment more id number bytes)) = Part id (piece number more bytes) ∷ []
+parts_read read = []
+
+-- what a chunk has behind these numbers
 abbrev pub pieces_at : Option Numbers → ℕ → List ℕ → List Piece
-pieces_at before kind payload =
-    if kind == 0x7f then Part ∷ [] else pieces_read (data_reading before kind payload)
+pieces_at before kind payload = if kind == 0x7f then parts_read (chunk_reading kind payload)
+    else pieces_read (data_reading before kind payload)
 
 -- Chunk after chunk, each read behind the numbers of the one before it.
 abbrev pub pieces_behind : Option Numbers → List Placed → List Piece
@@ -59,7 +68,7 @@ pieces_of chunks = pieces_behind None chunks
 
 -- The packet goes on with chunks that have these pieces, and no others, for whoever reads it.
 pub record IsPutBehind (front packet : List ℕ) (pieces : List Piece) : Type 0 where
-  pub chunks : List Chunk
+  pub chunks : List Written
   pub whole : packet ≡ front ++ flat_map chunk_bytes chunks
   pub each : AllByRecursion IsChunk chunks
   pub read : (at : ℕ) → pieces_of (visible (all_placed_from at chunks)) ≡ pieces
