@@ -94,6 +94,7 @@ without_thing s fact thing = record {
   config = s.config;
   moment = s.moment;
   sealed = s.sealed;
+  limit = s.limit;
   group = s.group;
   next = s.next;
   startup = record { cert = s.startup.cert; cookie_secret = s.startup.cookie_secret; ledger = noted s.startup.ledger fact; attempts = without_id s.startup.attempts (attempt_id thing); kept = s.startup.kept };

@@ -37,7 +37,8 @@ use Rattle.endpoint_laws.specs.Past.{Past, stamped, onto, before_event, last_cal
 use Rattle.endpoint_laws.specs.Contexts.{Secrets, OpensFirst, OpensInStartup, CallOpensIn, startup_contexts, next_contexts}
 use Rattle.endpoint_laws.specs.Past.{current_of, next_of}
 use Rattle.endpoint_laws.proofs.Kin.{answered_there, changed_there}
-use Rattle.endpoint_laws.proofs.Small.{Any, Sends}
+use Rattle.endpoint_laws.proofs.Replies.{startup_sends}
+use Rattle.endpoint_laws.proofs.Small.{Any}
 use Rattle.endpoint_laws.proofs.ByKind.{is_taken, told_kinds, chunk_by_kind}
 use Rattle.endpoint_laws.proofs.Made.{IsNoHello, by_hello, carries_any, replied_made, in_session_made, not_in_attempt, chunk_made}
 use Rattle.endpoint_laws.proofs.Succeeding.{StaysInGroup, NamesNoneEach, current_onto, next_onto, stays_law, stays_begins}
@@ -59,18 +60,6 @@ contexts_onto : (setup : Setup) (moment : ℕ) (entries : List Entry) (past : Pa
 contexts_onto setup moment entries past none =
     ap (λ (g : ℕ). StartupContext g ∷ next_contexts (next_of (onto moment entries past))) (current_onto setup moment entries past none)
     ∙ ap (λ (o : Option ℕ). StartupContext (current_of setup past) ∷ next_contexts o) (next_onto moment entries past none)
-
--- ---- what is kept outside of sessions, where a packet goes out
-
-abbrev KeepsStartup : State → Did → Type 0
-KeepsStartup s d = d.state.startup ≡ s.startup
-
-startup_sends : Sends Any KeepsStartup
-startup_sends = record {
-  steps = record { does_nothing = λ s. refl; and_then = λ s d e first later. later ∙ first };
-  out = λ s generation keys to sid plain. refl;
-  out_in = λ s near row to body is carries. refl;
-}
 
 -- ---- the attempts
 

@@ -64,7 +64,7 @@ use Rattle.endpoint_model.specs.Keying.{chunks_of}
 use Rattle.endpoint_laws.specs.Admissible.{Admissible, Offer}
 use Rattle.endpoint_laws.specs.Lawful.{AnswersAttempt}
 use Rattle.endpoint_model.specs.State.{State, full, new_row, Did, nothing, then_do, fact_entries, with_startup, free_from, fresh, at_moment}
-use Rattle.endpoint_model.specs.Sending.{last_count, startup_number, startup_datagram, session_packet, session_datagram, sent_by}
+use Rattle.endpoint_model.specs.Sending.{last_count, startup_number, startup_datagram, session_packet, session_datagram, sent_whole, sent_by}
 use Rattle.endpoint_model.specs.Admission.{Admission, Rejected, Admitted, opened_datagram, admission, admitted, admitted_packet, packet_in, has_mode, confirming, places_of, known_group, group_at, attempt_group, opened_first}
 use Rattle.endpoint_model.specs.Causes.{takes_in, form_cause, initiator_keying_cause, last_cause, chunk_cause}
 use Rattle.endpoint_model.specs.Gathering.{may_be_gathered}
@@ -91,6 +91,7 @@ use Rattle.endpoint_laws.proofs.Answering.{OpensAttempt}
 use Rattle.endpoint_laws.proofs.ByKind.{causes, not_false, not_gathered}
 use Rattle.endpoint_laws.proofs.Chunked.{read_ok, opening_of}
 use Rattle.endpoint_laws.proofs.OutSends.{Sent}
+use Rattle.endpoint_laws.proofs.PacketPieces.{short_goes_whole}
 use Rattle.endpoint_laws.proofs.Orderly.{Orderly, steps_orderly}
 use Rattle.endpoint_laws.proofs.Stepping.{packet_in_order, outside_sessions, take_in_order}
 use Rattle.endpoint_laws.proofs.Logged.{Begun, LogIs, log_is, holds_begun, named_by}
@@ -517,10 +518,11 @@ module _ (s : State) (near : ℕ) (from : AddressParts) (draws : Draws) (c : Pla
   abbrev after_it : State
   after_it = with_opened (with_startup s (after_opening s.startup near (Opened session))) (Opened session) from keeps
 
-  entries_are : (responder_keyed s near from c.payload).entries ≡ FactEntry (Opened session) ∷ (sent_by after_it near from (chunk_bytes (Ping [])) (Some kept)).entries
+  entries_are : (responder_keyed s near from c.payload).entries ≡ FactEntry (Opened session) ∷ (sent_whole after_it near from (chunk_bytes (Ping [])) (Some kept)).entries
   entries_are =
       ap (λ (o : Option Fact). (opening_done s near from keeps o).entries) opened_as
       ∙ ap (λ (o : Option Row). FactEntry (Opened session) ∷ (sent_by after_it near from (chunk_bytes (Ping [])) o).entries) (get_inserted s.sessions near kept)
+      ∙ ap (λ (d : Did). FactEntry (Opened session) ∷ d.entries) (short_goes_whole after_it near from (chunk_bytes (Ping [])) kept (omega arith))
 
   -- what goes out is a ping
   is_ping : IsPing keeps.secret (session_context keeps.generation (as_initiator s.startup.ledger.own session) true) session.far (session_datagram kept.session s.moment (chunk_bytes (Ping [])))

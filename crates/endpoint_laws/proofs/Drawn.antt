@@ -37,13 +37,13 @@ use Rattle.endpoint_model.specs.declared.place.Place.TheVariants.{Startup, Attem
 use Rattle.endpoint_model.specs.declared.entry.Entry.{Entry}
 use Rattle.endpoint_model.specs.declared.entry.Entry.TheVariants.{Fact as FactEntry}
 use Rattle.endpoint_model.specs.declared.answers.Stopped.{Stopped as Stop}
-use Rattle.endpoint_model.specs.Event.{Call, OpenCall, SeekCall, open_in, seek_in, Open, Seek, Unseek, Cancel, Close, AddRow, Introduce, Learn, Advance, OnFlows, Receive, Tick, Answer as CallAnswer, Began, Searching, Done, Succeeds, NotOpened, NotSought, Refused, NotAdded, Stopped, OutOfMemory, Event, moment_at}
+use Rattle.endpoint_model.specs.Event.{Call, OpenCall, SeekCall, open_in, seek_in, Open, Seek, Unseek, Cancel, Close, AddRow, Introduce, Narrow, Learn, Advance, OnFlows, Receive, Tick, Answer as CallAnswer, Began, Searching, Done, Succeeds, NotOpened, NotSought, Refused, NotAdded, Stopped, OutOfMemory, Event, moment_at}
 use Rattle.endpoint_model.specs.Introducing.{with_redirect, introducing}
 use Rattle.endpoint_model.specs.OnFlows.{flow_entry, flow_called}
 use Rattle.endpoint_model.specs.FlowChunks.{acked, unowed}
 use Rattle.endpoint_model.specs.FlowTimes.{all_late}
 use Rattle.endpoint_laws.specs.Past.{Past, OfEntry, last_call, stamped, begun, onto, past_of_log}
-use Rattle.endpoint_model.specs.State.{at_moment, State, full, Did, Does, nothing, then_do, fact_entries, with_startup, free_from}
+use Rattle.endpoint_model.specs.State.{at_moment, narrowing, State, full, Did, Does, nothing, then_do, fact_entries, with_startup, free_from}
 use Rattle.endpoint_model.specs.Sending.{is_spent, sent_answer, sent_if}
 use Rattle.endpoint_model.specs.Succession.{learning, advancing, advancing_to}
 use Rattle.endpoint_model.specs.Admission.{Admission, Rejected, Admitted, admission, sid_at, confirming, group_at, attempt_group}
@@ -55,6 +55,7 @@ use Rattle.endpoint_laws.proofs.Unseen.{AreUnseen, flows_unseen}
 use Rattle.endpoint_model.specs.Log.{Answers, Step, stopped}
 use Rattle.rtmfp_data_chunks.specs.Fitting.{AreSmall}
 use Rattle.rtmfp_data_chunks.proofs.Fitting.{small_next}
+use Rattle.endpoint_laws.proofs.PacketPieces.{any_sends}
 use Rattle.endpoint_laws.proofs.Small.{Sends, Quiet, stated_of, Any, All}
 use Rattle.endpoint_laws.proofs.Stepping.{AreAllSmall, all_taken, small_steps, walk_is, outside_sessions, take_in_order}
 use Rattle.endpoint_laws.proofs.Made.{all_law, session_chunk_made, answer_made, answered_made, spread_made, in_session_made, confirming_made, tested_made, acked_made, cancelling_made, closing_made, called_made, tick_all_made, chunk_by}
@@ -97,11 +98,12 @@ module _ (seek : Option SeekCall) (by_open : Option OpenCall) where
 
   -- what is sent draws none
   none_sends : Sends Any (λ s d. drawn_by seek by_open d.entries ≡ [])
-  none_sends = record {
+  none_sends = any_sends (record {
     steps = record { does_nothing = λ s. refl; and_then = λ s d e first later. none_after d.entries e.entries [] first later };
     out = λ s generation keys to sid plain. refl;
-    out_in = λ s near row to body is carries. refl;
-  }
+    out_in = λ s near row to body is. refl;
+    packets = λ s near row is. refl;
+  })
 
 -- of a call that opens nothing and seeks nothing
 abbrev plain : List Entry → Nonces
@@ -138,7 +140,7 @@ none_quiet = record {
 }
 
 none_law : All Any DrawsNone
-none_law = all_law none_quiet (λ s near row thing is may. none_unseen (map (flow_entry near) (stated_of row thing)) (flows_unseen near (stated_of row thing)))
+none_law = all_law none_quiet (λ s near row thing is may. none_unseen (map (flow_entry near) (stated_of row thing)) (flows_unseen near (stated_of row thing))) (λ s near id row x is. refl)
 
 none_answer : (s : State) (answer : Answer) → plain (sent_answer s answer).entries ≡ []
 none_answer s answer = answer_made none_quiet.sends s answer
@@ -344,6 +346,7 @@ may_draw (Cancel n) xs ys none one h = none h
 may_draw (Close near) xs ys none one h = none h
 may_draw (AddRow print addresses) xs ys none one h = none h
 may_draw Introduce xs ys none one h = none h
+may_draw (Narrow limit) xs ys none one h = none h
 may_draw (Learn secret) xs ys none one h = none h
 may_draw Advance xs ys none one h = none h
 may_draw (OnFlows near call) xs ys none one h = none h
@@ -384,6 +387,7 @@ answers_draw s t (Close near) (Refused refusal) entries h = none_of None None (n
 answers_draw s t (AddRow print addresses) Done entries h = none_of None None (nothing (with_redirect s print addresses)) t entries h.1 refl
 answers_draw s t (AddRow print addresses) (NotAdded refusal) entries h = none_of None None (nothing s) t entries h.1 refl
 answers_draw s t Introduce Done entries h = none_of None None (nothing (introducing s)) t entries h refl
+answers_draw s t (Narrow limit) Done entries h = none_of None None (nothing (narrowing s limit)) t entries h refl
 answers_draw s t (Learn secret) (Succeeds generation) entries h = none_of None None (learning s secret) t entries h.2 refl
 answers_draw s t (Learn secret) (Refused refusal) entries h = none_of None None (nothing s) t entries h.1 refl
 answers_draw s t Advance (Succeeds generation) entries h = none_of None None (advancing s) t entries h.2 (none_advancing s s.next)

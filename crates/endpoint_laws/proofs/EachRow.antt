@@ -18,18 +18,21 @@ use Rattle.session_flows.specs.Owing.{after_acks, owing_none}
 use Rattle.session_flows.specs.Timing.{after_late, overdue_done}
 use Rattle.session_flows.specs.Packing.{pace_of, filled}
 use Rattle.session_flows.specs.declared.pace.Pace.{Pace}
+use Rattle.rtmfp_fragments.specs.Pieces.{PieceParts}
 use Rattle.endpoint_model.specs.declared.row.Row.{Row}
 use Rattle.endpoint_model.specs.declared.entry.Entry.{Entry}
 use Rattle.endpoint_model.specs.State.{State, Sessions, Did, with_session, new_row, fresh}
 use Rattle.endpoint_model.specs.State.{at_moment}
 use Rattle.endpoint_model.specs.Sending.{packet_head}
 use Rattle.endpoint_model.specs.FlowCall.{FlowCall, flow_refusal, flow_did}
+use Rattle.endpoint_model.specs.Gathering.{gathered_more}
 use Rattle.endpoint_model.specs.Effects.{without_ended}
 use Rattle.endpoint_model.specs.Event.{Setup, Call, Answer, Event}
 use Rattle.endpoint_model.specs.Log.{Answers, Leads, StandsFor}
+use Rattle.endpoint_laws.proofs.PacketPieces.{any_sends, one_packet}
 use Rattle.endpoint_laws.proofs.Small.{GoesOn, Quiet, FlowThing, Called, Came, Acked, Unowed}
 use Rattle.endpoint_laws.proofs.Small.{Late, Overdue, Packed, on_flows, row_after, MayBe}
-use Rattle.endpoint_laws.proofs.Small.{IsNoChunk, Any, Timed, All, Begins, Enters, Succession}
+use Rattle.endpoint_laws.proofs.Small.{IsNoChunk, Any, Timed, Gathers, All, Begins, Enters, Succession}
 use Rattle.endpoint_laws.proofs.Made.{timed_law, all_law, CallsDo, WasMade, answers_made}
 use Rattle.glare_core.specs.Calls.{way_made}
 
@@ -43,6 +46,8 @@ module _ (P : ℕ → Row → Type 0) where
     pub changed : (near : ℕ) (row : Row) (session : SessionState) → P near row →
         P near (record row { session = session })
     pub goes_on : (near : ℕ) (old new : Row) → GoesOn old new → P near old → P near new
+    pub gathers : (near moment id : ℕ) (row : Row) (x : PieceParts) → P near row →
+        P near (gathered_more moment id x row)
     pub alone : (near moment : ℕ) (row : Row) (thing : FlowThing) → MayBe row thing →
         IsNoChunk thing → P near row → P near (row_after moment row thing)
 
@@ -91,15 +96,17 @@ module _ (P : ℕ → Row → Type 0) where
 
     pub each_quiet : Quiet Any Keeps
     each_quiet = record {
-      sends = record {
+      sends = any_sends (record {
         steps = record {
           does_nothing = λ s each. each;
           and_then = λ s d e first later each. later (first each);
         };
         out = λ s generation keys to sid plain each. each;
-        out_in = λ s near row to body is carries.
+        out_in = λ s near row to body is.
             keeps_session s near row (after_seal row.session) is;
-      };
+        packets = λ s near row is each. put s.sessions near _
+            (kept.goes_on near row _ (one_packet row) (each near row is)) each;
+      });
       attempts = λ s startup kin each. each;
       close = tt;
       close_ack = tt;
@@ -141,7 +148,7 @@ module _ (P : ℕ → Row → Type 0) where
     pub each_enters : Enters Keeps
     each_enters = record {
       counts = λ s near row session is. keeps_session s near row session is;
-      unseen = λ s introduces rows each. each;
+      unseen = λ s limit introduces rows each. each;
     }
 
     pub each_succession : Succession Keeps
@@ -150,8 +157,12 @@ module _ (P : ℕ → Row → Type 0) where
       advances = λ s next is each. each;
     }
 
+    pub each_gathers : Gathers Keeps
+    each_gathers s near id row x is each = put s.sessions near _
+        (kept.gathers near s.moment id row x (each near row is)) each
+
     pub each_law : ChunksKeep → All Any Keeps
-    each_law chunk = all_law each_quiet by
+    each_law chunk = all_law each_quiet by each_gathers
       where
         by : (s : State) (near : ℕ) (row : Row) (thing : FlowThing) →
             get s.sessions near ≡ Some row → MayBe row thing → Keeps s (on_flows s near row thing)
@@ -232,6 +243,7 @@ module _ (P : ℕ → FlowsState → Type 0) where
       begins = λ near session. kept.none near;
       changed = λ near row session h. h;
       goes_on = λ near old new goes h. subst (λ (f : FlowsState). P near f) (sym goes.flows) h;
+      gathers = λ near moment id row x h. h;
       alone = flows_kept;
     }
 

@@ -6,6 +6,7 @@ use Rattle.endpoint_model.specs.Event.{Call, Answer}
 use Rattle.endpoint_model.specs.Log.{Answers}
 use Rattle.endpoint_laws.specs.Past.{Past, stamped, onto, outs_of}
 use Rattle.endpoint_laws.specs.Complete.{outs_in}
+use Rattle.endpoint_laws.proofs.PacketPieces.{any_sends}
 use Rattle.endpoint_laws.proofs.Small.{Quiet, Any, All, Begins, Enters, Succession}
 use Rattle.endpoint_laws.proofs.Made.{all_law, answers_made}
 
@@ -20,11 +21,12 @@ Few s d = d.state.sealed ≤ s.sealed + outs_in d.entries
 
 pub few_quiet : Quiet Any Few
 few_quiet = record {
-  sends = record {
+  sends = any_sends (record {
     steps = record { does_nothing = λ s. omega arith; and_then = λ s d e p q. omega (arith, p, q, outs_append d.entries e.entries) };
     out = λ s generation keys to sid plain. omega arith;
-    out_in = λ s near row to body is carries. omega arith;
-  };
+    out_in = λ s near row to body is. omega arith;
+    packets = λ s near row is. omega arith;
+  });
   attempts = λ s startup kin. omega arith;
   close = tt;
   close_ack = tt;
@@ -40,7 +42,7 @@ few_quiet = record {
 }
 
 pub few_law : All Any Few
-few_law = all_law few_quiet (λ s near row thing is may. omega arith)
+few_law = all_law few_quiet (λ s near row thing is may. omega arith) (λ s near id row x is. omega arith)
 
 pub few_begins : Begins Few Few
 few_begins = record {
@@ -53,7 +55,7 @@ few_begins = record {
 }
 
 few_enters : Enters Few
-few_enters = record { counts = λ s near row session is. omega arith; unseen = λ s introduces rows. omega arith }
+few_enters = record { counts = λ s near row session is. omega arith; unseen = λ s limit introduces rows. omega arith }
 
 few_succession : Succession Few
 few_succession = record { learns = λ s secret none. omega arith; advances = λ s next is. omega arith }

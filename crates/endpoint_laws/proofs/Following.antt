@@ -12,6 +12,7 @@ use Rattle.endpoint_laws.proofs.Hearing.{BeginsNone, NoneBegin, Descends, descen
 use Rattle.endpoint_laws.proofs.FlowChunks.{like_after}
 use Rattle.endpoint_laws.proofs.FlowTimes.{late_like}
 use Rattle.endpoint_laws.proofs.Made.{all_law}
+use Rattle.endpoint_laws.proofs.PacketPieces.{any_sends}
 use Rattle.endpoint_laws.proofs.Small.{Quiet, FlowThing, Called, Came, Acked, Unowed, Late, Overdue, Packed, row_after, stated_of, Any, All}
 
 -- entries that are unseen
@@ -47,11 +48,12 @@ after_descends moment row Packed = descends_same row.session
 
 pub follows_quiet : Quiet Any Follows
 follows_quiet = record {
-  sends = record {
+  sends = any_sends (record {
     steps = record { does_nothing = follows_nothing; and_then = λ s d e first later. follows_then s d (λ t. e) first later };
     out = λ s generation keys to sid plain. follows_still s _ _ ((λ near. refl), tt) refl refl;
-    out_in = λ s near row to body is carries. follows_row s s near row (record row { session = after_seal row.session }) _ is (sealed_by (is_spent row.session) row.session) ((λ q. refl), tt) refl refl;
-  };
+    out_in = λ s near row to body is. follows_row s s near row (record row { session = after_seal row.session }) _ is (sealed_by (is_spent row.session) row.session) ((λ q. refl), tt) refl refl;
+    packets = λ s near row is. follows_row s s near row (record row { packets = row.packets + 1 }) [] is (descends_same row.session) tt refl refl;
+  });
   attempts = λ s startup kin. follows_still s _ [] tt refl refl;
   close = tt;
   close_ack = tt;
@@ -68,3 +70,4 @@ follows_quiet = record {
 
 pub follows_law : All Any Follows
 follows_law = all_law follows_quiet (λ s near row thing is may. follows_row s s near row (row_after s.moment row thing) _ is (after_descends s.moment row thing) (none_begin (map (flow_entry near) (stated_of row thing)) (flows_unseen near (stated_of row thing))) refl refl)
+    (λ s near id row x is. follows_row s s near row _ [] is (descends_same row.session) tt refl refl)

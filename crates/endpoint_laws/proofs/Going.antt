@@ -18,6 +18,7 @@ use Rattle.endpoint_model.specs.State.{State, Did, nothing, then_do}
 use Rattle.endpoint_model.specs.Effects.{discarded}
 use Rattle.endpoint_laws.proofs.Lines.{FactPart, FactMeets, EntriesMeet}
 use Rattle.endpoint_laws.proofs.Tied.{sealed_once, Tied}
+use Rattle.endpoint_laws.proofs.PacketPieces.{any_sends}
 use Rattle.endpoint_laws.proofs.Small.{Any, Sends}
 use Rattle.endpoint_laws.proofs.Moving.{IsAlike, alike_itself, tied_session, tied_more, tied_alike}
 
@@ -96,13 +97,13 @@ keeps_if secrets setup call s false d e f g = g refl
 pub goes_discarded : (secrets : Secrets) (setup : Setup) (call : Call) (s : State) (at : ℕ) (cause : Cause) → Keeps secrets setup call s (discarded s at cause)
 goes_discarded secrets setup call s at cause past t = record { meets = ((tt, tt), tt); tied = tied_more secrets setup past s (stamped s.moment (Discard at cause)) (omega arith) refl refl refl refl refl refl t; moment = refl }
 
-seal_alike : (b : Bool) (moment : ℕ) (session : SessionState) → IsAlike moment session (if b then session else sealed_once session)
+pub seal_alike : (b : Bool) (moment : ℕ) (session : SessionState) → IsAlike moment session (if b then session else sealed_once session)
 seal_alike true moment session = alike_itself moment session
 seal_alike false moment session = record { joined = refl; own = refl; generation = refl; inward = refl; outward = refl; role = refl; held = refl; thing = λ e. refl; stage = λ f. f; since = λ e. inl refl }
 
 -- what goes out
 pub goes_sends : (secrets : Secrets) (setup : Setup) (call : Call) → Sends Any (Keeps secrets setup call)
-goes_sends secrets setup call = record {
+goes_sends secrets setup call = any_sends (record {
   steps = record {
     does_nothing = goes_nothing secrets setup call;
     and_then = λ s d e first later past t. let one = first past t in goes_then secrets setup call past s d (λ u. e) one (later (onto s.moment d.entries past) one.tied);
@@ -112,9 +113,14 @@ goes_sends secrets setup call = record {
     tied = tied_alike secrets setup _ s s.moment (s.sealed + 1) (omega arith) (tied_more secrets setup past s _ (omega arith) refl refl refl refl refl refl t);
     moment = refl;
   };
-  out_in = λ s near row to body is carries past t. record {
+  out_in = λ s near row to body is past t. record {
     meets = ((tt, tt), tt);
     tied = tied_session secrets setup _ s near row (record row { session = after_seal row.session }) (tied_more secrets setup past s _ (omega arith) refl refl refl refl refl refl t) is (seal_alike (is_spent row.session) s.moment row.session);
     moment = refl;
   };
-}
+  packets = λ s near row is past t. record {
+    meets = tt;
+    tied = tied_session secrets setup past s near row (record row { packets = row.packets + 1 }) t is (alike_itself s.moment row.session);
+    moment = refl;
+  };
+})

@@ -151,6 +151,7 @@ module _ (secrets : Secrets) (setup : Setup) (from : AddressParts) (datagram : L
       config = s.config;
       moment = s.moment;
       sealed = s.sealed;
+      limit = s.limit;
       group = s.group;
       next = s.next;
       startup = record { cert = s.startup.cert; cookie_secret = s.startup.cookie_secret; ledger = noted l (Born j); attempts = s.startup.attempts; kept = kept_then };
@@ -203,6 +204,7 @@ module _ (secrets : Secrets) (setup : Setup) (from : AddressParts) (datagram : L
         config = s.config;
         moment = s.moment;
         sealed = s.sealed;
+        limit = s.limit;
         group = s.group;
         next = s.next;
         startup = record { cert = s.startup.cert; cookie_secret = s.startup.cookie_secret; ledger = noted (noted l ended) (Born j); attempts = without_id s.startup.attempts (attempt_id thing); kept = kept_then };

@@ -29,6 +29,7 @@ mod Says
 pub mod OutFacts
 mod OutNumbers
 mod OutPackets
+pub mod PacketPieces
 mod OutHeld
 pub mod Resealed
 mod Staged

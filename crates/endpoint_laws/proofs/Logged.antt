@@ -15,8 +15,8 @@ use Rattle.endpoint_model.specs.Succession.{next_group, learn_refusal, learning,
 use Rattle.rtmfp_forms.specs.Address.{AddressParts}
 use Rattle.endpoint_model.specs.declared.config.Draws.{Draws}
 use Rattle.endpoint_model.specs.declared.answers.Stopped.{Stopped as Stop}
-use Rattle.endpoint_model.specs.Event.{Setup, own_of, Call, receive_in, moment_at, Learn, Advance, Succeeds, Open, Seek, Unseek, Cancel, Close, AddRow, Introduce, OnFlows, Receive, Tick, Answer, Began, Searching, Done, NotOpened, NotSought, Refused, NotAdded, Stopped, OutOfMemory, Event}
-use Rattle.endpoint_model.specs.State.{State, Did, Does, nothing, fresh, at_moment}
+use Rattle.endpoint_model.specs.Event.{Setup, own_of, Call, receive_in, moment_at, Learn, Advance, Succeeds, Open, Seek, Unseek, Cancel, Close, AddRow, Introduce, Narrow, OnFlows, Receive, Tick, Answer, Began, Searching, Done, NotOpened, NotSought, Refused, NotAdded, Stopped, OutOfMemory, Event}
+use Rattle.endpoint_model.specs.State.{State, Did, Does, nothing, fresh, at_moment, narrowing}
 use Rattle.endpoint_model.specs.Admission.{admission}
 use Rattle.endpoint_model.specs.Introducing.{with_redirect, introducing}
 use Rattle.endpoint_model.specs.InSessions.{closing}
@@ -156,7 +156,7 @@ module _ (secrets : Secrets) (setup : Setup) (is : IsSetup setup) (past : Past) 
   answers_orderly (AddRow print addresses) Done entries fits last knows well h = record {
     did = nothing (with_redirect s print addresses);
     orderly = orderly_from secrets setup (AddRow print addresses) past s (with_redirect s print addresses) (nothing (with_redirect s print addresses)) refl
-        (orderly_nothing secrets setup (AddRow print addresses) past (with_redirect s print addresses) (tied_unseen secrets setup past s s.introduces (insert s.redirects print addresses) tied)
+        (orderly_nothing secrets setup (AddRow print addresses) past (with_redirect s print addresses) (tied_unseen secrets setup past s s.limit s.introduces (insert s.redirects print addresses) tied)
         (record { numbered = sent.numbered; sized = sent.sized; short = sent.short; rows = few_inserted s.redirects print addresses (few_addresses s.redirects print (length addresses) (sym h.0)) sent.rows; staged = staged_alike secrets setup past s (with_redirect s print addresses) sent.staged refl }) well);
     does = h.1;
   }
@@ -164,7 +164,13 @@ module _ (secrets : Secrets) (setup : Setup) (is : IsSetup setup) (past : Past) 
   answers_orderly Introduce Done entries fits last knows well h = record {
     did = nothing (introducing s);
     orderly = orderly_from secrets setup Introduce past s (introducing s) (nothing (introducing s)) refl
-        (orderly_nothing secrets setup Introduce past (introducing s) (tied_unseen secrets setup past s true s.redirects tied) (record { numbered = sent.numbered; sized = sent.sized; short = sent.short; rows = sent.rows; staged = staged_alike secrets setup past s (introducing s) sent.staged refl }) well);
+        (orderly_nothing secrets setup Introduce past (introducing s) (tied_unseen secrets setup past s s.limit true s.redirects tied) (record { numbered = sent.numbered; sized = sent.sized; short = sent.short; rows = sent.rows; staged = staged_alike secrets setup past s (introducing s) sent.staged refl }) well);
+    does = h;
+  }
+  answers_orderly (Narrow limit) Done entries fits last knows well h = record {
+    did = nothing (narrowing s limit);
+    orderly = orderly_from secrets setup (Narrow limit) past s (narrowing s limit) (nothing (narrowing s limit)) refl
+        (orderly_nothing secrets setup (Narrow limit) past (narrowing s limit) (tied_unseen secrets setup past s limit s.introduces s.redirects tied) (record { numbered = sent.numbered; sized = sent.sized; short = sent.short; rows = sent.rows; staged = staged_alike secrets setup past s (narrowing s limit) sent.staged refl }) well);
     does = h;
   }
   answers_orderly (Learn secret) (Succeeds generation) entries fits last knows well h =

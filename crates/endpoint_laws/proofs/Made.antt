@@ -1,6 +1,6 @@
 -- All that an end does is made of small things: the structure of what goes out, of chunks, of datagrams, of timers and of calls is gone through here, once, for every law.
 use Rattle.endpoint_model.specs.declared.row_due.RowDue.TheVariants.{Abandon, Data, Keepalive, Session as SessionOf}
-use Rattle.endpoint_model.specs.Event.{AddRow, Advance, Answer as CallAnswer, Began, Call, Cancel, Close, Done, Introduce, Learn, NotAdded, NotOpened, NotSought, OnFlows, Open, OutOfMemory, Receive, Refused, Searching, Seek, Stopped, Succeeds, Tick, Unseek}
+use Rattle.endpoint_model.specs.Event.{AddRow, Advance, Answer as CallAnswer, Began, Call, Cancel, Close, Done, Introduce, Learn, Narrow, NotAdded, NotOpened, NotSought, OnFlows, Open, OutOfMemory, Receive, Refused, Searching, Seek, Stopped, Succeeds, Tick, Unseek}
 use Rattle.rtmfp_forms.specs.Address.{AddressParts}
 use Rattle.crypto_profile.specs.declared.group.GroupSecret.{GroupSecret}
 use Rattle.crypto_profile.specs.Keys.{Keys, startup_keys_of}
@@ -15,7 +15,7 @@ use Rattle.startup.specs.declared.aim.Aim.TheVariants.{AtPeer, ByName}
 use Rattle.startup.specs.Aims.{end_of_aim}
 use Rattle.startup.specs.State.{AttemptState, SpreadParts, StartupState}
 use Rattle.cookies.specs.declared.CookieTest.TheVariants.{Bad, Moved as CookieMoved, Expired as Stale, Current}
-use Rattle.std.proofs.Common.{drop, ◌≡◌, ℕ, ◌∷◌, ◌==◌, ◌+◌, if◌then◌else◌, ◌||◌, ◌∙◌, [], Bool, Err, List, None, Ok, Option, Result, Some, ap, false, refl, sym, take, true}
+use Rattle.std.proofs.Common.{arith, drop, length, ◌≡◌, ℕ, ◌∷◌, ◌==◌, ◌+◌, if◌then◌else◌, ◌||◌, ◌∙◌, [], Bool, Err, List, None, Ok, Option, Result, Some, ap, false, refl, sym, take, true}
 use Rattle.glare_core.specs.declared.facts.Why.TheVariants.{Cancelled, Expired, Far, Idle as WasIdle, Near, Unconfirmed as NotConfirmed}
 use Rattle.rtmfp_base.specs.declared.cause.Cause.{Cause}
 use Rattle.rtmfp_chunks.specs.Chunk.{Chunk, Close as CloseChunk, CloseAck, CookieChange, FIHello, Fragment, IHello, IIKeying, Ping, PingReply, RHello, RIKeying, Redirect}
@@ -69,8 +69,6 @@ use Rattle.rtmfp_chunks.specs.Writing.{chunk_bytes}
 use Rattle.endpoint_model.specs.Causes.{initiator_keying_cause, takes}
 use Rattle.rtmfp_chunks.specs.FieldReading.{chunk_reading}
 use Rattle.rtmfp_fragments.specs.Pieces.{PieceParts, piece}
-use Rattle.rtmfp_fragments.specs.Answers.{taken}
-use Rattle.rtmfp_fragments.proofs.Limits.{limits_taken}
 use Rattle.endpoint_model.specs.Gathering.{fault_entries, whole_by, whole_cause, whole_faults, gathered_more, piece_taken_by, piece_taken}
 use Rattle.endpoint_model.specs.InSessions.{close_taken_by, closing, closing_by, dropped, ended_as, held_row, if_held, kept_alive_by, lingering, moved_by, moved_where, sent_home, sent_home_by, session_due_done, tested as tested_at, tested_by, told_in_session}
 use Rattle.rtmfp_base.specs.Reasons.{where_true, first_that_stands}
@@ -83,10 +81,10 @@ use Rattle.endpoint_laws.proofs.Hearing.{descends_same}
 use Rattle.std.specs.FinMap.{get, insert}
 use Rattle.glare_core.specs.Ledger.{held_with, noted}
 use Rattle.endpoint_model.specs.Succession.{advancing, advancing_to, no_next}
-use Rattle.endpoint_model.specs.Sending.{is_spent, last_count, sent_answer, sent_by, sent_each, sent_if, sent_in_session, sent_spread, sent_startup}
+use Rattle.endpoint_model.specs.Sending.{is_spent, last_count, has_counts, is_long, sent_answer, sent_by, sent_in_pieces, sent_whole, sent_each, sent_if, sent_in_session, sent_spread, sent_startup}
 use Rattle.sha2.specs.Sha256.{sha256}
 use Rattle.rtmfp_data_chunks.proofs.Fitting.{what_is_read_fits}
-use Rattle.endpoint_laws.proofs.Small.{FlowThing, GoesOn, Called, Came, Acked, Unowed, Late, Overdue, Packed, on_flows, birth, stated, began, MayBe, IsNoChunk, Any, Sends, Quiet, Timed, All, Begins, Enters, Succession}
+use Rattle.endpoint_laws.proofs.Small.{FlowThing, GoesOn, its_pieces, in_pieces, Called, Came, Acked, Unowed, Late, Overdue, Packed, on_flows, birth, stated, began, MayBe, IsNoChunk, Any, Gathers, Sends, Quiet, Timed, All, Begins, Enters, Succession}
 use Rattle.startup.specs.Due.{repeated}
 use Rattle.startup.specs.Attempts.{with_attempt, without_attempt_by}
 use Rattle.endpoint_laws.proofs.Walks.{Steps, tick_walked, acked_walked, unowed_walked, tick_all_walked}
@@ -165,7 +163,15 @@ module _ {Body : List ℕ → Type 0} {P : State → Did → Type 0} (l : Sends 
 
   pub by_made : (s : State) (near : ℕ) (to : AddressParts) (body : List ℕ) (o : Option Row) → get s.sessions near ≡ o → Body body → P s (sent_by s near to body o)
   by_made s near to body None is carries = l.steps.does_nothing s
-  by_made s near to body (Some row) is carries = either_made s (row.session.sealed == last_count) (nothing s) _ (l.steps.does_nothing s) (l.out_in s near row to body is carries)
+  by_made s near to body (Some row) is carries = by (is_long s row body) refl
+    where
+      counted : (b : Bool) → has_counts row (length (its_pieces s row body)) ≡ b → is_long s row body ≡ true → P s (if b then in_pieces s near row to body else nothing s)
+      counted true has long = l.parts s near row to body is carries long has
+      counted false has long = l.steps.does_nothing s
+
+      by : (b : Bool) → is_long s row body ≡ b → P s (if b then sent_in_pieces s near to row (its_pieces s row body) else sent_whole s near to body (Some row))
+      by true long = counted (has_counts row (length (its_pieces s row body))) refl long
+      by false long = either_made s (row.session.sealed == last_count) (nothing s) _ (l.steps.does_nothing s) (l.out_in s near row to body is carries)
 
   pub in_session_made : (s : State) (near : ℕ) (to : AddressParts) (body : List ℕ) → Body body → P s (sent_in_session s near to body)
   in_session_made s near to body carries = by_made s near to body (get s.sessions near) refl carries
@@ -205,7 +211,7 @@ module _ {Body : List ℕ → Type 0} {P : State → Did → Type 0} (l : Sends 
 -- ---- sessions that go on
 
 same_goes : (row : Row) → GoesOn row row
-same_goes row = record { descends = descends_same row.session; flows = refl; pieces = λ h. h }
+same_goes row = record { descends = descends_same row.session; flows = refl; pieces = refl; packets = omega arith }
 
 not_opening : (stage : Stage) → is_opening (confirmed_stage stage) ≡ true → ⊥
 not_opening Opening e = cc
@@ -215,18 +221,18 @@ not_opening FarLinger e = cc
 not_opening Closed e = cc
 
 confirmed_goes : (row : Row) → GoesOn row (record row { session = confirmed row.session })
-confirmed_goes row = record { descends = record { same = refl; opening = λ e. absurd (not_opening row.session.stage e) }; flows = refl; pieces = λ h. h }
+confirmed_goes row = record { descends = record { same = refl; opening = λ e. absurd (not_opening row.session.stage e) }; flows = refl; pieces = refl; packets = omega arith }
 
 closed_goes : (b : Bool) (moment : ℕ) (row : Row) → GoesOn row (record row { session = if b then record row.session { stage = NearClose; since = moment; close_sent = Some moment } else row.session })
-closed_goes true moment row = record { descends = record { same = refl; opening = λ e. absurd (cc) }; flows = refl; pieces = λ h. h }
+closed_goes true moment row = record { descends = record { same = refl; opening = λ e. absurd (cc) }; flows = refl; pieces = refl; packets = omega arith }
 closed_goes false moment row = same_goes row
 
 lingering_goes : (b : Bool) (moment : ℕ) (row : Row) → GoesOn row (record row { session = if b then record row.session { stage = FarLinger; since = moment } else row.session })
-lingering_goes true moment row = record { descends = record { same = refl; opening = λ e. absurd (cc) }; flows = refl; pieces = λ h. h }
+lingering_goes true moment row = record { descends = record { same = refl; opening = λ e. absurd (cc) }; flows = refl; pieces = refl; packets = omega arith }
 lingering_goes false moment row = same_goes row
 
 alive_goes : (b : Bool) (moment : ℕ) (row : Row) → GoesOn row (record row { session = if b then record row.session { keepalive = Some moment } else row.session })
-alive_goes true moment row = record { descends = record { same = refl; opening = λ e. (e, refl) }; flows = refl; pieces = λ h. h }
+alive_goes true moment row = record { descends = record { same = refl; opening = λ e. (e, refl) }; flows = refl; pieces = refl; packets = omega arith }
 alive_goes false moment row = same_goes row
 
 pub held_is_there : (o : Option Row) (row : Row) → if_held o ≡ Some row → o ≡ Some row
@@ -318,7 +324,7 @@ module _ {Body : List ℕ → Type 0} {P : State → Did → Type 0} (q : Quiet 
       by moves (Some to) =
           let new : Row = record row { session = moved_to to row.session; moves = moves } in
           let t : State = with_row s near new in
-          q.sends.steps.and_then s (nothing t) _ (q.goes_on s near row new is (record { descends = record { same = refl; opening = λ e. (e, refl) }; flows = refl; pieces = λ h. h })) (q.moves t near to)
+          q.sends.steps.and_then s (nothing t) _ (q.goes_on s near row new is (record { descends = record { same = refl; opening = λ e. (e, refl) }; flows = refl; pieces = refl; packets = omega arith })) (q.moves t near to)
 
   pub told_made : (s : State) (near : ℕ) (from : AddressParts) (c : Placed) → P s (told_in_session s near from c)
   told_made s near from c =
@@ -334,16 +340,16 @@ module _ {Body : List ℕ → Type 0} {P : State → Did → Type 0} (q : Quiet 
   faults_made s t near at None = q.sends.steps.does_nothing t
   faults_made s t near at (Some packet) = fault_made t at (whole_cause s near (packet_in packet))
 
-  piece_by_made : (s : State) (near at id : ℕ) (x : PieceParts) (o : Option Row) → get s.sessions near ≡ o → P s (piece_taken_by s near at id x o)
-  piece_by_made s near at id x None is = q.sends.steps.does_nothing s
-  piece_by_made s near at id x (Some row) is =
-      let new : Row = gathered_more s.moment id x row in
-      let t : State = with_row s near new in
-      q.sends.steps.and_then s (nothing t) _ (q.goes_on s near row new is (record { descends = descends_same row.session; flows = refl; pieces = limits_taken (taken row.gathering id x s.moment).1 row.gathering new.gathering id s.moment x refl })) (faults_made s t near at (whole_by s.moment (Some row) id x))
+  module _ (gathers : Gathers P) where
+    piece_by_made : (s : State) (near at id : ℕ) (x : PieceParts) (o : Option Row) → get s.sessions near ≡ o → P s (piece_taken_by s near at id x o)
+    piece_by_made s near at id x None is = q.sends.steps.does_nothing s
+    piece_by_made s near at id x (Some row) is =
+        let t : State = with_row s near (gathered_more s.moment id x row) in
+        q.sends.steps.and_then s (nothing t) _ (gathers s near id row x is) (faults_made s t near at (whole_by s.moment (Some row) id x))
 
-  pub piece_made : (s : State) (near at : ℕ) (read : Result Chunk ChunkFault) → P s (piece_taken s near at read)
-  piece_made s near at (Ok (Fragment more id number bytes)) = piece_by_made s near at id (piece number more bytes) (get s.sessions near) refl
-  piece_made s near at read = q.sends.steps.does_nothing s
+    pub piece_made : (s : State) (near at : ℕ) (read : Result Chunk ChunkFault) → P s (piece_taken s near at read)
+    piece_made s near at (Ok (Fragment more id number bytes)) = piece_by_made s near at id (piece number more bytes) (get s.sessions near) refl
+    piece_made s near at read = q.sends.steps.does_nothing s
 
   -- ---- tests of addresses, and confirming
 
@@ -353,7 +359,7 @@ module _ {Body : List ℕ → Type 0} {P : State → Did → Type 0} (q : Quiet 
       let new : Row = record row { moves = after_seen row.moves row.session.address from token s.moment } in
       let t : State = with_row s near new in
       either_made q.sends s (asks row.moves row.session.address from s.moment) _ _
-      (q.sends.steps.and_then s (nothing t) _ (q.goes_on s near row new (held_is_there (get s.sessions near) row is) (record { descends = descends_same row.session; flows = refl; pieces = λ h. h })) (in_session_made q.sends t near from (chunk_bytes (Ping token)) carries))
+      (q.sends.steps.and_then s (nothing t) _ (q.goes_on s near row new (held_is_there (get s.sessions near) row is) (record { descends = descends_same row.session; flows = refl; pieces = refl; packets = omega arith })) (in_session_made q.sends t near from (chunk_bytes (Ping token)) carries))
       (q.sends.steps.does_nothing s)
 
   pub tested_made : (s : State) (place : Place) (from : AddressParts) (draws : Draws) → Body (chunk_bytes (Ping draws.token)) → P s (tested_at s place from draws)
@@ -393,7 +399,7 @@ module _ {Body : List ℕ → Type 0} {P : State → Did → Type 0} (q : Quiet 
   session_due_made s near row Over is = q.closes s near
   session_due_made s near row RepeatClose is =
       let new : Row = record row { session = after_due_in (Some RepeatClose) s.moment row.session } in
-      and_home_made q.sends s near (chunk_bytes CloseChunk) (nothing (with_row s near new)) (q.goes_on s near row new is (record { descends = record { same = refl; opening = λ e. (e, refl) }; flows = refl; pieces = λ h. h })) q.close
+      and_home_made q.sends s near (chunk_bytes CloseChunk) (nothing (with_row s near new)) (q.goes_on s near row new is (record { descends = record { same = refl; opening = λ e. (e, refl) }; flows = refl; pieces = refl; packets = omega arith })) q.close
 
 -- ---- responders' hellos come in the startup context alone
 
@@ -457,9 +463,10 @@ timed_law q flows = record {
   packs = λ s near row is. and_home_made q.sends s near (data_body row s.moment) (on_flows s near row Packed) (flows s near row Packed is tt tt) tt;
 }
 
-pub all_law : {P : State → Did → Type 0} → Quiet Any P → ((s : State) (near : ℕ) (row : Row) (thing : FlowThing) → get s.sessions near ≡ Some row → MayBe row thing → P s (on_flows s near row thing)) → All Any P
-all_law q flows = record {
+pub all_law : {P : State → Did → Type 0} → Quiet Any P → ((s : State) (near : ℕ) (row : Row) (thing : FlowThing) → get s.sessions near ≡ Some row → MayBe row thing → P s (on_flows s near row thing)) → Gathers P → All Any P
+all_law q flows gathers = record {
   timed = timed_law q (λ s near row thing is may alone. flows s near row thing is may);
+  gathers = gathers;
   bodies = λ body. tt;
   calls = λ s near row call is none. flows s near row (Called call) is none;
   takes = λ s near row chunk is fits none. flows s near row (Came chunk) is (fits, none);
@@ -502,7 +509,7 @@ module _ {Body : List ℕ → Type 0} {P : State → Did → Type 0} (a : All Bo
     responder = λ kind taken none formed. responder (is_taken place walk 0x78 taken);
     told = λ told taken has. up _ (told_made a.timed.quiet s (sid_at place) from c);
     flows = λ is taken none. up _ (flow_taken_made s (sid_at place) (data_reading walk.cursor c.kind c.payload) (λ chunk read. (what_is_read_fits walk.cursor c.kind c.payload chunk small read).0) none);
-    piece = λ kind taken. up _ (piece_made a.timed.quiet s (sid_at place) c.at (chunk_reading c.kind c.payload));
+    piece = λ kind taken. up _ (piece_made a.timed.quiet a.gathers s (sid_at place) c.at (chunk_reading c.kind c.payload));
     reads = λ taken formed none.
         by_hello (λ read. chunk_reading c.kind c.payload ≡ read → R (read_done s place from read)) (λ tag cookie cert is. hello tag cookie cert is (is_taken place walk c.kind taken))
         (λ read other is. up _ (quiet_read_made a.timed.quiet s place from read other (carries_any Body a.bodies (read_reply s place from read)))) (chunk_reading c.kind c.payload) refl;
@@ -698,9 +705,10 @@ module _ {Body : List ℕ → Type 0} {Q P : State → Did → Type 0} (k : Time
   answers_beside s t (Cancel n) (Refused refusal) entries other h = answer_is s t entries _ (b.steps.does_nothing s) h.2
   answers_beside s t (Close near) Done entries other h = answer_is s t entries _ (b.quiet s _ (closing_made k.quiet s near)) h.1
   answers_beside s t (Close near) (Refused refusal) entries other h = answer_is s t entries _ (b.steps.does_nothing s) h.2
-  answers_beside s t (AddRow print addresses) Done entries other h = answer_is s t entries _ (e.unseen s s.introduces (insert s.redirects print addresses)) h.1
+  answers_beside s t (AddRow print addresses) Done entries other h = answer_is s t entries _ (e.unseen s s.limit s.introduces (insert s.redirects print addresses)) h.1
   answers_beside s t (AddRow print addresses) (NotAdded refusal) entries other h = answer_is s t entries _ (b.steps.does_nothing s) h.1
-  answers_beside s t Introduce Done entries other h = answer_is s t entries _ (e.unseen s true s.redirects) h
+  answers_beside s t Introduce Done entries other h = answer_is s t entries _ (e.unseen s s.limit true s.redirects) h
+  answers_beside s t (Narrow limit) Done entries other h = answer_is s t entries _ (e.unseen s limit s.introduces s.redirects) h
   answers_beside s t (Learn secret) (Succeeds generation) entries other h = absurd other
   answers_beside s t (Learn secret) (Refused refusal) entries other h = answer_is s t entries _ (b.steps.does_nothing s) h.1
   answers_beside s t Advance (Succeeds generation) entries other h = absurd other

@@ -409,12 +409,12 @@ tied_alike secrets setup past s moment sealed up t = record {
   few = t.few;
 }
 
--- whom an end introduces touches nothing of it
-pub tied_unseen : (secrets : Secrets) (setup : Setup) (past : Past) (s : State) (introduces : Bool) (redirects : AddressRows) → Tied secrets setup past s → Tied secrets setup past (record s { introduces = introduces; redirects = redirects })
-tied_unseen secrets setup past s introduces redirects t = record {
+-- whom an end introduces, and which packets go out whole, touches nothing of it
+pub tied_unseen : (secrets : Secrets) (setup : Setup) (past : Past) (s : State) (limit : ℕ) (introduces : Bool) (redirects : AddressRows) → Tied secrets setup past s → Tied secrets setup past (record s { limit = limit; introduces = introduces; redirects = redirects })
+tied_unseen secrets setup past s limit introduces redirects t = record {
   config = t.config;
   cert = t.cert;
-  holds = holds_still secrets s (record s { introduces = introduces; redirects = redirects }) t.holds refl refl refl;
+  holds = holds_still secrets s (record s { limit = limit; introduces = introduces; redirects = redirects }) t.holds refl refl refl;
   current = t.current;
   next = t.next;
   cookie_secret = t.cookie_secret;

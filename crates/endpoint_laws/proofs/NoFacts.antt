@@ -3,6 +3,7 @@ use Rattle.std.proofs.Common.{List, [], ◌∷◌, ◌++◌, Option, Some, None}
 use Rattle.glare_core.specs.declared.facts.Fact.{Fact}
 use Rattle.endpoint_model.specs.declared.entry.Entry.{Entry}
 use Rattle.endpoint_model.specs.Views.{fact_in}
+use Rattle.endpoint_laws.proofs.PacketPieces.{any_sends}
 use Rattle.endpoint_laws.proofs.Small.{Any, Sends}
 
 -- there is no fact, and this
@@ -29,8 +30,9 @@ none_in_both (x ∷ xs) ys p q = and_then (fact_in x) (NoFacts xs) (NoFacts (xs 
 -- ---- what is sent states nothing
 
 pub none_sends : Sends Any (λ s d. NoFacts d.entries)
-none_sends = record {
+none_sends = any_sends (record {
   steps = record { does_nothing = λ s. tt; and_then = λ s d e first later. none_in_both d.entries e.entries first later };
   out = λ s generation keys to sid plain. tt;
-  out_in = λ s near row to body is carries. tt;
-}
+  out_in = λ s near row to body is. tt;
+  packets = λ s near row is. tt;
+})

@@ -1,26 +1,23 @@
 -- In every log no ack is owed: a datagram owes some in its own session alone, and 256 packets are
 -- enough for them.
 use Prim.Native.Nat.{zero, suc}
-use Rattle.std.proofs.Common.{◌≡◌, ℕ, ◌≤◌, ◌==◌, Bool, true, false, cond, List, [], ◌∷◌, length}
+use Rattle.std.proofs.Common.{◌≡◌, ℕ, ◌≤◌, Bool, true, false, cond, List, [], ◌∷◌}
 use Rattle.std.proofs.Common.{take, Option, Some, None, Result, Ok, Err, inl, inr, refl, sym, ap}
-use Rattle.std.proofs.Common.{subst, ◌∙◌, length-append, arith}
-use Rattle.std.specs.FinMap.{get}
+use Rattle.std.proofs.Common.{◌+◌, subst, ◌∙◌, arith}
+use Rattle.std.specs.FinMap.{get, insert}
 use Rattle.std.specs.List.{AllByRecursion, list_any}
 use Rattle.std.proofs.lemmas.Bool.Decides.{nat_tests}
-use Rattle.rtmfp_base.proofs.Maps.{same_or_not, get_inserted}
+use Rattle.rtmfp_base.proofs.Maps.{same_or_not, get_inserted, get_beside}
 use Rattle.rtmfp_forms.specs.Address.{AddressParts}
 use Rattle.rtmfp_packet.specs.Walk.{Placed}
-use Rattle.rtmfp_packet.specs.Head.{head_bytes, stamp_bytes}
-use Rattle.rtmfp_packet.specs.declared.head.PacketHead.{PacketHead}
 use Rattle.rtmfp_chunks.specs.FieldReading.{chunk_reading}
 use Rattle.rtmfp_data_chunks.specs.Chunk.{DataChunk}
 use Rattle.rtmfp_data_chunks.specs.Fitting.{AreSmall, FitsIn}
 use Rattle.rtmfp_data_chunks.specs.Reader.{data_reading}
 use Rattle.rtmfp_data_chunks.specs.declared.view.DataFault.{DataFault}
 use Rattle.rtmfp_data_chunks.proofs.Fitting.{what_is_read_fits}
-use Rattle.session_core.specs.Session.{context_of, head_at}
+use Rattle.session_core.specs.Session.{head_at}
 use Rattle.session_core.specs.Sealed.{after_seal}
-use Rattle.endpoint_model.specs.declared.entry.Entry.TheVariants.{Out}
 use Rattle.session_flows.specs.declared.taking.TakingFlow.{TakingFlow}
 use Rattle.session_flows.specs.Keeping.{FlowsState, sending_at}
 use Rattle.session_flows.specs.Laws.{IsSound}
@@ -40,11 +37,10 @@ use Rattle.endpoint_model.specs.Effects.{read_reply, received, walk_of}
 use Rattle.endpoint_model.specs.FlowChunks.{acked, acked_by, acked_if, acked_in, acks_body}
 use Rattle.endpoint_model.specs.FlowChunks.{flow_cause, flow_taken, flow_taken_by, is_of_flows}
 use Rattle.endpoint_model.specs.FlowChunks.{owes_by, taking_cause, unowed, unowed_by}
-use Rattle.endpoint_model.specs.InSessions.{sent_home_by}
 use Rattle.endpoint_model.specs.Log.{stopped}
 use Rattle.endpoint_model.specs.OnFlows.{with_flows}
-use Rattle.endpoint_model.specs.Sending.{last_count, packet_head, session_datagram}
-use Rattle.endpoint_model.specs.State.{State, Did, nothing, with_session}
+use Rattle.endpoint_model.specs.Sending.{packet_head}
+use Rattle.endpoint_model.specs.State.{State, Did, nothing, with_row}
 use Rattle.endpoint_laws.specs.Within.{NoAckIsOwed}
 use Rattle.endpoint_laws.proofs.AcksFew.{AreShort, IsShort, fewer, at_most, none_put, none_paid}
 use Rattle.endpoint_laws.proofs.AcksFew.{chunk_short, acks_short, paid_short, call_same}
@@ -52,13 +48,14 @@ use Rattle.endpoint_laws.proofs.AcksFew.{abandon_same, late_same}
 use Rattle.endpoint_laws.proofs.ByKind.{is_taken, chunk_by_kind}
 use Rattle.endpoint_laws.proofs.EachRow.{IsKeptAlone, AreKeptAlone, OfFlows, in_rows}
 use Rattle.endpoint_laws.proofs.EachRow.{Each, Keeps, put, each_quiet, each_timed}
-use Rattle.endpoint_laws.proofs.EachRow.{each_calls, each_begins, each_enters, each_succession, after_every_log}
+use Rattle.endpoint_laws.proofs.EachRow.{each_gathers, each_calls, each_begins, each_enters, each_succession, after_every_log}
 use Rattle.endpoint_laws.proofs.FlowsWithin.{sound_is_kept}
 use Rattle.endpoint_laws.proofs.Made.{Given, admission_made, answers_by, acked_made, carries_any}
-use Rattle.endpoint_laws.proofs.Made.{confirming_made, initiator_at, left_by}
+use Rattle.endpoint_laws.proofs.Made.{confirming_made, home_made, initiator_at, left_by}
 use Rattle.endpoint_laws.proofs.Made.{piece_made, read_made, responder_made, tested_made, told_made}
 use Rattle.endpoint_laws.proofs.Made.{unowed_made}
-use Rattle.endpoint_laws.proofs.Small.{Any}
+use Rattle.endpoint_laws.proofs.PacketPieces.{any_sends, head_few}
+use Rattle.endpoint_laws.proofs.Small.{Any, Sends}
 use Rattle.endpoint_laws.proofs.Stepping.{AreAllSmall, small_steps, walk_is, part_is}
 
 -- ---- what is so of the flows of a session
@@ -184,7 +181,9 @@ module _ (place : Place) (from : AddressParts) (draws : Draws) where
             (own_of place c.kind is (is_taken place walk c.kind taken))
             (data_reading walk.cursor c.kind c.payload) (λ chunk read.
             (what_is_read_fits walk.cursor c.kind c.payload chunk small read).0) none;
-        piece = λ kind taken. piece_made q s (sid_at place) c.at (chunk_reading c.kind c.payload);
+        piece = λ kind taken. piece_made q
+            (each_gathers (IsPaidBut place) (kept place)) s (sid_at place) c.at
+            (chunk_reading c.kind c.payload);
         reads = λ taken formed none. read_made q b s place from (chunk_reading c.kind c.payload)
             (carries_any Any (λ body. tt) (read_reply s place from
             (chunk_reading c.kind c.payload)));
@@ -199,45 +198,41 @@ module _ (place : Place) (from : AddressParts) (draws : Draws) where
 
 -- ---- the acks of a session
 
-stamp_few : (stamp : Option ℕ) → length (stamp_bytes stamp) ≤ 2
-stamp_few None = omega arith
-stamp_few (Some stamp) = omega arith
-
-head_few : (head : PacketHead) → length (head_bytes head) ≤ 5
-head_few head =
-    omega (
-      arith,
-      stamp_few head.stamp,
-      stamp_few head.echo,
-      length-append (stamp_bytes head.stamp) (stamp_bytes head.echo),
-    )
-
 -- The session has these flows.
 abbrev Has : State → ℕ → FlowsState → Type 0
 Has s near f = (row : Row) × (get s.sessions near ≡ Some row) × (row.flows ≡ f)
 
-home_has : (s : State) (near : ℕ) (body : List ℕ) (row : Row) (o : Option Row) → o ≡ Some row →
-    get s.sessions near ≡ o → Has (sent_home_by s near body o).state near row.flows
-home_has s near body row None there is = absurd cc
-home_has s near body row (Some found) there is = by (found.session.sealed == last_count)
+-- what is sent leaves them
+abbrev KeepsHas : ℕ → FlowsState → State → Did → Type 0
+KeepsHas near f s d = Has s near f → Has d.state near f
+
+replaced_has : (s : State) (near : ℕ) (f : FlowsState) (at : ℕ) (old new : Row) →
+    get s.sessions at ≡ Some old → new.flows ≡ old.flows → Has s near f →
+    Has (with_row s at new) near f
+replaced_has s near f at old new there same has = elim (same_or_not near at) [
+  | inl own ↦ (
+    new,
+    ap (get (insert s.sessions at new)) own.0 ∙ get_inserted s.sessions at new,
+    same ∙ same_flows (sym there ∙ ap (get s.sessions) (sym own.0) ∙ has.1) ∙ has.2,
+  )
+  | inr not ↦ (has.0, get_beside s.sessions at new near not.0 ∙ has.1, has.2)
+]
   where
-    same : {a b : Row} → ◌≡◌ {A = Option Row} (Some a) (Some b) → a.flows ≡ b.flows
-    same e = cc
+    same_flows : {a b : Row} → ◌≡◌ {A = Option Row} (Some a) (Some b) → a.flows ≡ b.flows
+    same_flows e = cc
 
-    sealed : Did
-    sealed = record {
-      state = with_session s near found (after_seal found.session);
-      entries = Out found.session.address (session_datagram found.session s.moment body)
-          (context_of found.session true) ∷ [];
-    }
-
-    by : (b : Bool) → Has (cond b (nothing s) sealed).state near row.flows
-    by true = (found, is, same there)
-    by false = (
-      record found { session = after_seal found.session },
-      get_inserted s.sessions near _,
-      same there,
-    )
+has_sends : (near : ℕ) (f : FlowsState) → Sends Any (KeepsHas near f)
+has_sends near f = any_sends (record {
+  steps = record {
+    does_nothing = λ s has. has;
+    and_then = λ s d e first later has. later (first has);
+  };
+  out = λ s generation keys to sid plain has. has;
+  out_in = λ s at row to body is. replaced_has s near f at row
+      (record row { session = after_seal row.session }) is refl;
+  packets = λ s at row is. replaced_has s near f at row
+      (record row { packets = row.packets + 1 }) is refl;
+})
 
 -- one packet of them
 paid_once : (s : State) (near : ℕ) (row : Row) (o : Option Row) → o ≡ Some row →
@@ -248,8 +243,8 @@ paid_once s near row (Some found) there =
     (after_acks found.flows (packet_head found.session s.moment)) in
     subst (λ (r : Row). Has (acked_by s near (Some found)).state near
     (after_acks r.flows (packet_head r.session s.moment))) (same there)
-    (home_has t near (acks_body found s.moment) _ (get t.sessions near)
-    (get_inserted s.sessions near _) refl)
+    (home_made (has_sends near _) t near (acks_body found s.moment) tt
+    (_, get_inserted s.sessions near _, refl))
   where
     same : {a b : Row} → ◌≡◌ {A = Option Row} (Some a) (Some b) → a ≡ b
     same e = cc

@@ -16,7 +16,7 @@ use Rattle.rtmfp_data_chunks.specs.Reader.{data_reading}
 use Rattle.endpoint_model.specs.declared.walk.Walk.{Walk}
 use Rattle.endpoint_model.specs.declared.config.Draws.{Draws}
 use Rattle.endpoint_model.specs.declared.place.Place.{Place}
-use Rattle.endpoint_model.specs.Event.{Setup, Call, Open, Seek, Unseek, Cancel, Close, AddRow, Introduce, Learn, Advance, OnFlows, Receive, Tick, ReceiveCall, open_in, receive_in}
+use Rattle.endpoint_model.specs.Event.{Setup, Call, Open, Seek, Unseek, Cancel, Close, AddRow, Introduce, Narrow, Learn, Advance, OnFlows, Receive, Tick, ReceiveCall, open_in, receive_in}
 use Rattle.rtmfp_packet.specs.Whole.{Whole}
 use Rattle.endpoint_model.specs.Keying.{IsAmong, chunks_of}
 use Rattle.endpoint_model.specs.declared.place.Place.TheVariants.{Startup, Attempt, Session}
@@ -57,6 +57,7 @@ call_opens (Cancel n) r is = refl
 call_opens (Close near) r is = refl
 call_opens (AddRow print addresses) r is = refl
 call_opens Introduce r is = refl
+call_opens (Narrow limit) r is = refl
 call_opens (Learn secret) r is = refl
 call_opens Advance r is = refl
 call_opens (OnFlows near flow) r is = refl

@@ -1,7 +1,10 @@
--- One datagram meets its line, and leaves the numbers counted.
-use Rattle.std.proofs.Common.{◌≡◌, ◌≢◌, ◌==◌, ℕ, ◌+◌, ◌≤◌, List, [], ◌∷◌, ◌++◌, length, take, drop, Some, Ok, inl, inr, refl, sym, ap, subst, ◌∙◌, Bool, true, false, if◌then◌else◌, arith, length-append}
+-- One datagram meets its line, and leaves the numbers counted; and so do those of a packet in pieces.
+use Rattle.std.proofs.Common.{◌≡◌, ◌≢◌, ◌==◌, ℕ, ◌+◌, ◌≤◌, List, [], ◌∷◌, ◌++◌, length, map, take, drop, Option, Some, Ok, inl, inr, refl, sym, ap, subst, ◌∙◌, Bool, true, false, if◌then◌else◌, arith, length-append}
 use Rattle.std.specs.Int.{w64, to_be_bytes}
 use Rattle.std.specs.FinMap.{get}
+use Rattle.std.specs.List.{AllByRecursion}
+use Rattle.rtmfp_base.proofs.Maps.{get_inserted}
+use Rattle.glare_core.specs.declared.facts.Held.{Held}
 use Rattle.std.proofs.lemmas.List.{length-take-le}
 use Rattle.std.proofs.lemmas.Bool.Decides.{nat_tests}
 use Rattle.sha2.specs.Sha256.{sha256}
@@ -11,7 +14,8 @@ use Rattle.rtmfp_packet.specs.Whole.{Whole}
 use Rattle.rtmfp_packet.specs.Reading.{PacketReading}
 use Rattle.rtmfp_packet.specs.Walk.{Placed}
 use Rattle.rtmfp_chunks.specs.Chunk.{IIKeying, Spells}
-use Rattle.crypto_profile.specs.declared.keys.Context.TheVariants.{Startup}
+use Rattle.crypto_profile.specs.declared.keys.Context.{Context}
+use Rattle.crypto_profile.specs.declared.keys.Context.TheVariants.{Startup, Session}
 use Rattle.crypto_profile.specs.Keys.{Keys, keys_of, startup_keys_of}
 use Rattle.crypto_profile.specs.Sealing.{number_of, sealed, sealed_in}
 use Rattle.crypto_profile.proofs.Opened.{sealed_carries}
@@ -23,24 +27,27 @@ use Rattle.startup.specs.declared.aim.Aim.TheVariants.{AtPeer, ByName}
 use Rattle.startup.specs.State.{AttemptState, Attempts}
 use Rattle.startup.specs.declared.attempt.Stage.{Stage}
 use Rattle.startup.specs.declared.attempt.Stage.TheVariants.{Hello, Keying}
-use Rattle.session_core.specs.Session.{context_of}
-use Rattle.session_core.specs.Sealed.{number_bytes, after_seal}
+use Rattle.session_core.specs.Session.{SessionState, context_of}
+use Rattle.session_core.specs.Sealed.{number_bytes, after_seal, is_spent}
 use Rattle.endpoint_model.specs.declared.row.Row.{Row}
 use Rattle.endpoint_model.specs.declared.entry.Entry.{Entry}
 use Rattle.endpoint_model.specs.declared.entry.Entry.TheVariants.{Out}
 use Rattle.endpoint_model.specs.Event.{Setup, own_of, Call}
 use Rattle.endpoint_model.specs.Views.{Sending}
-use Rattle.endpoint_laws.specs.Contexts.{Secrets, OpensUnder, IsKeyingOf}
+use Rattle.endpoint_laws.specs.Contexts.{Secrets, OpensUnder, IsKeyingOf, StandsUnder}
 use Rattle.endpoint_laws.specs.Groups.{HasSecret, IsStageOf}
 use Rattle.endpoint_laws.specs.Past.{Past, stamped, onto, facts_of}
-use Rattle.endpoint_model.specs.State.{State, Did, nothing, after_entries, then_do, with_sealed, with_session}
-use Rattle.endpoint_model.specs.Sending.{last_count, startup_number, startup_datagram, sent_startup, session_packet, session_datagram, sent_by}
+use Rattle.endpoint_model.specs.State.{State, Did, nothing, after_entries, then_do, with_sealed, with_row, with_session}
+use Rattle.endpoint_model.specs.Sending.{last_count, startup_number, startup_datagram, sent_startup, session_packet, session_datagram, sent_whole, sent_bodies, sent_in_pieces, sent_by, piece_body, has_counts, is_long}
 use Rattle.endpoint_model.specs.Keying.{KeyingsAre, IsAmong, chunks_of}
-use Rattle.endpoint_laws.specs.Lawful.{OutLine, KeyingOfAttempt, KeyingOfBorn}
+use Rattle.endpoint_laws.specs.Lawful.{InSession, OutLine, KeyingOfAttempt, KeyingOfBorn}
 use Rattle.endpoint_laws.proofs.Lines.{EntriesMeet, OutPart}
 use Rattle.endpoint_laws.proofs.Tied.{sealed_once}
-use Rattle.endpoint_laws.proofs.Going.{onto_append}
-use Rattle.endpoint_laws.proofs.OutNumbers.{Numbered, not_startup, numbered_startup, once_startup, once_session, numbered_session}
+use Rattle.endpoint_laws.proofs.Going.{onto_append, seal_alike}
+use Rattle.endpoint_laws.proofs.Moving.{known_alike}
+use Rattle.endpoint_laws.proofs.PacketPieces.{pieces_are_modest}
+use Rattle.endpoint_laws.proofs.Small.{its_pieces, in_pieces}
+use Rattle.endpoint_laws.proofs.OutNumbers.{Numbered, not_startup, numbered_startup, numbered_changed, once_startup, once_session, numbered_session}
 use Rattle.endpoint_laws.proofs.OutPackets.{IsModest, body_plain, no_keyings_among}
 use Rattle.endpoint_laws.proofs.OutHeld.{AreSized, MaySend}
 use Rattle.crypto_profile.specs.declared.group.GroupSecret.{GroupSecret}
@@ -283,8 +290,8 @@ module _ (secrets : Secrets) (setup : Setup) (now : ℕ) (call : Call) (past : P
 -- ---- a packet in a session
 
 module _ (secrets : Secrets) (setup : Setup) (now : ℕ) (call : Call) (past : Past) (s : State) (sent : Sent secrets setup past s) (near : ℕ) (row : Row) (there : get s.sessions near ≡ Some row) (may : MaySend secrets setup past row.session) where
-  pub meets_session : (to : AddressParts) (body : List ℕ) → IsModest body → Meets secrets setup now call past (sent_by s near to body (Some row))
-  meets_session to body modest = by_test (row.session.sealed == last_count) refl
+  meets_whole : (to : AddressParts) (body : List ℕ) → IsModest body → Meets secrets setup now call past (sent_whole s near to body (Some row))
+  meets_whole to body modest = by_test (row.session.sealed == last_count) refl
     where
       is : session_datagram row.session s.moment body ≡
           datagram row.session.joined.far (sealed_in may.keyed.secret (context_of row.session true) row.session.joined.far (number_bytes (row.session.sealed + 1)) (session_packet row.session s.moment body))
@@ -326,3 +333,78 @@ module _ (secrets : Secrets) (setup : Setup) (now : ℕ) (call : Call) (past : P
               (beside_session secrets now to (session_datagram row.session s.moment body) (context_of row.session true) (not_startup row.session.generation row.session.joined row.session.own row.session.role))) refl;
         };
       }
+
+-- what is sent leaves what may be sent
+module _ (secrets : Secrets) (setup : Setup) (now : ℕ) (past : Past) (to : AddressParts) (datagram : List ℕ) (context : Context) where
+  in_session_still : (sid : ℕ) (of : Context) → InSession secrets setup past sid of → InSession secrets setup (stamped now (Out to datagram context) ∷ past) sid of
+  in_session_still sid (Startup generation) in_it = tt
+  in_session_still sid (Session generation ni nr fp_i fp_r sid_i sid_r to_responder) in_it =
+      (in_it.0, in_it.1, stands in_it.0 in_it.1 in_it.2, inr ((λ none. none), in_it.3), in_it.4, in_it.5)
+    where
+      stands : (thing : Held) (near : ℕ) → StandsUnder past near thing → StandsUnder (stamped now (Out to datagram context) ∷ past) near thing
+      stands thing near (inl is) = inl is
+      stands thing near (inr is) = inr (is.0, inr (tt, is.1))
+
+  may_still : (b : Bool) (session : SessionState) → MaySend secrets setup past session → MaySend secrets setup (stamped now (Out to datagram context) ∷ past) (if b then session else sealed_once session)
+  may_still true session may = record { keyed = may.keyed; known = may.known; stands = in_session_still session.joined.far (context_of session true) may.stands }
+  may_still false session may = record {
+    keyed = known_alike secrets now session (sealed_once session) (seal_alike false now session) may.keyed;
+    known = may.known;
+    stands = in_session_still session.joined.far (context_of session true) may.stands;
+  }
+
+-- one packet after another, and those of a packet in pieces
+module _ (secrets : Secrets) (setup : Setup) (now : ℕ) (call : Call) (near : ℕ) (to : AddressParts) where
+  abbrev BodiesMeet : List (List ℕ) → Type 0
+  BodiesMeet bodies = (past : Past) (s : State) (row : Row) → Sent secrets setup past s → get s.sessions near ≡ Some row → MaySend secrets setup past row.session → Meets secrets setup now call past (sent_bodies s near to bodies)
+
+  meets_first : (body : List ℕ) (rest : List (List ℕ)) → IsModest body → BodiesMeet rest → BodiesMeet (body ∷ rest)
+  meets_first body rest modest later past s row sent there may =
+      subst (λ (o : Option Row). Meets secrets setup now call past (then_do (sent_whole s near to body o) (λ t. sent_bodies t near to rest))) (sym there)
+      (meets_then secrets setup now call past (sent_whole s near to body (Some row)) (λ t. sent_bodies t near to rest) first (by (row.session.sealed == last_count) first.sent))
+    where
+      first : Meets secrets setup now call past (sent_whole s near to body (Some row))
+      first = meets_whole secrets setup now call past s sent near row there may to body modest
+
+      went : Did
+      went = record {
+        state = with_session s near row (after_seal row.session);
+        entries = Out to (session_datagram row.session s.moment body) (context_of row.session true) ∷ [];
+      }
+
+      by : (b : Bool) → (let d : Did = if b then nothing s else went in Sent secrets setup (onto now d.entries past) d.state) →
+          (let d : Did = if b then nothing s else went in Meets secrets setup now call (onto now d.entries past) (sent_bodies d.state near to rest))
+      by true kept = later past s row kept there may
+      by false kept =
+          later (onto now went.entries past) went.state (record row { session = after_seal row.session }) kept (get_inserted s.sessions near _)
+          (may_still secrets setup now past to (session_datagram row.session s.moment body) (context_of row.session true) (is_spent row.session) row.session may)
+
+  meets_bodies : (bodies : List (List ℕ)) → AllByRecursion IsModest bodies → BodiesMeet bodies
+  meets_bodies [] modest past s row sent there may = meets_nothing secrets setup now call past s sent
+  meets_bodies (body ∷ rest) modest past s row sent there may = meets_first body rest modest.0 (meets_bodies rest modest.1) past s row sent there may
+
+module _ (secrets : Secrets) (setup : Setup) (now : ℕ) (call : Call) (past : Past) (s : State) (sent : Sent secrets setup past s) (near : ℕ) (row : Row) (there : get s.sessions near ≡ Some row) (may : MaySend secrets setup past row.session) where
+  meets_pieces : (to : AddressParts) (body : List ℕ) → has_counts row (length (its_pieces s row body)) ≡ true → Meets secrets setup now call past (in_pieces s near row to body)
+  meets_pieces to body has =
+      let new : Row = record row { packets = row.packets + 1 } in
+      let t : State = with_row s near new in
+      let kept : Sent secrets setup past t = record {
+        numbered = numbered_changed (own_of setup) past s.sealed s.sessions sent.numbered near row new there refl refl refl refl refl;
+        sized = sent.sized;
+        short = sent.short;
+        rows = sent.rows;
+        staged = staged_alike secrets setup past s t sent.staged refl;
+      } in
+      meets_bodies secrets setup now call near to (map (piece_body (row.packets + 1)) (its_pieces s row body)) (pieces_are_modest s row body has) past t new kept (get_inserted s.sessions near new) may
+
+  -- a packet with this body, whole or in pieces
+  pub meets_session : (to : AddressParts) (body : List ℕ) → IsModest body → Meets secrets setup now call past (sent_by s near to body (Some row))
+  meets_session to body modest = by (is_long s row body)
+    where
+      counted : (b : Bool) → has_counts row (length (its_pieces s row body)) ≡ b → Meets secrets setup now call past (if b then in_pieces s near row to body else nothing s)
+      counted true has = meets_pieces to body has
+      counted false has = meets_nothing secrets setup now call past s sent
+
+      by : (b : Bool) → Meets secrets setup now call past (if b then sent_in_pieces s near to row (its_pieces s row body) else sent_whole s near to body (Some row))
+      by true = counted (has_counts row (length (its_pieces s row body))) refl
+      by false = meets_whole secrets setup now call past s sent near row there may to body modest

@@ -1,8 +1,9 @@
 -- In every log the pieces that a session holds are within the limits: those of a new one are none,
 -- and a piece that is taken keeps them.
-use Rattle.std.proofs.Common.{ℕ, [], refl}
+use Rattle.std.proofs.Common.{ℕ, [], refl, sym, subst}
 use Rattle.rtmfp_fragments.specs.Held.{IsWithinLimits}
-use Rattle.rtmfp_fragments.proofs.Limits.{no_packets}
+use Rattle.rtmfp_fragments.specs.Answers.{taken}
+use Rattle.rtmfp_fragments.proofs.Limits.{no_packets, limits_taken}
 use Rattle.endpoint_model.specs.declared.row.Row.{Row}
 use Rattle.endpoint_laws.specs.Within.{PiecesHoldFew}
 use Rattle.endpoint_laws.proofs.Small.{FlowThing, Called, Came, Acked, Unowed, Late, Overdue}
@@ -27,7 +28,9 @@ kept : IsKeptAlone IsWithin
 kept = record {
   begins = λ near session. no_packets [] refl;
   changed = λ near row session h. h;
-  goes_on = λ near old new goes h. goes.pieces h;
+  goes_on = λ near old new goes h. subst IsWithinLimits (sym goes.pieces) h;
+  gathers = λ near moment id row x h.
+      limits_taken (taken row.gathering id x moment).1 row.gathering _ id moment x refl h;
   alone = λ near moment row thing may alone h. pieces_left near moment row thing h;
 }
 

@@ -33,15 +33,13 @@ use Rattle.startup.specs.Attempts.{lowest, has_tag, changed, wide, hello_cause a
 use Rattle.startup.specs.Keyings.{initiator_hello_answer}
 use Rattle.startup.specs.Redirects.{told_addresses, new_candidates, extended, after_extension, after_redirect_of, redirect_spread_of}
 use Rattle.startup_packets.proofs.Sizes.{fihello_length}
-use Rattle.session_core.specs.Session.{context_of}
-use Rattle.session_core.specs.Sealed.{after_seal}
 use Rattle.crypto_profile.specs.Keys.{sign_key_of}
 use Rattle.endpoint_model.specs.declared.row.Row.{Row}
 use Rattle.endpoint_model.specs.declared.place.Place.{Place}
-use Rattle.endpoint_model.specs.declared.entry.Entry.TheVariants.{Fact as FactEntry, Out}
+use Rattle.endpoint_model.specs.declared.entry.Entry.TheVariants.{Fact as FactEntry}
 use Rattle.endpoint_model.specs.Event.{Setup, own_of, Call, OpenCall, receive_in}
-use Rattle.endpoint_model.specs.State.{State, Did, nothing, after_entries, fact_entries, with_startup, with_session}
-use Rattle.endpoint_model.specs.Sending.{is_spent, last_count, session_datagram, sent_answer, sent_if, sent_by}
+use Rattle.endpoint_model.specs.State.{State, Did, nothing, after_entries, fact_entries, with_startup}
+use Rattle.endpoint_model.specs.Sending.{is_spent, last_count, sent_answer, sent_if, sent_by}
 use Rattle.endpoint_model.specs.Introducing.{redirected_to, hello_cause, redirect_of}
 use Rattle.endpoint_model.specs.InSessions.{sent_home_by}
 use Rattle.endpoint_model.specs.Admission.{sid_at, group_at}
@@ -53,8 +51,9 @@ use Rattle.endpoint_laws.proofs.Tied.{Tied, IsKeptIn}
 use Rattle.endpoint_laws.proofs.LowestId.{first_is_lowest}
 use Rattle.endpoint_laws.proofs.Facts.{all_none, test_fails}
 use Rattle.endpoint_laws.proofs.Moving.{tied_attempt}
-use Rattle.endpoint_laws.proofs.Small.{Any}
-use Rattle.endpoint_laws.proofs.Made.{IsNoHello, no_fact, by_hello, carries_any, read_first, replied_made}
+use Rattle.endpoint_laws.proofs.PacketPieces.{any_sends}
+use Rattle.endpoint_laws.proofs.Small.{Any, Sends}
+use Rattle.endpoint_laws.proofs.Made.{IsNoHello, no_fact, by_hello, carries_any, read_first, home_made, replied_made}
 use Rattle.endpoint_laws.proofs.Searching.{kept_as, met_if, met_tied, hello_first}
 use Rattle.endpoint_laws.proofs.Going.{Goes, Keeps, goes_nothing, goes_then, goes_sends}
 use Rattle.endpoint_laws.proofs.OutPackets.{IsModest, one_is_modest}
@@ -154,17 +153,20 @@ discriminator_length (kind ∷ print) selected is = by (kind == 0x01) (length pr
     by false b size e = absurd (cc)
 
 -- a datagram of a session leaves what is kept of startup
-home_startup : (s : State) (near : ℕ) (body : List ℕ) (o : Option Row) → (sent_home_by s near body o).state.startup ≡ s.startup
-home_startup s near body None = refl
-home_startup s near body (Some row) = by (row.session.sealed == last_count)
-  where
-    by : (b : Bool) → ◌≡◌ {A = StartupState} ((if b then nothing s else record { state = with_session s near row (after_seal row.session); entries = Out row.session.address (session_datagram row.session s.moment body) (context_of row.session true) ∷ [] }).state.startup) s.startup
-    by true = refl
-    by false = refl
+abbrev pub KeepsStartup : State → Did → Type 0
+KeepsStartup s d = d.state.startup ≡ s.startup
+
+pub startup_sends : Sends Any KeepsStartup
+startup_sends = any_sends (record {
+  steps = record { does_nothing = λ s. refl; and_then = λ s d e first later. later ∙ first };
+  out = λ s generation keys to sid plain. refl;
+  out_in = λ s near row to body is. refl;
+  packets = λ s near row is. refl;
+})
 
 forwarded_startup : (s : State) (to : Option ℕ) (body : List ℕ) → (forwarded s to body).state.startup ≡ s.startup
 forwarded_startup s None body = refl
-forwarded_startup s (Some near) body = home_startup s near body (get s.sessions near)
+forwarded_startup s (Some near) body = home_made startup_sends s near body tt
 
 -- what is left keeps the sizes of what goes out, and the answer may go out
 record Fits (secrets : Secrets) (setup : Setup) (call : Call) (past : Past) (t : State) (reply : Reply) : Type 0 where

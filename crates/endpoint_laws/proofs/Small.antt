@@ -1,5 +1,5 @@
 -- The small things of which all is made that an end does, and what a law has to say of each of them.
-use Rattle.std.proofs.Common.{◌≡◌, ℕ, ◌+◌, List, [], ◌∷◌, ◌++◌, map, Bool, true, Option, Some, None}
+use Rattle.std.proofs.Common.{◌≡◌, ℕ, ◌+◌, ◌≤◌, List, [], ◌∷◌, ◌++◌, length, map, Bool, true, Option, Some, None}
 use Rattle.std.specs.FinMap.{get}
 use Rattle.rtmfp_forms.specs.Address.{AddressParts}
 use Rattle.rtmfp_chunks.specs.Chunk.{Ping, Close as CloseChunk, CloseAck}
@@ -24,14 +24,15 @@ use Rattle.session_flows.specs.Causes.{chunk_cause as flows_cause}
 use Rattle.session_flows.specs.Chunks.{chunk_done, session_after}
 use Rattle.session_flows.specs.Owing.{after_acks, owing_none, owes}
 use Rattle.session_flows.specs.Timing.{overdue_in, overdue_done}
-use Rattle.rtmfp_fragments.specs.Held.{IsWithinLimits}
+use Rattle.rtmfp_fragments.specs.Pieces.{PieceParts}
 use Rattle.introducer.specs.Directory.{AddressRows}
 use Rattle.endpoint_model.specs.declared.row.Row.{Row}
 use Rattle.endpoint_model.specs.declared.entry.Entry.TheVariants.{Fact as FactEntry, Moved, Sought, Unsought, Out}
-use Rattle.endpoint_model.specs.State.{State, Did, nothing, fact_entries, with_startup, with_row, with_session, without_row, with_sealed}
+use Rattle.endpoint_model.specs.State.{State, Did, nothing, then_do, fact_entries, with_startup, with_row, with_session, without_row, with_sealed}
 use Rattle.endpoint_model.specs.Succession.{learn_refusal, learning, advancing_to}
-use Rattle.endpoint_model.specs.Sending.{packet_head, startup_datagram, session_datagram}
+use Rattle.endpoint_model.specs.Sending.{packet_head, startup_datagram, session_packet, session_datagram, sent_bodies, pieces_for, piece_body, has_counts, is_long}
 use Rattle.endpoint_model.specs.InSessions.{closed}
+use Rattle.endpoint_model.specs.Gathering.{gathered_more}
 use Rattle.endpoint_model.specs.FlowCall.{FlowCall, flow_refusal, flow_did}
 use Rattle.endpoint_model.specs.OnFlows.{flow_entry, flows_done}
 use Rattle.endpoint_model.specs.FlowChunks.{flow_taken_by, acked_by, unowed_by}
@@ -45,11 +46,13 @@ use Rattle.endpoint_laws.proofs.Hearing.{Descends}
 
 -- ---- the row of a session
 
--- The session goes on, its flows are the same, and the pieces that it holds stay within the limits.
+-- The session goes on, its flows and the pieces that it holds are the same, and no fewer of its
+-- packets were sent in pieces.
 pub record GoesOn (old new : Row) : Type 0 where
   pub descends : Descends old.session new.session
   pub flows : new.flows ≡ old.flows
-  pub pieces : IsWithinLimits old.gathering → IsWithinLimits new.gathering
+  pub pieces : new.gathering ≡ old.gathering
+  pub packets : old.packets ≤ new.packets
 
 -- what is done with the flows of a session: a call, a chunk that came, a packet of acks, acks that
 -- are given up, numbers that are lost by time, a message that is sent no longer, a packet of data
@@ -110,15 +113,29 @@ began s startup near name = record { state = with_startup s startup; entries = S
 abbrev pub given_up : State → StartupState → ℕ → Why → Did
 given_up s startup near why = record { state = with_startup s startup; entries = Unsought near why ∷ [] }
 
+-- ---- a packet in pieces
+
+-- the pieces of the packet with this body
+abbrev pub its_pieces : State → Row → List ℕ → List PieceParts
+its_pieces s row body = pieces_for s (session_packet row.session s.moment body)
+
+-- The packet takes its ID, and each piece goes out in a packet of its own.
+abbrev pub in_pieces : State → ℕ → Row → AddressParts → List ℕ → Did
+in_pieces s near row to body =
+    then_do (nothing (with_row s near (record row { packets = row.packets + 1 })))
+    (λ t. sent_bodies t near to (map (piece_body (row.packets + 1)) (its_pieces s row body)))
+
 -- ---- what a law says
 
--- Of nothing, of one thing after another, and of a datagram, in the startup context and in a session. Of the bodies that go out in sessions something may be known.
+-- Of nothing, of one thing after another, of a datagram, in the startup context and in a session, and of a packet in pieces. Of the bodies that go out in sessions something may be known.
 pub record Sends (Body : List ℕ → Type 0) (P : State → Did → Type 0) : Type 0 where
   pub steps : Steps P
   pub out : (s : State) (generation : ℕ) (keys : Keys) (to : AddressParts) (sid : ℕ) (plain : List ℕ) →
       P s (record { state = with_sealed s (s.sealed + 1); entries = Out to (startup_datagram s keys sid plain) (StartupContext generation) ∷ [] })
   pub out_in : (s : State) (near : ℕ) (row : Row) (to : AddressParts) (body : List ℕ) → get s.sessions near ≡ Some row → Body body →
       P s (record { state = with_session s near row (after_seal row.session); entries = Out to (session_datagram row.session s.moment body) (context_of row.session true) ∷ [] })
+  pub parts : (s : State) (near : ℕ) (row : Row) (to : AddressParts) (body : List ℕ) → get s.sessions near ≡ Some row → Body body → is_long s row body ≡ true → has_counts row (length (its_pieces s row body)) ≡ true →
+      P s (in_pieces s near row to body)
 
 -- And of what begins no session, but for what is done with flows: a change of the attempts alone, facts, searches that are over, and sessions that go on and end.
 pub record Quiet (Body : List ℕ → Type 0) (P : State → Did → Type 0) : Type 0 where
@@ -145,9 +162,14 @@ pub record Timed (Body : List ℕ → Type 0) (P : State → Did → Type 0) : T
   pub abandons : (s : State) (near : ℕ) (row : Row) (flow seq : ℕ) → get s.sessions near ≡ Some row → overdue_in row.session row.flows s.moment ≡ Some (flow, seq) → P s (flows_done s near row (overdue_done row.flows (Some (flow, seq))))
   pub packs : (s : State) (near : ℕ) (row : Row) → get s.sessions near ≡ Some row → P s (data_sent s near row)
 
--- And of calls on flows and of their chunks, whatever body goes out.
+-- And of a piece of a packet that comes.
+abbrev pub Gathers : (State → Did → Type 0) → Type 0
+Gathers P = (s : State) (near id : ℕ) (row : Row) (x : PieceParts) → get s.sessions near ≡ Some row → P s (nothing (with_row s near (gathered_more s.moment id x row)))
+
+-- And of calls on flows and of their chunks, and of pieces, whatever body goes out.
 pub record All (Body : List ℕ → Type 0) (P : State → Did → Type 0) : Type 0 where
   pub timed : Timed Body P
+  pub gathers : Gathers P
   pub bodies : (body : List ℕ) → Body body
   pub calls : (s : State) (near : ℕ) (row : Row) (call : FlowCall) → get s.sessions near ≡ Some row → flow_refusal row.flows call ≡ None → P s (flows_done s near row (flow_did row.flows call))
   pub takes : (s : State) (near : ℕ) (row : Row) (chunk : DataChunk) → get s.sessions near ≡ Some row → FitsIn chunk → flows_cause row.session row.flows chunk ≡ None → P s (flow_taken_by s near chunk (Some row))
@@ -165,7 +187,7 @@ pub record Begins (Q P : State → Did → Type 0) : Type 0 where
 -- And of what a datagram leaves of its session before its chunks, and of what no other thing sees.
 pub record Enters (P : State → Did → Type 0) : Type 0 where
   pub counts : (s : State) (near : ℕ) (row : Row) (session : SessionState) → get s.sessions near ≡ Some row → P s (nothing (with_session s near row session))
-  pub unseen : (s : State) (introduces : Bool) (rows : AddressRows) → P s (nothing (record s { introduces = introduces; redirects = rows }))
+  pub unseen : (s : State) (limit : ℕ) (introduces : Bool) (rows : AddressRows) → P s (nothing (record s { limit = limit; introduces = introduces; redirects = rows }))
 
 -- And of the succession of the group's secrets.
 pub record Succession (P : State → Did → Type 0) : Type 0 where

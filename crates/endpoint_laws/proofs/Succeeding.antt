@@ -18,6 +18,7 @@ use Rattle.endpoint_model.specs.Log.{Answers, Leads, StandsFor}
 use Rattle.endpoint_laws.specs.Past.{Past, stamped, begun, onto, with_event, last_call, learn_of, current_of, current_after, next_of, next_after, next_left, WasLearnt, past_of, past_of_log}
 use Rattle.endpoint_laws.specs.Contexts.{Secrets, Knows}
 use Rattle.endpoint_laws.proofs.Unseen.{AreUnseen, flows_unseen}
+use Rattle.endpoint_laws.proofs.PacketPieces.{any_sends}
 use Rattle.endpoint_laws.proofs.Small.{Quiet, stated_of, Any, All, Begins, Enters}
 use Rattle.endpoint_laws.proofs.Made.{all_law, answers_made_beside}
 
@@ -81,14 +82,15 @@ none_stays s t group next = record { group = group; next = next; none = tt }
 
 pub stays_quiet : Quiet Any StaysInGroup
 stays_quiet = record {
-  sends = record {
+  sends = any_sends (record {
     steps = record {
       does_nothing = λ s. none_stays s s refl refl;
       and_then = λ s d e first later. record { group = later.group ∙ first.group; next = later.next ∙ first.next; none = names_append d.entries e.entries first.none later.none };
     };
     out = λ s generation keys to sid plain. one_stays s _ _ refl refl refl refl;
-    out_in = λ s near row to body is carries. one_stays s _ _ refl refl refl refl;
-  };
+    out_in = λ s near row to body is. one_stays s _ _ refl refl refl refl;
+    packets = λ s near row is. none_stays s _ refl refl;
+  });
   attempts = λ s startup kin. none_stays s _ refl refl;
   close = tt;
   close_ack = tt;
@@ -104,7 +106,7 @@ stays_quiet = record {
 }
 
 pub stays_law : All Any StaysInGroup
-stays_law = all_law stays_quiet (λ s near row thing is may. record { group = refl; next = refl; none = names_unseen (map (flow_entry near) (stated_of row thing)) (flows_unseen near (stated_of row thing)) })
+stays_law = all_law stays_quiet (λ s near row thing is may. record { group = refl; next = refl; none = names_unseen (map (flow_entry near) (stated_of row thing)) (flows_unseen near (stated_of row thing)) }) (λ s near id row x is. none_stays s _ refl refl)
 
 pub stays_begins : Begins StaysInGroup StaysInGroup
 stays_begins = record {
@@ -117,7 +119,7 @@ stays_begins = record {
 }
 
 pub stays_enters : Enters StaysInGroup
-stays_enters = record { counts = λ s near row session is. none_stays s _ refl refl; unseen = λ s introduces rows. none_stays s _ refl refl }
+stays_enters = record { counts = λ s near row session is. none_stays s _ refl refl; unseen = λ s limit introduces rows. none_stays s _ refl refl }
 
 -- ---- the secrets of a log
 

@@ -4,7 +4,7 @@ use Rattle.identity.specs.Certificates.{IsCertificate}
 use Rattle.glare_core.specs.Account.{StandsFor as AccountStandsFor}
 use Rattle.glare_core.specs.Ledger.{row_count}
 use Rattle.identity.specs.ServiceNames.{IsServiceName}
-use Rattle.endpoint_model.specs.Event.{Setup, Call, Open, Seek, Receive, Learn, Event}
+use Rattle.endpoint_model.specs.Event.{Setup, Call, Open, Seek, Receive, Learn, Narrow, Event}
 use Rattle.endpoint_laws.specs.Past.{facts_of, past_of_log}
 use Rattle.endpoint_model.specs.State.{State, uses}
 use Rattle.endpoint_model.specs.Log.{StandsFor}
@@ -31,6 +31,7 @@ IsCall (Seek name candidates draws) = IsServiceName name × (length draws.nonce 
 IsCall (Receive from datagram draws) = AreBytes datagram × (length draws.nonce ≡ 16) ×
     (draws.word < 2 ^ 32) × (length draws.token ≡ 16)
 IsCall (Learn secret) = length secret ≡ 32
+IsCall (Narrow limit) = (96 ≤ limit) × (limit ≤ 1164)
 IsCall call = Unit {0}
 
 abbrev pub AreCalls : List Event → Type 0

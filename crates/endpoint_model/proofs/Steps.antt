@@ -79,10 +79,6 @@ abbrev pub walk_through : Walk → List Placed → Walk
 walk_through walk [] = walk
 walk_through walk (c ∷ cs) = walk_through (walked walk c) cs
 
-pub walk_more : (walk : Walk) (cs : List Placed) (c : Placed) → walk_through walk (cs ++ c ∷ []) ≡ walked (walk_through walk cs) c
-walk_more walk [] c = refl
-walk_more walk (d ∷ cs) c = walk_more (walked walk d) cs c
-
 -- ---- how far the chunks of a datagram were gone through
 
 -- So many of these steps were taken, which brought the end from s to t, and the rest are left.

@@ -33,7 +33,7 @@ first_group setup = record { generation = setup.generation; secret = setup.secre
 
 -- A call; an open names its peer by the fingerprint, a seek by the name, and one on flows its
 -- session by the session ID. A learn tells the secret of the group's next generation, to which an
--- advance goes over.
+-- advance goes over; a narrow how long a packet of a session may be that goes out whole.
 pub data Call : Type 0 where
   Open : (peer : List ℕ) → (candidates : List AddressParts) → (draws : Draws) → Call
   Seek : (name : List ℕ) → (candidates : List AddressParts) → (draws : Draws) → Call
@@ -42,6 +42,7 @@ pub data Call : Type 0 where
   Close : (near : ℕ) → Call
   AddRow : (print : List ℕ) → (addresses : List AddressParts) → Call
   Introduce : Call
+  Narrow : (limit : ℕ) → Call
   Learn : (secret : List ℕ) → Call
   Advance : Call
   OnFlows : (near : ℕ) → (call : FlowCall) → Call

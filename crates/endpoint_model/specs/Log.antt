@@ -16,9 +16,9 @@ use Rattle.endpoint_model.specs.declared.answers.Stopped.{Stopped as Stop}
 use Rattle.introducer.specs.declared.refusal.RowRefusal.{RowRefusal}
 use Rattle.introducer.specs.declared.refusal.RowRefusal.TheVariants.{Memory as NoMemoryForRow}
 use Rattle.introducer.specs.Directory.{row_refusal}
-use Rattle.endpoint_model.specs.Event.{Setup, Call, Open, Seek, Unseek, Cancel, Close, AddRow, Introduce, Learn, Advance, OnFlows, Receive, Tick, Answer, Began, Searching, Done, Succeeds, NotOpened, NotSought, Refused, NotAdded, Stopped, OutOfMemory, Event}
+use Rattle.endpoint_model.specs.Event.{Setup, Call, Open, Seek, Unseek, Cancel, Close, AddRow, Introduce, Narrow, Learn, Advance, OnFlows, Receive, Tick, Answer, Began, Searching, Done, Succeeds, NotOpened, NotSought, Refused, NotAdded, Stopped, OutOfMemory, Event}
 use Rattle.endpoint_model.specs.Added.{Added}
-use Rattle.endpoint_model.specs.State.{State, Did, Does, nothing, fresh, at_moment, free_from, Done as DoneIn}
+use Rattle.endpoint_model.specs.State.{State, Did, Does, nothing, fresh, at_moment, narrowing, free_from, Done as DoneIn}
 use Rattle.endpoint_model.specs.Admission.{Admission, Rejected, Admitted, admission, confirms, confirming}
 use Rattle.endpoint_model.specs.Introducing.{with_redirect, introducing}
 use Rattle.endpoint_model.specs.Succession.{learn_refusal, learning, advance_refusal, advancing}
@@ -131,6 +131,7 @@ Answers s (AddRow print addresses) (NotAdded refusal) entries t =
     (refusal ≡ not_added (row_refusal s.redirects print (length addresses))) ×
     Does (nothing s) t [] entries
 Answers s Introduce Done entries t = Does (nothing (introducing s)) t [] entries
+Answers s (Narrow limit) Done entries t = Does (nothing (narrowing s limit)) t [] entries
 Answers s (Learn secret) (Succeeds generation) entries t = (learn_refusal s secret ≡ None) ×
     (generation ≡ s.group.generation + 1) × Does (learning s secret) t [] entries
 Answers s (Learn secret) (Refused refusal) entries t =
@@ -233,6 +234,9 @@ row_event print addresses result = silent_event (AddRow print addresses) (answer
 
 abbrev pub introduce_event : Event
 introduce_event = silent_event Introduce Done
+
+abbrev pub narrow_event : ℕ → Event
+narrow_event limit = silent_event (Narrow limit) Done
 
 abbrev pub answer_of_succession : Result ℕ CallRefusal → Answer
 answer_of_succession (Ok generation) = Succeeds generation

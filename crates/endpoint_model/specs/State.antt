@@ -23,7 +23,17 @@ Sessions = FinMap nat_cmp Row
 
 -- the row of a session that begins
 abbrev pub new_row : SessionState → Row
-new_row session = record { session = session; moves = None; flows = no_flows; gathering = [] }
+new_row session = record {
+  session = session;
+  moves = None;
+  flows = no_flows;
+  gathering = [];
+  packets = 0;
+}
+
+-- the longest plain packet of a session that any session sends, in bytes
+abbrev pub longest_packet : ℕ
+longest_packet = 1164
 
 pub record State : Type 0 where
   pub config : Config
@@ -31,6 +41,8 @@ pub record State : Type 0 where
   pub moment : ℕ
   -- how many startup packets were sealed
   pub sealed : ℕ
+  -- the longest plain packet of a session that goes out whole, in bytes
+  pub limit : ℕ
   -- the group's secret in the current generation, and in the next one where that is known
   pub group : GroupSecret
   pub next : Option GroupSecret
@@ -48,6 +60,7 @@ fresh setup = record {
   config = setup.config;
   moment = 0;
   sealed = 0;
+  limit = longest_packet;
   group = first_group setup;
   next = None;
   startup = new_startup setup.cert setup.cookie_secret setup.config.max_peers;
@@ -79,6 +92,10 @@ with_session s near row session = with_row s near (record row { session = sessio
 
 abbrev pub with_sealed : State → ℕ → State
 with_sealed s sealed = record s { sealed = sealed }
+
+-- from now on no longer packet of a session goes out whole
+abbrev pub narrowing : State → ℕ → State
+narrowing s limit = record s { limit = limit }
 
 -- ---- session IDs
 
@@ -152,10 +169,11 @@ pub record Done (d : Did) (new : State) (before after : Added) : Type 0 where
 abbrev pub state_code : Coded Config → Coded GroupSecret → Coded StartupState → Coded Row →
     Coded AddressParts → Coded State
 state_code config group startup row address =
-    code_by (Config × (ℕ × (ℕ × (GroupSecret × (Option GroupSecret ×
-    (StartupState × (Sessions × (Bool × AddressRows))))))))
-    (coded× config (coded× coded_ℕ (coded× coded_ℕ (coded× group (coded× (coded_option group)
-    (coded× startup (coded× (code coded_ℕ row) (coded× coded_bool (rows_code address)))))))))
+    code_by (Config × (ℕ × (ℕ × (ℕ × (GroupSecret × (Option GroupSecret ×
+    (StartupState × (Sessions × (Bool × AddressRows)))))))))
+    (coded× config (coded× coded_ℕ (coded× coded_ℕ (coded× coded_ℕ (coded× group
+    (coded× (coded_option group) (coded× startup (coded× (code coded_ℕ row)
+    (coded× coded_bool (rows_code address))))))))))
     (λ s. (
       s.config,
       (
@@ -163,8 +181,11 @@ state_code config group startup row address =
         (
           s.sealed,
           (
-            s.group,
-            (s.next, (s.startup, (s.sessions, (s.introduces, s.redirects)))),
+            s.limit,
+            (
+              s.group,
+              (s.next, (s.startup, (s.sessions, (s.introduces, s.redirects)))),
+            ),
           ),
         ),
       ),
@@ -173,11 +194,12 @@ state_code config group startup row address =
       config = p.0;
       moment = p.1.0;
       sealed = p.1.1.0;
-      group = p.1.1.1.0;
-      next = p.1.1.1.1.0;
-      startup = p.1.1.1.1.1.0;
-      sessions = p.1.1.1.1.1.1.0;
-      introduces = p.1.1.1.1.1.1.1.0;
-      redirects = p.1.1.1.1.1.1.1.1;
+      limit = p.1.1.1.0;
+      group = p.1.1.1.1.0;
+      next = p.1.1.1.1.1.0;
+      startup = p.1.1.1.1.1.1.0;
+      sessions = p.1.1.1.1.1.1.1.0;
+      introduces = p.1.1.1.1.1.1.1.1.0;
+      redirects = p.1.1.1.1.1.1.1.1.1;
     })
     (λ _. refl)

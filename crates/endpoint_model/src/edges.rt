@@ -9,8 +9,8 @@ ghost use Rattle.rtmfp_base.specs.Reasons.{first_that_stands, where_true};
 ghost use Rattle.rtmfp_chunks.specs.FieldReading.{chunk_reading};
 ghost use Rattle.rtmfp_fragments.specs.declared.outcome.PieceRefusal.TheVariants.{Conflict, TooLong};
 ghost use Rattle.rtmfp_fragments.specs.declared.outcome.PieceRefusal.TheVariants.{PacketsFull, TooMany};
-ghost use Rattle.rtmfp_fragments.specs.Pieces.{piece};
-ghost use Rattle.std.specs.Prelude.{replicate};
+ghost use Rattle.rtmfp_fragments.specs.Pieces.{PieceParts, piece, pieces_of};
+ghost use Rattle.std.specs.Prelude.{length, replicate};
 ghost use Rattle.rtmfp_forms.specs.Address.{AddressParts};
 ghost use Rattle.rtmfp_chunks.specs.Chunk.{Close, FIHello, Fragment, RHello};
 ghost use Rattle.rtmfp_chunks.specs.Writing.{chunk_bytes};
@@ -61,9 +61,13 @@ ghost use Rattle.endpoint_model.specs.InSessions.{sent_home};
 ghost use Rattle.endpoint_model.specs.Introducing.{forwarded_to, hello_cause, introducing};
 ghost use Rattle.endpoint_model.specs.Introducing.{kept_id, redirect_of, redirected_to};
 ghost use Rattle.endpoint_model.specs.Sending.{sent_answer, sent_by, sent_each, sent_startup};
+ghost use Rattle.endpoint_model.specs.Sending.{has_counts, is_long, limit_of, piece_body, pieces_for};
+ghost use Rattle.endpoint_model.specs.Sending.{sent_bodies, sent_in_pieces, session_packet};
 ghost use Rattle.endpoint_model.specs.Sending.{startup_datagram, startup_number};
 ghost use Rattle.endpoint_model.specs.State.{State, is_free, new_row, next_id, nothing};
+ghost use Rattle.endpoint_model.specs.State.{fresh, narrowing, with_row};
 ghost use Rattle.endpoint_model.specs.State.{then_do, with_sealed, with_startup};
+ghost use Rattle.endpoint_model.specs.Event.{Setup};
 ghost use Rattle.endpoint_model.specs.Succession.{advance_refusal, advancing, learn_refusal};
 ghost use Rattle.endpoint_model.specs.Succession.{learning};
 
@@ -83,6 +87,45 @@ pub fn startup_packets_are_counted_to_the_end()
         (session : SessionState) →
         sent_by s near to body (Some (new_row (record session { sealed = 2 ^ 64 - 1 }))) ≡ nothing
         s }
+{}
+
+/// A session's packet goes out whole up to the limit, which is at first the longest that there is,
+/// and above it in pieces of 32 bytes less, each as a fragment chunk with an ID that counts from 1.
+/// Where an ID or one of the counts is lacking, no piece goes out.
+pub fn a_longer_packet_goes_out_in_pieces()
+    ensures at_first { (setup : Setup) → (fresh setup).limit ≡ 1164 }
+    ensures whole { (s : State) (row : Row) (body : List ℕ) →
+        length (session_packet row.session s.moment body) ≡ 532 →
+        is_long (narrowing s 532) row body ≡ false }
+    ensures longer { (s : State) (row : Row) (body : List ℕ) →
+        length (session_packet row.session s.moment body) ≡ 533 →
+        is_long (narrowing s 532) row body ≡ true }
+    ensures size { (s : State) (plain : List ℕ) → pieces_for (narrowing s 532) plain
+        ≡ pieces_of plain 500 }
+    ensures least { (s : State) (plain : List ℕ) → pieces_for (narrowing s 96) plain
+        ≡ pieces_of plain 64 }
+    ensures below { (s : State) (plain : List ℕ) → pieces_for (narrowing s 95) plain
+        ≡ pieces_of plain 64 }
+    ensures most { (s : State) → limit_of (narrowing s 1164) ≡ 1164 }
+    ensures above { (s : State) → limit_of (narrowing s 1165) ≡ 1164 }
+    ensures more { piece_body 258 (piece 1 true (7 ∷ []))
+        ≡ 0x7f ∷ 0 ∷ 5 ∷ 0x80 ∷ 0x82 ∷ 2 ∷ 1 ∷ 7 ∷ [] }
+    ensures first { (s : State) (near : ℕ) (to : AddressParts) (row : Row) →
+        row.packets ≡ 0 → row.session.sealed ≡ 0 →
+        sent_in_pieces s near to row (piece 0 false (7 ∷ []) ∷ [])
+        ≡ then_do (nothing (with_row s near (record row { packets = 1 })))
+        (λ t. sent_bodies t near to ((0x7f ∷ 0 ∷ 4 ∷ 0 ∷ 1 ∷ 0 ∷ 7 ∷ []) ∷ [])) }
+    ensures last_counts { (session : SessionState) →
+        has_counts (new_row (record session { sealed = 2 ^ 64 - 4 })) 3 ≡ true }
+    ensures one_lacks { (session : SessionState) →
+        has_counts (new_row (record session { sealed = 2 ^ 64 - 3 })) 3 ≡ false }
+    ensures last_id { (row : Row) → row.session.sealed ≡ 0 →
+        has_counts (record row { packets = 2 ^ 64 - 2 }) 3 ≡ true }
+    ensures no_id { (row : Row) → row.session.sealed ≡ 0 →
+        has_counts (record row { packets = 2 ^ 64 - 1 }) 3 ≡ false }
+    ensures none { (s : State) (near : ℕ) (to : AddressParts) (row : Row)
+        (pieces : List PieceParts) → has_counts row (length pieces) ≡ false →
+        sent_in_pieces s near to row pieces ≡ nothing s }
 {}
 
 /// The session ID after 2^32 - 1 is 0, which no session has.

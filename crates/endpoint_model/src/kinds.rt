@@ -1,7 +1,7 @@
 //! The types of chunks: for each how its chunks are judged, and who takes them.
 
 ghost use Rattle.std.specs.Prelude.{◌≡◌, true};
-ghost use Rattle.endpoint_model.specs.Causes.{is_stray, stage_takes, takes, takes_in};
+ghost use Rattle.endpoint_model.specs.Causes.{stage_takes, takes, takes_in};
 ghost use Rattle.endpoint_model.specs.Kinds.{IsKind, IsRow};
 ghost use Rattle.endpoint_model.specs.Gathering.{may_be_gathered};
 ghost use Rattle.endpoint_model.specs.Kinds.{at_startup, in_attempts, in_sessions, is_initiator};
@@ -151,15 +151,6 @@ impl KindRow {
         ensures { result ≡ takes_in place walk.now self.now.kind }
     {
         self.takes(place) && (self.may_be_gathered() || !walk.gathered)
-    }
-
-    /// Whether a chunk of this type is a fragment that is no piece: outside of sessions, or in a
-    /// packet that was gathered.
-    pub fn is_stray(&self, place: Place, walk: &Walk) -> bool
-        requires { IsRow self.now }
-        ensures { result ≡ is_stray place walk.now self.now.kind }
-    {
-        matches!(self.way, Way::Fragment) && (!matches!(place, Place::Session(_)) || walk.gathered)
     }
 
     /// Whether a session takes chunks of this type as it stands, of those that sessions take.

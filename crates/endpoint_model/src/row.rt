@@ -17,4 +17,6 @@ pub struct Row {
     pub flows: Flows,
     /// The packets of which pieces came.
     pub gathering: Reassembly,
+    /// How many packets of it were sent in pieces; the last one had this ID.
+    pub packets: u64,
 }

@@ -1,6 +1,6 @@
 //! One end of a session.
 
-ghost use Rattle.std.specs.Prelude.{◌≡◌, ◌↔◌, ◌+◌, ◌<◌, ◌^◌, IsTrue, List, ℕ, false, true, is_none, ◌≤◌, length, IfSome};
+ghost use Rattle.std.specs.Prelude.{◌≡◌, ◌↔◌, ◌+◌, ◌<◌, ◌^◌, IsTrue, List, ℕ, false, true, is_none, ◌≤◌, length, nat_le, ◌-◌, IfSome};
 ghost use Rattle.rtmfp_base.specs.Reasons.{where_true};
 ghost use Rattle.session_core.specs.Session.{SessionState, context_between, context_of, first_stage, new_session, is_opening, confirmed, mode_of, head_at, with_stamps, moved_to};
 ghost use Rattle.session_core.specs.Closing.{is_held, is_near_close, closed_near, asked_to_close, close_answered, first_due, after_due, needs_keepalive, kept_alive, with_acknowledged, with_loss};
@@ -398,6 +398,13 @@ impl Session {
         ensures count { self.now.sealed < 2 ^ 64 }
     {
         self.sealed == u64::MAX
+    }
+
+    /// Whether so many counts are left, each for one packet.
+    pub fn has_counts(&self, count: u64) -> bool
+        ensures { result ≡ nat_le (self.now.sealed + count) (2 ^ 64 - 1) }
+    {
+        count <= u64::MAX - self.sealed
     }
 
     /// The session's datagrams are sent to this address from now on.
