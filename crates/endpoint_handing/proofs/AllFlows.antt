@@ -1,5 +1,5 @@
 -- All that an end does with flows, thing by thing.
-use Rattle.std.proofs.Common.{◌≡◌, ℕ, zero, suc, List, [], ◌∷◌, ◌++◌, map, length, Bool, true}
+use Rattle.std.proofs.Common.{arith, ◌≡◌, ℕ, zero, suc, List, [], ◌∷◌, ◌++◌, map, length, Bool, true}
 use Rattle.std.proofs.Common.{false, if◌then◌else◌}
 use Rattle.std.proofs.Common.{Option, Some, None, inl, inr, refl, sym, ap, subst, ◌∙◌}
 use Rattle.std.specs.Prelude.{slice_get, slice_set}
@@ -185,15 +185,15 @@ module _ (c : Context) (s : FlowsState) (metadata : List ℕ) (answers : Option 
 
 module _ (e : End) (facts : List Fact) (s : State) (near : ℕ) (row : Row) (there : get s.sessions near ≡ Some row) where
   of_late : (b : Bool) (flows : FlowsState) → IsOfIt e facts s near row there (record row { session = if b then with_loss true row.session else row.session; flows = flows })
-  of_late true flows = record { joined = refl; own = refl; role = refl; generation = refl; inward = refl; outward = refl }
-  of_late false flows = record { joined = refl; own = refl; role = refl; generation = refl; inward = refl; outward = refl }
+  of_late true flows = record { joined = refl; own = refl; role = refl; generation = refl; inward = refl; outward = refl; gathering = refl; packets = omega arith }
+  of_late false flows = record { joined = refl; own = refl; role = refl; generation = refl; inward = refl; outward = refl; gathering = refl; packets = omega arith }
 
   of_lost : (b : Bool) (bytes : ℕ) (flows : FlowsState) → IsOfIt e facts s near row there (record row { session = lost_if b (with_acknowledged bytes row.session); flows = flows })
-  of_lost true bytes flows = record { joined = refl; own = refl; role = refl; generation = refl; inward = refl; outward = refl }
-  of_lost false bytes flows = record { joined = refl; own = refl; role = refl; generation = refl; inward = refl; outward = refl }
+  of_lost true bytes flows = record { joined = refl; own = refl; role = refl; generation = refl; inward = refl; outward = refl; gathering = refl; packets = omega arith }
+  of_lost false bytes flows = record { joined = refl; own = refl; role = refl; generation = refl; inward = refl; outward = refl; gathering = refl; packets = omega arith }
 
   of_heard : (a : Told) (o : Option Flow) (flows : FlowsState) → IsOfIt e facts s near row there (record row { session = opened_by row.session a o; flows = flows })
-  of_heard a None flows = record { joined = refl; own = refl; role = refl; generation = refl; inward = refl; outward = refl }
+  of_heard a None flows = record { joined = refl; own = refl; role = refl; generation = refl; inward = refl; outward = refl; gathering = refl; packets = omega arith }
   of_heard a (Some f) flows = of_lost (makes_lost a f.sender) _ flows
 
   of_chunk : (chunk : DataChunk) (flows : FlowsState) → IsOfIt e facts s near row there (record row { session = session_after row.session row.flows chunk; flows = flows })

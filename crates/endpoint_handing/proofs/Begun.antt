@@ -20,13 +20,16 @@ use Rattle.endpoint_laws.specs.Contexts.{Secrets}
 use Rattle.endpoint_laws.specs.Groups.{HasSecret}
 use Rattle.endpoint_laws.proofs.Kin.{HoldsSecrets}
 use Rattle.flow_history.specs.Deeds.{Context, Begins, done, History}
-use Rattle.flow_history.specs.Lawful.{HasBegun}
+use Rattle.flow_history.specs.Lawful.{HasBegun, WasSplitBy}
+use Rattle.flow_history.proofs.Splitting.{split_begun, split_before, split_by_before}
+use Rattle.endpoint_handing.proofs.PartsHeld.{held_wider}
+use Rattle.endpoint_handing.proofs.Split.{split_by_is}
 use Rattle.endpoint_handing.specs.Once.{SendsIn}
 use Rattle.endpoint_handing.specs.Told.{sends_in, sending_context}
 use Rattle.session_deeds.specs.Deeds.{none_yet}
 use Rattle.session_deeds.proofs.Chunks.{none_at_first}
 use Rattle.session_flows.specs.Keeping.{no_flows}
-use Rattle.endpoint_handing.proofs.Kept.{End, away, FlowsKept, RowKept, HasStarted, Stands, Does}
+use Rattle.endpoint_handing.proofs.Kept.{End, away, FlowsKept, PartCame, RowKept, HasStarted, Stands, Does}
 use Rattle.endpoint_handing.proofs.Deeding.{grows_by, kept_by, begins_leaves_be, begun_now}
 use Rattle.endpoint_handing.proofs.Deeding.{begins_orders}
 use Rattle.endpoint_handing.proofs.Silent.{AllHad, row_same}
@@ -80,7 +83,7 @@ module _ (e : End) (facts : List Fact) (s t : State) (role : Role) (j : Joined) 
   abbrev more : List Fact
   more = first_fact role j ∷ facts
 
-  module _ (own : t.startup.ledger.own ≡ s.startup.ledger.own) (group : HoldsSecrets e.secrets s → HasSecret e.secrets g) (had : AllHad s.sessions rest) (is : t.sessions ≡ insert rest j.near (new_row session)) (h : History) (stands : Stands e facts s h) where
+  module _ (own : t.startup.ledger.own ≡ s.startup.ledger.own) (group : HoldsSecrets e.secrets s → HasSecret e.secrets g) (had : AllHad s.sessions rest) (is : t.sessions ≡ insert rest j.near (new_row session)) (h : History) (stands : Stands e facts s h) (anew : HasStarted e facts (sends_in role e.own j) → ⊥) where
     mine : t.startup.ledger.own ≡ e.own
     mine = own ∙ stands.state.own
 
@@ -92,6 +95,11 @@ module _ (e : End) (facts : List Fact) (s t : State) (role : Role) (j : Joined) 
 
     abbrev after : History
     after = done e.who (Begins c) ∷ h
+
+    unsplit : (id : ℕ) → WasSplitBy e.who c id h → ⊥
+    unsplit id was =
+        let k = split_by_is e.who c id h was in
+        anew (stands.begun c (split_begun c id k.0 k.1 h stands.lawful k.2))
 
     new_kept : RowKept e more j.near (new_row session) after
     new_kept = record {
@@ -109,6 +117,8 @@ module _ (e : End) (facts : List Fact) (s t : State) (role : Role) (j : Joined) 
         sends = λ f. (begun_now e.who c h f).0;
         takes = λ f. (begun_now e.who c h f).1;
       });
+      held = tt;
+      split = λ id was. absurd (unsplit id (split_by_before e.who e.who (Begins c ∷ []) c id h (tt, tt) (subst (λ (x : Context). WasSplitBy e.who x id after) context was)));
     }
 
     old_kept : (q : ℕ) (row : Row) → (q ≡ j.near → ⊥) → RowKept e facts q row h → RowKept e more q row after
@@ -119,6 +129,8 @@ module _ (e : End) (facts : List Fact) (s t : State) (role : Role) (j : Joined) 
       named = named_still e.own role j facts q other ∙ k.named;
       flows = kept_by e.who (away row.session) row.flows (Begins c) h
           (begins_leaves_be c (away row.session) (contexts_apart role row.session.role e.own row.session.own j row.session.joined (λ (same : row.session.joined.near ≡ j.near). other (sym k.id ∙ same)))) k.flows;
+      held = held_wider (PartCame e.who (away row.session) h) (PartCame e.who (away row.session) after) row.gathering (λ id x came. inr came) k.held;
+      split = λ id was. k.split id (split_by_before e.who e.who (Begins c ∷ []) (away row.session) id h (tt, tt) was);
     }
 
     rows_kept : (q : ℕ) (row : Row) → get t.sessions q ≡ Some row → RowKept e more q row after
@@ -140,14 +152,16 @@ module _ (e : End) (facts : List Fact) (s t : State) (role : Role) (j : Joined) 
   does_begin may own holds group had is h stands new =
       let context_of_it : Context = sends_in role e.own j in
       let later : History = done e.who (Begins context_of_it) ∷ h in
+      let anew : HasStarted e facts context_of_it → ⊥ = new.0 context_of_it (sends_then e.own role j) in
       record {
         after = later;
         grows = grows_by e.who (Begins context_of_it) h;
         stands = record {
           lawful = ((λ was. new.0 context_of_it (sends_then e.own role j) (stands.begun context_of_it was)), stands.lawful);
           honest = (tt, stands.honest);
-          begun = started own group had is h stands;
-          state = record { own = own ∙ stands.state.own; rows = rows_kept own group had is h stands };
+          begun = started own group had is h stands anew;
+          splits = λ d id size packet was. inr (stands.splits d id size packet (split_before e.who (Begins context_of_it ∷ []) d id size packet h (tt, tt) was));
+          state = record { own = own ∙ stands.state.own; rows = rows_kept own group had is h stands anew };
           holds = holds e.secrets stands.holds;
         };
         log = refl;

@@ -26,10 +26,11 @@ use Rattle.session_core.specs.Stamps.{tick_of, echo_of}
 use Rattle.session_core.specs.Sealed.{number_bytes, sealed_part}
 use Rattle.endpoint_model.specs.Admission.{packet_in}
 use Rattle.endpoint_model.specs.Sending.{session_packet, session_datagram}
-use Rattle.flow_history.specs.Deeds.{Piece, Part}
+use Rattle.flow_history.specs.Deeds.{Piece}
 use Rattle.endpoint_laws.specs.Contexts.{generation_of}
 use Rattle.endpoint_handing.specs.Told.{sends_in}
-use Rattle.session_deeds.specs.Pieces.{pieces_at, pieces_read, pieces_behind, pieces_of}
+use Rattle.rtmfp_chunks.specs.FieldReading.{chunk_reading}
+use Rattle.session_deeds.specs.Pieces.{pieces_at, pieces_read, parts_read, pieces_behind, pieces_of}
 use Rattle.endpoint_handing.proofs.Pieces.{pieces_whole, keys_in, pieces_in}
 use Rattle.endpoint_handing.proofs.Kept.{away, session_of}
 
@@ -89,7 +90,7 @@ head_read Initiator tick (Some echo) body = (_, _, refl)
 head_read Responder tick None body = (_, _, refl)
 head_read Responder tick (Some echo) body = (_, _, refl)
 
-packet_pieces : (session : SessionState) (moment : ℕ) (body : List ℕ) → pieces_whole (packet_in (session_packet session moment body)) ≡ body_pieces body
+pub packet_pieces : (session : SessionState) (moment : ℕ) (body : List ℕ) → pieces_whole (packet_in (session_packet session moment body)) ≡ body_pieces body
 packet_pieces session moment body =
     let found = head_read session.role (tick_of moment) (echo_of session.stamp moment) body in
     ap pieces_whole found.2 ∙ placed_pieces None found.1 0 (body_of body).chunks
@@ -137,15 +138,19 @@ beside_all before kind payload is = beside_read (kind == 0x10) (kind == 0x11) (k
 
 pub beside_pieces : (before : Option Numbers) (kind : ℕ) (payload : List ℕ) → IsBeside kind → pieces_at before kind payload ≡ []
 beside_pieces before kind payload is =
-    ap (λ (b : Bool). if b then Part ∷ [] else pieces_read (data_reading before kind payload)) is.part ∙ beside_all before kind payload is
+    ap (λ (b : Bool). if b then parts_read (chunk_reading kind payload) else pieces_read (data_reading before kind payload)) is.part ∙ beside_all before kind payload is
 
 one_piece : (b : Bool) (c : Placed) → IsBeside c.kind → pieces_of (cond b (c ∷ []) []) ≡ []
 one_piece true c is = append-nil (pieces_at None c.kind c.payload) ∙ beside_pieces None c.kind c.payload is
 one_piece false c is = refl
 
-pub one_beside : (chunk : Written) → IsChunk chunk → IsBeside chunk.kind → body_pieces (written_bytes chunk) ≡ []
-one_beside chunk is beside =
+-- the pieces of one chunk alone
+pub one_chunk : (chunk : Written) → IsChunk chunk → body_pieces (written_bytes chunk) ≡ pieces_of (cond (not (is_ignored chunk.kind)) (record { kind = chunk.kind; at = 0; payload = chunk.payload } ∷ []) [])
+one_chunk chunk is =
     let spelled : body_of (written_bytes chunk) ≡ record { chunks = chunk ∷ []; padding = [] } =
     ap body_of (sym (append-nil (written_bytes chunk)) ∙ sym (append-nil (written_bytes chunk ++ []))) ∙ body_of-spelled (chunk ∷ []) [] (is, tt) tt in
     ap (λ (b : Body). pieces_of (visible (all_placed_from 0 b.chunks))) spelled
-    ∙ one_piece (not (is_ignored chunk.kind)) (record { kind = chunk.kind; at = 0; payload = chunk.payload }) beside
+
+pub one_beside : (chunk : Written) → IsChunk chunk → IsBeside chunk.kind → body_pieces (written_bytes chunk) ≡ []
+one_beside chunk is beside =
+    one_chunk chunk is ∙ one_piece (not (is_ignored chunk.kind)) (record { kind = chunk.kind; at = 0; payload = chunk.payload }) beside

@@ -1,6 +1,6 @@
 -- What the chunks of a datagram do.
 use Rattle.std.specs.Prelude.{if◌then◌else◌}
-use Rattle.std.proofs.Common.{◌≡◌, ℕ, ◌==◌, List, [], ◌∷◌, ◌++◌, Bool, true, false, ◌||◌}
+use Rattle.std.proofs.Common.{◌≡◌, ℕ, zero, suc, ◌==◌, List, [], ◌∷◌, ◌++◌, take, Bool, true, false, ◌||◌}
 use Rattle.std.proofs.Common.{Option, Some, None, Result, Ok, Err, inl, inr, ◌⊎◌, refl, sym, ap}
 use Rattle.std.proofs.Common.{subst, ◌∙◌}
 use Rattle.std.specs.FinMap.{get}
@@ -34,15 +34,18 @@ use Rattle.endpoint_model.specs.State.{with_sessions, with_startup}
 use Rattle.endpoint_model.specs.Admission.{sid_at, group_at, attempt_group}
 use Rattle.endpoint_model.specs.FlowChunks.{is_of_flows, taking_cause, flow_cause, flow_taken_by}
 use Rattle.endpoint_model.specs.FlowChunks.{flow_taken}
-use Rattle.endpoint_model.specs.Causes.{takes, read_cause}
+use Rattle.endpoint_model.specs.Causes.{takes, read_cause, chunk_cause}
 use Rattle.endpoint_model.specs.Effects.{without_ended, with_born, with_opened}
-use Rattle.endpoint_model.specs.Effects.{initiator_keyed, chunk_did, read_done, walked, chunks_did}
-use Rattle.flow_history.specs.Deeds.{Context, back, Piece, History, Part}
-use Rattle.flow_history.specs.Lawful.{CameIn}
+use Rattle.endpoint_model.specs.Effects.{initiator_keyed, chunk_did, read_done, WalkStep, inset, walked}
+use Rattle.endpoint_model.specs.Effects.{in_order, steps_did, whole_at, steps_of}
+use Rattle.flow_history.specs.Deeds.{Context, back, Piece, History}
+use Rattle.flow_history.specs.Lawful.{CameIn, WasSent}
 use Rattle.endpoint_handing.specs.Told.{sending_context, facts_onto}
 use Rattle.rtmfp_data_chunks.proofs.Fitting.{what_is_read_fits, small_next}
 use Rattle.rtmfp_data_chunks.specs.Fitting.{FitsIn, AreSmall}
-use Rattle.session_deeds.specs.Pieces.{pieces_read, pieces_behind, pieces_at}
+use Rattle.session_deeds.specs.Pieces.{pieces_read, parts_read, pieces_behind, pieces_at, pieces_of}
+use Rattle.endpoint_handing.proofs.Pieces.{pieces_whole, pieces_plain}
+use Rattle.endpoint_handing.proofs.Gathered.{parts_at, hands_taken, completed_sent, came_now, stands_in, hands_in}
 use Rattle.endpoint_laws.proofs.Kin.{holds_still, group_known}
 use Rattle.endpoint_handing.proofs.Kept.{End, away, Stands, AreNew, new_split, IsStill, Hands, Does}
 use Rattle.endpoint_handing.proofs.Kept.{hands_after, does_after, does_nothing}
@@ -52,12 +55,13 @@ use Rattle.endpoint_laws.proofs.Small.{birth, Begins}
 use Rattle.endpoint_laws.proofs.Made.{by_hello, told_made, quiet_read_made, hello_made}
 use Rattle.endpoint_laws.proofs.Made.{initiator_made, responder_made}
 use Rattle.endpoint_laws.proofs.Spelled.{hello_kind}
-use Rattle.flow_history.proofs.Projected.{came_whole}
-use Rattle.endpoint_model.specs.Gathering.{piece_taken, piece_taken_by}
+use Rattle.endpoint_model.specs.Gathering.{piece_taken, whole_chunks, chunks_in}
+use Rattle.endpoint_model.specs.Admission.{has_mode, mode_at, packet_in}
+use Rattle.endpoint_model.specs.Keying.{chunks_of}
+use Rattle.rtmfp_packet.specs.Whole.{Whole}
+use Rattle.rtmfp_packet.specs.declared.head.PacketFault.{PacketFault}
+use Rattle.rtmfp_base.specs.declared.cause.Cause.{Cause}
 use Rattle.endpoint_model.proofs.FlowChunks.{of_flows}
-use Rattle.rtmfp_fragments.specs.Pieces.{piece}
-use Rattle.rtmfp_chunks.specs.declared.reading.ChunkFault.{ChunkFault}
-use Rattle.rtmfp_chunks.specs.Chunk.{Chunk, Fragment}
 use Rattle.endpoint_laws.proofs.ByKind.{is_kind, chunk_by_kind, is_taken}
 use Rattle.endpoint_handing.proofs.Items.{ended_silent, DoesAlways, quiet_does, does_started, does_sought, reply_bare}
 use Rattle.endpoint_handing.proofs.Owed.{FlowsHand}
@@ -173,7 +177,7 @@ module _ (e : End) (owed : FlowsHand e) (facts : List Fact) (s : State) (h : His
       responder = λ kind taken none formed. responder_made (quiet_does e) (begins_does e (may_begin e place 0x78 (λ q. refl) at (is_taken place walk 0x78 taken))) s (sid_at place) from c.payload facts h stands;
       told = λ told taken has. told_made (quiet_does e) s (sid_at place) from c facts h stands;
       flows = λ is taken none new. taken_at place c.kind (data_reading walk.cursor c.kind c.payload) (λ chunk read. (what_is_read_fits walk.cursor c.kind c.payload chunk small read).0) (is_taken place walk c.kind taken) is none (flows_came is);
-      piece = λ kind taken new. piece_at place (is_taken place walk 0x7f taken) (part_came kind);
+      piece = λ kind taken new. piece_at place (is_taken place walk 0x7f taken) (part_came kind) new;
       reads = λ taken formed none.
           by_hello (λ read. chunk_reading c.kind c.payload ≡ read → read_cause s place from read ≡ None → AreNew e facts (read_done s place from read).entries → Hands e facts (read_done s place from read) h)
           (λ tag cookie cert is none. hello_made (quiet_does e) (begins_does e (may_begin e place 0x70 (λ q. refl) at (subst (λ (k : ℕ). takes place k ≡ true) (hello_kind c.kind c.payload tag cookie cert is) (is_taken place walk c.kind taken)))) s place from tag cookie cert facts h stands)
@@ -184,22 +188,16 @@ module _ (e : End) (owed : FlowsHand e) (facts : List Fact) (s : State) (h : His
         flows_came : is_of_flows c.kind ≡ true → CameTo e place s (pieces_read (data_reading walk.cursor c.kind c.payload)) h
         flows_came is =
             subst (λ (pieces : List Piece). CameTo e place s pieces h)
-            (ap (λ (b : Bool). if b then Part ∷ [] else pieces_read (data_reading walk.cursor c.kind c.payload)) (of_flows (λ k. (k == 0x7f) ≡ false) refl refl refl refl refl refl c.kind is)) came
+            (ap (λ (b : Bool). if b then parts_read (chunk_reading c.kind c.payload) else pieces_read (data_reading walk.cursor c.kind c.payload)) (of_flows (λ k. (k == 0x7f) ≡ false) refl refl refl refl refl refl c.kind is)) came
 
-        -- A part of a packet didn't, since none goes out.
-        piece_by : (near : ℕ) (o : Option Row) → get s.sessions near ≡ o → CameTo e (Session near) s (Part ∷ []) h → (read : Result Chunk ChunkFault) → Hands e facts (piece_taken s near c.at read) h
-        piece_by near None is part (Ok (Fragment more id number bytes)) =
-            subst (λ (o : Option Row). Hands e facts (piece_taken_by s near c.at id (piece number more bytes) o) h) (sym is) (does_nothing e facts s h stands tt)
-        piece_by near None is part read = does_nothing e facts s h stands tt
-        piece_by near (Some row) is part read = absurd (came_whole e.who (back (away row.session)) h stands.lawful stands.honest (part row is Part (inl refl)))
+        -- and so did a piece of a packet
+        piece_at : (p : Place) → takes p 0x7f ≡ true → CameTo e p s (parts_read (chunk_reading c.kind c.payload)) h → AreNew e facts (piece_taken s (sid_at p) c.at (chunk_reading c.kind c.payload)).entries → Hands e facts (piece_taken s (sid_at p) c.at (chunk_reading c.kind c.payload)) h
+        piece_at (Startup generation) here part new = absurd (cc)
+        piece_at (Attempt near generation) here part new = absurd (cc)
+        piece_at (Session near) here part new = hands_taken e facts s near h stands c.at (chunk_reading c.kind c.payload) part new
 
-        piece_at : (p : Place) → takes p 0x7f ≡ true → CameTo e p s (Part ∷ []) h → Hands e facts (piece_taken s (sid_at p) c.at (chunk_reading c.kind c.payload)) h
-        piece_at (Startup generation) here part = absurd (cc)
-        piece_at (Attempt near generation) here part = absurd (cc)
-        piece_at (Session near) here part = piece_by near (get s.sessions near) refl part (chunk_reading c.kind c.payload)
-
-        part_came : c.kind ≡ 0x7f → CameTo e place s (Part ∷ []) h
-        part_came kind = subst (λ (pieces : List Piece). CameTo e place s pieces h) (ap (λ (k : ℕ). pieces_at walk.cursor k c.payload) kind) came
+        part_came : c.kind ≡ 0x7f → CameTo e place s (parts_read (chunk_reading c.kind c.payload)) h
+        part_came kind = subst (λ (pieces : List Piece). CameTo e place s pieces h) (parts_at walk.cursor c kind) came
 
         initiator_at : (p : Place) → takes p 0x38 ≡ true → e.begins → AreNew e facts (initiator_keyed s p from draws c.payload).entries → Hands e facts (initiator_keyed s p from draws c.payload) h
         initiator_at (Startup generation) taken may = initiator_made (quiet_does e) (begins_does e may) s generation from draws c.payload facts h stands
@@ -208,12 +206,12 @@ module _ (e : End) (owed : FlowsHand e) (facts : List Fact) (s : State) (h : His
 
 -- ---- one chunk after another
 
-pub in_first : (x : Piece) (xs ys : List Piece) → IsIn x xs → IsIn x (xs ++ ys)
+in_first : (x : Piece) (xs ys : List Piece) → IsIn x xs → IsIn x (xs ++ ys)
 in_first x [] ys among = absurd among
 in_first x (y ∷ xs) ys (inl is) = inl is
 in_first x (y ∷ xs) ys (inr among) = inr (in_first x xs ys among)
 
-pub in_second : (x : Piece) (xs ys : List Piece) → IsIn x ys → IsIn x (xs ++ ys)
+in_second : (x : Piece) (xs ys : List Piece) → IsIn x ys → IsIn x (xs ++ ys)
 in_second x [] ys among = among
 in_second x (y ∷ xs) ys among = inr (in_second x xs ys among)
 
@@ -238,7 +236,7 @@ first_came e (Session near) facts s before c cs h stands all = λ row there x am
     let one : List Piece = pieces_at before c.kind c.payload in
     subst (λ (d : Context). CameIn e.who (back d) x h) is (all.came x (in_first x one (pieces_behind (before_next (data_reading before c.kind c.payload)) cs) among))
 
-pub stays : (e : End) (near : ℕ) (facts more : List Fact) → (e.begins → ⊥) → e.begins ⊎ IsStill e.own near facts more → IsStill e.own near facts more
+stays : (e : End) (near : ℕ) (facts more : List Fact) → (e.begins → ⊥) → e.begins ⊎ IsStill e.own near facts more → IsStill e.own near facts more
 stays e near facts more never (inl may) = absurd (never may)
 stays e near facts more never (inr still) = still
 
@@ -252,14 +250,105 @@ rest_came e (Session near) facts before c cs h d at one all = record {
   came = λ x among. one.grows.came e.who (back all.context) x (all.came x (in_second x (pieces_at before c.kind c.payload) (pieces_behind (before_next (data_reading before c.kind c.payload)) cs) among));
 }
 
+pub came_after : (e : End) (place : Place) (facts : List Fact) (before : Option Numbers) (cs : List Placed) (h : History) (d : Did) → BeginsAt e place → (one : Hands e facts d h) → AllCameAt e place facts before cs h →
+    AllCameAt e place (facts_onto d.entries facts) before cs one.after
+came_after e (Startup generation) facts before cs h d at one all = tt
+came_after e (Attempt near generation) facts before cs h d at one all = tt
+came_after e (Session near) facts before cs h d at one all = record {
+  context = all.context;
+  named = stays e near facts (facts_onto d.entries facts) at (one.still near) ∙ all.named;
+  came = λ x among. one.grows.came e.who (back all.context) x (all.came x among);
+}
+
+-- ---- the packet that a chunk completes
+
+-- what its chunks have of flows is among what the packet has
+among_read : (s : State) (near : ℕ) (read : Result Whole PacketFault) (x : Piece) → IsIn x (pieces_of (whole_chunks s near read)) → IsIn x (pieces_whole read)
+among_read s near (Err fault) x among = among
+among_read s near (Ok packet) x among = by (has_mode packet.head (mode_at s (Session near))) among
+  where
+    by : (b : Bool) → IsIn x (pieces_of (if b then chunks_of packet else [])) → IsIn x (pieces_of (chunks_of packet))
+    by true among = among
+    by false among = absurd among
+
+-- What comes after a chunk, where the packet that the chunk completes, if it does, has come.
+module _ (e : End) (facts : List Fact) (s : State) (h : History) (stands : Stands e facts s h) (before : Option Numbers) (c : Placed) (cs : List Placed) (o : Option Cause) (d : Did) (one : Hands e facts d h) (later : Did) where
+  abbrev more : List Fact
+  more = facts_onto d.entries facts
+
+  abbrev next : Option Numbers
+  next = before_next (data_reading before c.kind c.payload)
+
+  abbrev Follows : Place → List Placed → Type 0
+  Follows place inner = (g : History) → Stands e more d.state g → AllCameAt e place more None inner g → AllCameAt e place more next cs g → Hands e more later g
+
+  in_session : (near : ℕ) → BeginsAt e (Session near) → AllCame e near facts before (c ∷ cs) h → (w : Option (List ℕ)) → whole_at s (Session near) o c ≡ w → Follows (Session near) (chunks_in s near w) → Hands e more later one.after
+  in_session near at all w is follows =
+      let still : sending_context e.own near more ≡ Some all.context = stays e near facts more at (one.still near) ∙ all.named in
+      let rest : (x : Piece) → IsIn x (pieces_behind next cs) → CameIn e.who (back all.context) x one.after =
+      λ x among. one.grows.came e.who (back all.context) x (all.came x (in_second x (pieces_at before c.kind c.payload) (pieces_behind next cs) among)) in
+      by still rest w is follows
+    where
+      by : sending_context e.own near more ≡ Some all.context → ((x : Piece) → IsIn x (pieces_behind next cs) → CameIn e.who (back all.context) x one.after) →
+          (w : Option (List ℕ)) → whole_at s (Session near) o c ≡ w → Follows (Session near) (chunks_in s near w) → Hands e more later one.after
+      by still rest None is follows = follows one.after one.stands
+          (record { context = all.context; named = still; came = λ x none. absurd none }) (record { context = all.context; named = still; came = rest })
+      by still rest (Some packet) is follows =
+          let sent = completed_sent e facts s near h stands before c (first_came e (Session near) facts s before c cs h stands all) o packet is in
+          let both : Some all.context ≡ Some (away sent.0.session) = sym all.named ∙ (stands.state.rows near sent.0 sent.1).named in
+          let same : all.context ≡ away sent.0.session = cc in
+          let here : Context = back all.context in
+          let pieces : List Piece = pieces_plain packet in
+          let went : WasSent here pieces h = subst (λ (a : Context). WasSent (back a) pieces h) (sym same) sent.2 in
+          hands_in e more here pieces one.after later (follows (came_now e more here pieces one.after)
+          (stands_in e more here pieces one.after d.state (one.grows.sent here pieces went) one.stands)
+          (record { context = all.context; named = still; came = λ x among. inl (refl, (refl, among_read s near (packet_in packet) x among)) })
+          (record { context = all.context; named = still; came = λ x among. inr (rest x among) }))
+
+  with_packet : (place : Place) → BeginsAt e place → AllCameAt e place facts before (c ∷ cs) h → Follows place (chunks_in s (sid_at place) (whole_at s place o c)) → Hands e more later one.after
+  with_packet (Startup generation) at all follows = follows one.after one.stands tt tt
+  with_packet (Attempt near generation) at all follows = follows one.after one.stands tt tt
+  with_packet (Session near) at all follows = in_session near at all (whole_at s (Session near) o c) refl follows
+
+-- ---- one step after another
+
 module _ (e : End) (owed : FlowsHand e) (place : Place) (from : AddressParts) (draws : Draws) (at : BeginsAt e place) where
-  pub hands_chunks : (cs : List Placed) (facts : List Fact) (walk : Walk) (s : State) (h : History) → Stands e facts s h → AreSmall walk.cursor → AllCameAt e place facts walk.cursor cs h → AreNew e facts (chunks_did place from draws walk s cs).entries →
-      Hands e facts (chunks_did place from draws walk s cs) h
-  hands_chunks [] facts walk s h stands small all new = does_nothing e facts s h stands tt
-  hands_chunks (c ∷ cs) facts walk s h stands small all new =
+  -- So many of the steps, in this state, with which come the chunks of a packet.
+  abbrev GoesOn : State → List WalkStep → Option Numbers → List Placed → Type 0
+  GoesOn s xs before cs = (count : ℕ) (facts : List Fact) (h : History) → Stands e facts s h → AllCameAt e place facts before cs h → AreNew e facts (steps_did place from draws s (take count xs)).entries →
+      Hands e facts (steps_did place from draws s (take count xs)) h
+
+  -- the chunks of a packet that was gathered, and then what comes behind it
+  hands_inner : (inner : List Placed) (walk : Walk) (s : State) (rest : List WalkStep) (before : Option Numbers) (cs : List Placed) → AreSmall walk.cursor → GoesOn (steps_did place from draws s (in_order walk inner)).state rest before cs →
+      (count : ℕ) (facts : List Fact) (h : History) → Stands e facts s h → AllCameAt e place facts walk.cursor inner h → AllCameAt e place facts before cs h →
+      AreNew e facts (steps_did place from draws s (take count (in_order walk inner ++ rest))).entries → Hands e facts (steps_did place from draws s (take count (in_order walk inner ++ rest))) h
+  hands_inner [] walk s rest before cs small goes count facts h stands all later new = goes count facts h stands later new
+  hands_inner (c ∷ inner) walk s rest before cs small goes zero facts h stands all later new = does_nothing e facts s h stands tt
+  hands_inner (c ∷ inner) walk s rest before cs small goes (suc count) facts h stands all later new =
       let d : Did = chunk_did place from draws walk s c in
-      let later : Did = chunks_did place from draws (walked walk c) d.state cs in
-      let parts = new_split e d.entries later.entries facts new in
+      let onward : Did = steps_did place from draws d.state (take count (in_order (walked walk c) inner ++ rest)) in
+      let parts = new_split e d.entries onward.entries facts new in
+      let one : Hands e facts d h = hands_chunk e owed facts s h stands place walk from draws c at small (first_came e place facts s walk.cursor c inner h stands all) parts.0 in
+      hands_after e facts d.state d.entries onward h one
+      (hands_inner inner (walked walk c) d.state rest before cs (small_next walk.cursor c.kind c.payload small) goes count (facts_onto d.entries facts) one.after one.stands
+      (rest_came e place facts walk.cursor c inner h d at one all) (came_after e place facts before cs h d at one later) parts.1)
+
+  -- the chunks of a packet, and behind each piece that completes another packet those of that one
+  pub hands_steps : (cs : List Placed) (walk : Walk) (s : State) → AreSmall walk.cursor → GoesOn s (steps_of place from draws walk s cs) walk.cursor cs
+  hands_steps [] walk s small zero facts h stands all new = does_nothing e facts s h stands tt
+  hands_steps [] walk s small (suc count) facts h stands all new = does_nothing e facts s h stands tt
+  hands_steps (c ∷ cs) walk s small zero facts h stands all new = does_nothing e facts s h stands tt
+  hands_steps (c ∷ cs) walk s small (suc count) facts h stands all new =
+      let o : Option Cause = chunk_cause s place walk from c in
+      let inner : List Placed = chunks_in s (sid_at place) (whole_at s place o c) in
+      let d : Did = chunk_did place from draws walk s c in
+      let t : State = (steps_did place from draws d.state (in_order inset inner)).state in
+      let rest : List WalkStep = steps_of place from draws (walked walk c) t cs in
+      let onward : Did = steps_did place from draws d.state (take count (in_order inset inner ++ rest)) in
+      let parts = new_split e d.entries onward.entries facts new in
       let one : Hands e facts d h = hands_chunk e owed facts s h stands place walk from draws c at small (first_came e place facts s walk.cursor c cs h stands all) parts.0 in
-      hands_after e facts d.state d.entries later h one
-      (hands_chunks cs (facts_onto d.entries facts) (walked walk c) d.state one.after one.stands (small_next walk.cursor c.kind c.payload small) (rest_came e place facts walk.cursor c cs h d at one all) parts.1)
+      let next : Option Numbers = before_next (data_reading walk.cursor c.kind c.payload) in
+      let goes : GoesOn t rest next cs = hands_steps cs (walked walk c) t (small_next walk.cursor c.kind c.payload small) in
+      hands_after e facts d.state d.entries onward h one
+      (with_packet e facts s h stands walk.cursor c cs o d one onward place at all
+      (λ g now gathered later. hands_inner inner inset d.state rest next cs tt goes count (facts_onto d.entries facts) g now gathered later parts.1))

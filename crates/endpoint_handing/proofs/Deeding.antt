@@ -34,6 +34,8 @@ grows_by who deed h = record {
   came = λ other c piece w. inr w;
   given = λ n x w. inr w;
   told = λ n a w. inr w;
+  split = λ c id size packet w. inr w;
+  others = λ other c id ne w. elim w [ inl e ↦ absurd (ne (sym e.0)) | inr before ↦ before ];
   ordered = λ b n o. o.1;
 }
 

@@ -36,8 +36,8 @@ use Rattle.endpoint_laws.specs.Groups.{HasSecret}
 use Rattle.endpoint_laws.specs.Contexts.{Secrets, Knows, generation_of}
 use Rattle.endpoint_laws.specs.Agreed.{HaveOneMap}
 use Rattle.endpoint_handing.proofs.Bodies.{session_generation}
-use Rattle.flow_history.specs.Deeds.{Context, back, Name, History as Flowing}
-use Rattle.flow_history.specs.Lawful.{HasBegun, IsLawful, WasSent, IsHonest}
+use Rattle.flow_history.specs.Deeds.{Context, back, Part, Name, History as Flowing}
+use Rattle.flow_history.specs.Lawful.{HasBegun, IsLawful, WasSent, WasSplitBy, IsHonest}
 use Rattle.flow_history.specs.Log.{HasOrder, log_of as told_of}
 use Rattle.flow_history.proofs.Keeps.{tested}
 use Rattle.flow_history.proofs.Names.{number_self}
@@ -48,7 +48,8 @@ use Rattle.endpoint_handing.specs.Orders.{OpensIt, HasOrder as IsOrdered}
 use Rattle.endpoint_handing.proofs.Once.{begins_once, names_sender}
 use Rattle.endpoint_handing.proofs.Pieces.{pieces_in}
 use Rattle.endpoint_laws.proofs.Kin.{HoldsSecrets, holds_still}
-use Rattle.endpoint_handing.proofs.Kept.{End, away, session_of, FlowsKept, HasKeys, RowKept, StateKept}
+use Rattle.endpoint_handing.proofs.Kept.{End, away, session_of, FlowsKept, HasKeys, PartCame, RowKept, StateKept, AreSplitsSent}
+use Rattle.endpoint_handing.proofs.PartsHeld.{AllHeld, held_wider}
 use Rattle.endpoint_handing.proofs.Kept.{HasStarted}
 use Rattle.endpoint_handing.proofs.Kept.{Stands, IsNew, AreNew}
 use Rattle.endpoint_handing.proofs.Kept.{Grows, WentIn, OutWent, OutsWent, Hands}
@@ -121,6 +122,7 @@ pub record Carried (secrets : Secrets) (ends : ℕ → Setup) (history : History
   pub lawful : IsLawful flows
   pub honest : IsHonest flows
   pub begun : (c : Context) → HasBegun c flows → Somewhere ends history c
+  pub splits : AreSplitsSent flows
   pub kept : (a : ℕ) → StateKept (plain_end secrets ends a) (facts_at a history) (states a) flows
   pub log : told_of flows ≡ told ends history
   -- under the secret of its generation
@@ -138,6 +140,8 @@ row_as e f facts near row h who own secrets k = record {
   keyed = subst (λ (given : Secrets). HasKeys given row.session) secrets k.keyed;
   named = ap (λ (o : List ℕ). sending_context o near facts) (sym own) ∙ k.named;
   flows = subst (λ (w : ℕ). FlowsKept w (away row.session) row.flows h) who k.flows;
+  held = subst (λ (w : ℕ). AllHeld (PartCame w (away row.session) h) row.gathering) who k.held;
+  split = λ id was. k.split id (subst (λ (w : ℕ). WasSplitBy w (away row.session) id h) (sym who) was);
 }
 
 state_as : (e f : End) (facts : List Fact) (s : State) (h : Flowing) → e.who ≡ f.who → e.own ≡ f.own → e.secrets ≡ f.secrets → StateKept e facts s h → StateKept f facts s h
@@ -152,7 +156,15 @@ state_beside e who facts s h after ne grows k = record {
   own = k.own;
   rows = λ near row there.
       (let r = k.rows near row there in
-      record { id = r.id; own = r.own; keyed = r.keyed; named = r.named; flows = kept_beside who e.who (away row.session) row.flows h after ne grows r.flows });
+      record {
+        id = r.id;
+        own = r.own;
+        keyed = r.keyed;
+        named = r.named;
+        flows = kept_beside who e.who (away row.session) row.flows h after ne grows r.flows;
+        held = held_wider (PartCame e.who (away row.session) h) (PartCame e.who (away row.session) after) row.gathering (λ id x came. grows.came e.who (back (away row.session)) (Part id x) came) r.held;
+        split = λ id was. r.split id (grows.others e.who (away row.session) id ne was);
+      });
 }
 
 fresh_kept : (secrets : Secrets) (ends : ℕ → Setup) (a : ℕ) (h : Flowing) → StateKept (plain_end secrets ends a) [] (fresh (ends a)) h
@@ -265,7 +277,7 @@ module _ (secrets : Secrets) (ends : ℕ → Setup) (owed : (e : End) → FlowsH
       holds_still secrets (states who) noted tied.holds refl refl refl
 
   stands : Stands it facts noted carried.flows
-  stands = record { lawful = carried.lawful; honest = carried.honest; begun = started; state = kept_now; holds = holds_now }
+  stands = record { lawful = carried.lawful; honest = carried.honest; begun = started; splits = carried.splits; state = kept_now; holds = holds_now }
 
   -- ---- what begins is new
 
@@ -381,6 +393,7 @@ module _ (secrets : Secrets) (ends : ℕ → Setup) (owed : (e : End) → FlowsH
       lawful = hands.stands.lawful;
       honest = hands.stands.honest;
       begun = begun_now;
+      splits = hands.stands.splits;
       kept = kept_all;
       log = hands.log ∙ ap (told_onto own facts entries) carried.log;
       outs = outs_now;
@@ -408,6 +421,7 @@ carried secrets ends owed [] given states stand = record {
   lawful = tt;
   honest = tt;
   begun = λ c none. absurd none;
+  splits = λ c id size packet none. absurd none;
   kept = λ a. subst (λ (s : State). StateKept (plain_end secrets ends a) [] s []) (stand a) (fresh_kept secrets ends a []);
   log = refl;
   outs = λ sealing c secret datagram is_of known none. absurd none;

@@ -50,6 +50,7 @@ use Rattle.endpoint_handing.proofs.Plain.{close_none, close_ack_none, ping_none,
 use Rattle.endpoint_handing.proofs.Plain.{hello_none}
 use Rattle.endpoint_laws.proofs.Kin.{IsKin, holds_still}
 use Rattle.endpoint_handing.proofs.Sent.{startup_silent, does_out}
+use Rattle.endpoint_handing.proofs.Parting.{does_in_pieces}
 
 -- ---- silent entries
 
@@ -75,7 +76,7 @@ unsought_silent near why = record { told = λ own facts. refl; context = λ own 
 moved_silent : (near : ℕ) (to : AddressParts) → IsSilent (Moved near to)
 moved_silent near to = record { told = λ own facts. refl; context = λ own id facts. refl; out = λ secrets h. tt; no_message = refl }
 
-discard_silent : (at : ℕ) (cause : Cause) → IsSilent (Discard at cause)
+pub discard_silent : (at : ℕ) (cause : Cause) → IsSilent (Discard at cause)
 discard_silent at cause = record { told = λ own facts. refl; context = λ own id facts. refl; out = λ secrets h. tt; no_message = refl }
 
 -- ---- states that are alike
@@ -89,7 +90,7 @@ alike_row s near old new there same = record { own = refl; holds = λ secrets ho
 same_on : (old new : Row) → GoesOn old new → IsSame old new
 same_on old new goes =
     let l = goes.descends.same in
-    record { joined = ap (λ (k : Lasting). k.joined) l; own = ap (λ (k : Lasting). k.own) l; role = ap (λ (k : Lasting). k.role) l; generation = ap (λ (k : Lasting). k.generation) l; inward = ap (λ (k : Lasting). k.inward) l; outward = ap (λ (k : Lasting). k.outward) l; flows = goes.flows }
+    record { joined = ap (λ (k : Lasting). k.joined) l; own = ap (λ (k : Lasting). k.own) l; role = ap (λ (k : Lasting). k.role) l; generation = ap (λ (k : Lasting). k.generation) l; inward = ap (λ (k : Lasting). k.inward) l; outward = ap (λ (k : Lasting). k.outward) l; flows = goes.flows; gathering = goes.pieces; packets = goes.packets }
 
 -- ---- small things
 
@@ -114,6 +115,7 @@ module _ (e : End) where
       steps = record { does_nothing = λ s facts. does_nothing e facts s; and_then = λ s d f first later facts. does_then e facts s d (λ t. f) (first facts) (later (facts_onto d.entries facts)) };
       out = λ s generation keys to sid plain. does_one s (with_sealed s (s.sealed + 1)) _ (startup_silent to (startup_datagram s keys sid plain) generation) (record { own = refl; holds = λ secrets holds. holds_still secrets s _ holds refl refl refl; rows = had_it s.sessions });
       out_in = λ s near row to body is bare facts. does_out e facts s near to body row is bare;
+      parts = λ s near row to body is bare long has facts. does_in_pieces e facts s near to body row is has bare;
     };
     attempts = λ s startup kin. does_change s (with_startup s startup) (alike_startup s startup kin);
     close = close_none;

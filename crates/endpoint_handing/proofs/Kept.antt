@@ -1,6 +1,6 @@
 -- What an end keeps of the flows of its sessions, beside a history of flows; and what one thing
 -- that the end does adds to both.
-use Rattle.std.proofs.Common.{◌≡◌, ℕ, List, [], ◌∷◌, ◌++◌, Bool}
+use Rattle.std.proofs.Common.{◌≡◌, ℕ, ◌≤◌, List, [], ◌∷◌, ◌++◌, Bool}
 use Rattle.std.proofs.Common.{Option, Some, None, inl, inr, ◌⊎◌, refl, sym, ap, subst, ◌∙◌}
 use Rattle.std.specs.FinMap.{get}
 use Rattle.crypto_profile.specs.declared.keys.Context.{Context as Sealing}
@@ -17,15 +17,17 @@ use Rattle.endpoint_laws.specs.Contexts.{Secrets, generation_of}
 use Rattle.endpoint_laws.proofs.Kin.{HoldsSecrets}
 use Rattle.flow_history.specs.Flow.{Carried, sending_at, taking_at}
 use Rattle.flow_history.specs.Said.{WasGiven, WasTold}
-use Rattle.flow_history.specs.Deeds.{Context, back, Name, name, Piece, History, steps_of}
-use Rattle.flow_history.specs.Lawful.{HasBegun, CameIn, IsLawful, WasSent, IsHonest}
+use Rattle.flow_history.specs.Deeds.{Context, back, Name, name, Piece, Part, History, steps_of}
+use Rattle.flow_history.specs.Lawful.{HasBegun, CameIn, WasSplit, WasSplitBy, IsLawful, WasSent, IsHonest}
 use Rattle.flow_history.specs.Log.{Entry as Tell, HasOrder, log_of}
 use Rattle.flow_history.specs.Keeping.{Flows}
 use Rattle.flow_send.specs.Acks.{Told}
 use Rattle.endpoint_handing.specs.Once.{SendsIn, HasBegun as HasStated}
 use Rattle.endpoint_handing.specs.Told.{AllHaveContext, sends_in, sending_context, told_at}
 use Rattle.endpoint_handing.specs.Told.{facts_onto, told_onto}
-use Rattle.endpoint_handing.proofs.Pieces.{pieces_in}
+use Rattle.endpoint_handing.proofs.Pieces.{pieces_in, pieces_plain}
+use Rattle.endpoint_handing.proofs.PartsHeld.{AllHeld}
+use Rattle.rtmfp_fragments.specs.Pieces.{PieceParts}
 use Rattle.session_deeds.specs.Shows.{Shows}
 
 -- ---- what is kept
@@ -58,7 +60,12 @@ pub record HasKeys (secrets : Secrets) (session : SessionState) : Type 0 where
   pub known : get secrets session.generation ≡ Some secret
   pub keyed : IsKeyed secret session
 
--- The row of a session is of this end, the last that began under its ID, and has its flows.
+-- the piece came in the context towards a session that sends in this one
+abbrev pub PartCame : ℕ → Context → History → ℕ → PieceParts → Type 0
+PartCame who c h id x = CameIn who (back c) (Part id x) h
+
+-- The row of a session is of this end, the last that began under its ID, and has its flows. The
+-- pieces that it holds came, and no packet was split under an ID above its last one.
 pub record RowKept (e : End) (facts : List Fact) (near : ℕ) (row : Row) (h : History)
     : Type 0 where
   pub id : row.session.joined.near ≡ near
@@ -66,6 +73,8 @@ pub record RowKept (e : End) (facts : List Fact) (near : ℕ) (row : Row) (h : H
   pub keyed : HasKeys e.secrets row.session
   pub named : sending_context e.own near facts ≡ Some (away row.session)
   pub flows : FlowsKept e.who (away row.session) row.flows h
+  pub held : AllHeld (PartCame e.who (away row.session) h) row.gathering
+  pub split : (id : ℕ) → WasSplitBy e.who (away row.session) id h → id ≤ row.packets
 
 pub record StateKept (e : End) (facts : List Fact) (s : State) (h : History) : Type 0 where
   pub own : s.startup.ledger.own ≡ e.own
@@ -76,10 +85,16 @@ pub record StateKept (e : End) (facts : List Fact) (s : State) (h : History) : T
 abbrev pub HasStarted : End → List Fact → Context → Type 0
 HasStarted e facts c = e.elsewhere c ⊎ HasStated (SendsIn e.own c) facts
 
+-- What a packet that was split has of flows went out.
+abbrev pub AreSplitsSent : History → Type 0
+AreSplitsSent h = (c : Context) (id size : ℕ) (packet : List ℕ) → WasSplit c id size packet h →
+    WasSent c (pieces_plain packet) h
+
 pub record Stands (e : End) (facts : List Fact) (s : State) (h : History) : Type 0 where
   pub lawful : IsLawful h
   pub honest : IsHonest h
   pub begun : (c : Context) → HasBegun c h → HasStarted e facts c
+  pub splits : AreSplitsSent h
   pub state : StateKept e facts s h
   pub holds : HoldsSecrets e.secrets s
 
@@ -95,6 +110,10 @@ pub record Grows (who : ℕ) (h after : History) : Type 0 where
       CameIn other c piece after
   pub given : (n : Name) (x : Carried) → WasGiven (steps_of n h) x → WasGiven (steps_of n after) x
   pub told : (n : Name) (a : Told) → WasTold (steps_of n h) a → WasTold (steps_of n after) a
+  pub split : (c : Context) (id size : ℕ) (packet : List ℕ) → WasSplit c id size packet h →
+      WasSplit c id size packet after
+  pub others : (other : ℕ) (c : Context) (id : ℕ) → (other ≡ who → ⊥) →
+      WasSplitBy other c id after → WasSplitBy other c id h
   pub ordered : (b : Bool) (n : Name) → HasOrder b n after → HasOrder b n h
 
 pub grows_not : (who : ℕ) (h : History) → Grows who h h
@@ -105,6 +124,8 @@ grows_not who h = record {
   came = λ other c piece w. w;
   given = λ n x w. w;
   told = λ n a w. w;
+  split = λ c id size packet w. w;
+  others = λ other c id ne w. w;
   ordered = λ b n o. o;
 }
 
@@ -116,6 +137,8 @@ grows_then who a b c p q = record {
   came = λ other d piece w. q.came other d piece (p.came other d piece w);
   given = λ n x w. q.given n x (p.given n x w);
   told = λ n x w. q.told n x (p.told n x w);
+  split = λ d id size packet w. q.split d id size packet (p.split d id size packet w);
+  others = λ other d id ne w. p.others other d id ne (q.others other d id ne w);
   ordered = λ b n o. p.ordered b n (q.ordered b n o);
 }
 

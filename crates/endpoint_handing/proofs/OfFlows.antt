@@ -1,5 +1,5 @@
 -- What an end does with the flows of a session goes with deeds of a history of flows.
-use Rattle.std.proofs.Common.{◌≡◌, ℕ, List, [], ◌∷◌, ◌++◌, map, length, drop, Bool}
+use Rattle.std.proofs.Common.{◌≡◌, ◌≤◌, arith, ℕ, List, [], ◌∷◌, ◌++◌, map, length, drop, Bool}
 use Rattle.std.proofs.Common.{Option, Some, None, inl, inr, refl, sym, ap, subst, ◌∙◌, append-nil}
 use Rattle.std.specs.Option.{option_map}
 use Rattle.std.specs.List.{flat_map}
@@ -26,7 +26,10 @@ use Rattle.endpoint_model.specs.OnFlows.{flow_entry}
 use Rattle.endpoint_model.specs.InSessions.{sent_home_by, sent_home}
 use Rattle.endpoint_laws.specs.Past.{fact_and}
 use Rattle.flow_history.specs.Deeds.{Context, back, Name, name, Piece, Data, Ack, Part, Out, History}
-use Rattle.flow_history.specs.Lawful.{MayDo}
+use Rattle.flow_history.specs.Lawful.{MayDo, WasSplitBy}
+use Rattle.rtmfp_fragments.specs.Held.{PacketParts}
+use Rattle.endpoint_handing.proofs.Pieces.{pieces_plain}
+use Rattle.endpoint_handing.proofs.PartsHeld.{AllHeld, held_wider}
 use Rattle.flow_history.specs.Log.{Entry as Tell, Queued as TellQueued, Abandoned as TellAbandoned}
 use Rattle.flow_history.specs.Log.{Handed as TellHanded, log_of}
 use Rattle.flow_history.specs.Keeping.{Flows}
@@ -38,12 +41,12 @@ use Rattle.session_deeds.specs.Laws.{Puts}
 use Rattle.endpoint_handing.specs.Told.{AllHaveContext, sending_context, told_in, told_at}
 use Rattle.endpoint_handing.specs.Told.{facts_onto, told_onto}
 use Rattle.endpoint_laws.proofs.Kin.{holds_still}
-use Rattle.endpoint_handing.proofs.Kept.{End, away, FlowsKept, RowKept, Stands, OutsWent, Hands}
+use Rattle.endpoint_handing.proofs.Kept.{End, away, FlowsKept, PartCame, RowKept, Stands, OutsWent, Hands}
 use Rattle.endpoint_handing.proofs.Kept.{Does, hands_after}
 use Rattle.endpoint_handing.proofs.Silent.{away_same, keys_same}
 use Rattle.endpoint_handing.proofs.Begun.{contexts_apart}
 use Rattle.endpoint_handing.proofs.Bodies.{body_pieces}
-use Rattle.endpoint_handing.proofs.Sent.{hands_sent}
+use Rattle.endpoint_handing.proofs.Parting.{hands_sent}
 use Rattle.endpoint_handing.proofs.Running.{HaveCome, Said, tell_of, told_on, messages_told}
 use Rattle.endpoint_handing.proofs.Running.{AllOpenAs, open_as, Ran, ran}
 
@@ -122,9 +125,11 @@ module _ (e : End) (facts : List Fact) (s : State) (near : ℕ) (row : Row) (the
     pub generation : new.session.generation ≡ row.session.generation
     pub inward : new.session.inward ≡ row.session.inward
     pub outward : new.session.outward ≡ row.session.outward
+    pub gathering : new.gathering ≡ row.gathering
+    pub packets : row.packets ≤ new.packets
 
   pub its_flows : (flows : FlowsState) → IsOfIt (record row { flows = flows })
-  its_flows flows = record { joined = refl; own = refl; role = refl; generation = refl; inward = refl; outward = refl }
+  its_flows flows = record { joined = refl; own = refl; role = refl; generation = refl; inward = refl; outward = refl; gathering = refl; packets = omega arith }
 
   module _ (new : Row) (it : IsOfIt new) (came : List Piece) (d : FlowsDid) (left : new.flows ≡ d.flows) (h : History) (stands : Stands e facts s h) (all : HaveCome e.who context came h) where
     abbrev row_kept : RowKept e facts near row h
@@ -163,6 +168,10 @@ module _ (e : End) (facts : List Fact) (s : State) (near : ℕ) (row : Row) (the
           sends = run.kept.sends;
           takes = run.kept.takes;
         });
+        held = subst (λ (g : List PacketParts). AllHeld (PartCame e.who (away new.session) run.after) g) (sym it.gathering)
+            (subst (λ (c : Context). AllHeld (PartCame e.who c run.after) row.gathering) (sym same)
+            (held_wider (PartCame e.who context h) (PartCame e.who context run.after) row.gathering (λ id x came. run.grows.came e.who (back context) (Part id x) came) row_kept.held));
+        split = λ id was. omega (arith, it.packets, row_kept.split id (run.split_by e.who context id (subst (λ (c : Context). WasSplitBy e.who c id run.after) same was)));
       }
 
       beside_kept : (q : ℕ) (other : Row) → (q ≡ near → ⊥) → get s.sessions q ≡ Some other → RowKept e facts q other run.after
@@ -176,6 +185,8 @@ module _ (e : End) (facts : List Fact) (s : State) (near : ℕ) (row : Row) (the
             flows = run.beside (away other.session) other.flows
                 (contexts_apart row.session.role other.session.role row.session.own other.session.own row.session.joined other.session.joined
                 (λ (one : other.session.joined.near ≡ row.session.joined.near). ne (sym k.id ∙ one ∙ row_kept.id))) k.flows;
+            held = held_wider (PartCame e.who (away other.session) h) (PartCame e.who (away other.session) run.after) other.gathering (λ id x came. run.grows.came e.who (back (away other.session)) (Part id x) came) k.held;
+            split = λ id was. k.split id (run.split_by e.who (away other.session) id was);
           }
 
       rows_kept : (q : ℕ) (other : Row) → get after_it.sessions q ≡ Some other → RowKept e facts q other run.after
@@ -189,6 +200,7 @@ module _ (e : End) (facts : List Fact) (s : State) (near : ℕ) (row : Row) (the
         lawful = run.lawful;
         honest = run.honest;
         begun = λ at was. stands.begun at (run.begun at was);
+        splits = λ at id size packet was. run.grows.sent at (pieces_plain packet) (stands.splits at id size packet (run.split at id size packet was));
         state = record { own = stands.state.own; rows = rows_kept };
         holds = holds_still e.secrets s after_it stands.holds refl refl refl;
       }
@@ -253,6 +265,6 @@ module _ (e : End) (facts : List Fact) (s : State) (near : ℕ) (row : Row) (the
       let found : get t.sessions near ≡ Some new = get_inserted s.sessions near new in
       let may : MayDo w.hands.after e.who (Out context (body_pieces body)) =
       subst (λ (ps : List Piece). MayDo w.hands.after e.who (Out context ps)) (sym (put_pieces front packet p.pieces p.put))
-      ((λ f x among. w.said (Data f x) (said_in kept.flows.kept p.deeds p.pieces p.said (Data f x) among)), (λ f a among. w.said (Ack f a) (said_in kept.flows.kept p.deeds p.pieces p.said (Ack f a) among)), (λ among. w.said Part (said_in kept.flows.kept p.deeds p.pieces p.said Part among))) in
+      ((λ f x among. w.said (Data f x) (said_in kept.flows.kept p.deeds p.pieces p.said (Data f x) among)), (λ f a among. w.said (Ack f a) (said_in kept.flows.kept p.deeds p.pieces p.said (Ack f a) among)), (λ id x among. w.said (Part id x) (said_in kept.flows.kept p.deeds p.pieces p.said (Part id x) among))) in
       hands_after e facts t [] (sent_home t near body) h w.hands
       (subst (λ (o : Option Row). Hands e facts (sent_home_by t near body o) w.hands.after) (sym found) (hands_sent e facts t near new.session.address body new found w.hands.after w.hands.stands may))

@@ -23,3 +23,7 @@ keys_in secret c = keys_of secret (session_context 0 c.session c.to_responder)
 abbrev pub pieces_in : List ℕ → Context → List ℕ → List Piece
 pieces_in secret c datagram =
     pieces_whole (packet_in (plain_of (keys_in secret c) (drop 4 datagram)))
+
+-- of a plain packet
+abbrev pub pieces_plain : List ℕ → List Piece
+pieces_plain packet = pieces_whole (packet_in packet)

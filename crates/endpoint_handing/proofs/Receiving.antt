@@ -1,10 +1,9 @@
 -- What an end does of a datagram.
-use Rattle.std.proofs.Common.{◌≡◌, ◌==◌, ℕ, ◌^◌, ◌<◌, List, [], ◌∷◌, ◌++◌, length, drop, take}
+use Rattle.std.proofs.Common.{◌≡◌, ◌==◌, ℕ, ◌^◌, ◌<◌, List, [], ◌∷◌, length, drop, take}
 use Rattle.std.proofs.Common.{Bool, true, false}
 use Rattle.std.proofs.Common.{not, nat_lt, if◌then◌else◌, Option, Some, None, Result, Ok, Err, inl}
-use Rattle.std.proofs.Common.{inr}
-use Rattle.std.proofs.Common.{refl, sym, ap, subst, ◌∙◌, append-nil}
-use Rattle.std.proofs.lemmas.List.{take-append-drop}
+use Rattle.std.proofs.Common.{refl, sym, ap, subst, ◌∙◌, arith}
+use Rattle.std.proofs.Math.Seq.{take-length}
 use Rattle.std.specs.FinMap.{get, contains_key}
 use Rattle.rtmfp_forms.specs.Address.{AddressParts}
 use Rattle.crypto_profile.specs.declared.group.GroupSecret.{GroupSecret}
@@ -13,12 +12,8 @@ use Rattle.crypto_profile.specs.Opening.{plain_of}
 use Rattle.packet_scramble.specs.Datagram.{sid_of}
 use Rattle.rtmfp_packet.specs.declared.head.PacketHead.{PacketHead}
 use Rattle.rtmfp_packet.specs.declared.head.PacketFault.{PacketFault}
-use Rattle.rtmfp_packet.specs.Walk.{Placed}
 use Rattle.rtmfp_packet.specs.Whole.{Whole}
 use Rattle.rtmfp_data_chunks.specs.HandsOver.{IsIn}
-use Rattle.rtmfp_data_chunks.specs.declared.user_data.Numbers.{Numbers}
-use Rattle.rtmfp_data_chunks.specs.Spelling.{before_next}
-use Rattle.rtmfp_data_chunks.specs.Reader.{data_reading}
 use Rattle.glare_core.specs.declared.facts.Fact.{Fact}
 use Rattle.session_core.specs.declared.stage.Role.{Role}
 use Rattle.session_core.specs.declared.stage.Role.TheVariants.{Initiator, Responder}
@@ -42,7 +37,7 @@ use Rattle.endpoint_model.specs.declared.entry.Entry.{Entry}
 use Rattle.endpoint_model.specs.Views.{fact_in}
 use Rattle.endpoint_model.specs.Keying.{chunks_of}
 use Rattle.endpoint_model.specs.State.{State, Did, nothing, then_do, after_entries}
-use Rattle.endpoint_model.specs.Admission.{sid_at, packet_in, attempt_group, next_places, places_of, opened_at, heard_by}
+use Rattle.endpoint_model.specs.Admission.{packet_in, attempt_group, next_places, places_of, opened_at, heard_by}
 use Rattle.endpoint_model.specs.Admission.{heard_in, placed_or, opened_first}
 use Rattle.endpoint_model.specs.Admission.{counted_by, counted_at, timed_by, timed_at, confirming}
 use Rattle.endpoint_model.specs.Admission.{mode_at, has_mode, Admission, Rejected, Admitted}
@@ -50,37 +45,29 @@ use Rattle.endpoint_model.specs.Admission.{admitted_packet, admitted, admission}
 use Rattle.endpoint_model.specs.InSessions.{tested}
 use Rattle.endpoint_model.specs.FlowChunks.{acked}
 use Rattle.endpoint_model.specs.FlowChunks.{unowed}
-use Rattle.endpoint_model.specs.Gathering.{chunks_in}
-use Rattle.endpoint_model.specs.Causes.{chunk_cause}
-use Rattle.endpoint_model.specs.Effects.{outset, inset, chunks_did, most_acks, walked_and_acked, received, part_received}
-use Rattle.endpoint_model.specs.Effects.{WalkStep, walk_step, walked, in_order, steps_did, steps_of, walk_of, whole_at}
-use Rattle.endpoint_model.specs.Effects.{walked_and_tested, walked_in_part}
-use Rattle.endpoint_model.specs.declared.walk.Walk.{Walk}
-use Rattle.rtmfp_chunks.specs.Chunk.{Fragment}
-use Rattle.rtmfp_chunks.specs.FieldReading.{chunk_reading}
-use Rattle.endpoint_laws.proofs.Spelled.{read_kind}
-use Rattle.endpoint_laws.proofs.Stepping.{fragment_apart, outside_sessions, take_in_order}
-use Rattle.flow_history.proofs.Projected.{sent_whole}
+use Rattle.endpoint_model.specs.Effects.{outset, most_acks, walked_and_acked, received, part_received}
+use Rattle.endpoint_model.specs.Effects.{WalkStep, steps_did, walk_of}
+use Rattle.endpoint_model.specs.Effects.{walked_and_tested}
 use Rattle.endpoint_model.specs.Log.{stopped}
 use Rattle.endpoint_laws.specs.Past.{fact_and}
 use Rattle.endpoint_laws.specs.OpensIn.{context_in_session, context_first, opens_in}
-use Rattle.flow_history.specs.Deeds.{Context, back, Piece, Part, In, done, History}
-use Rattle.flow_history.specs.Lawful.{HasBegun, WasSent}
+use Rattle.flow_history.specs.Deeds.{Context, back, Piece, History}
+use Rattle.flow_history.specs.Lawful.{WasSent}
 use Rattle.endpoint_handing.specs.Told.{sends_in, facts_onto}
-use Rattle.session_deeds.specs.Pieces.{pieces_at, pieces_read, pieces_behind, pieces_of}
+use Rattle.session_deeds.specs.Pieces.{pieces_of}
 use Rattle.endpoint_handing.proofs.Pieces.{pieces_whole, keys_in, pieces_in}
 use Rattle.endpoint_laws.proofs.Kin.{holds_still}
-use Rattle.endpoint_handing.proofs.Kept.{End, away, session_of, HasStarted, Stands, IsNew, AreNew, new_split}
-use Rattle.endpoint_handing.proofs.Kept.{grows_then, Hands, Does, hands_after}
+use Rattle.endpoint_handing.proofs.Kept.{End, away, session_of, Stands, IsNew, AreNew, new_split}
+use Rattle.endpoint_handing.proofs.Kept.{Hands, Does, hands_after}
 use Rattle.endpoint_handing.proofs.Kept.{does_nothing}
-use Rattle.endpoint_handing.proofs.Deeding.{grows_by, kept_by}
 use Rattle.endpoint_handing.proofs.Silent.{stands_silent, same_then, had_it, had_row, IsAlike}
 use Rattle.endpoint_laws.proofs.Made.{tested_made, confirming_made, acked_made, unowed_made}
 use Rattle.endpoint_handing.proofs.Plain.{ping_none}
 use Rattle.endpoint_handing.proofs.Items.{quiet_does}
 use Rattle.endpoint_handing.proofs.Ticks.{timed_does}
 use Rattle.endpoint_handing.proofs.Owed.{FlowsHand}
-use Rattle.endpoint_handing.proofs.Chunks.{BeginsAt, AllCame, AllCameAt, stays, in_first, in_second, hands_chunks}
+use Rattle.endpoint_handing.proofs.Gathered.{came_now, stands_in, hands_in}
+use Rattle.endpoint_handing.proofs.Chunks.{BeginsAt, AllCame, AllCameAt, came_after, hands_steps}
 
 -- ---- before the chunks
 
@@ -99,7 +86,7 @@ alike_then a b c p q = record {
 
 counted_alike : (s : State) (near : ℕ) (part : List ℕ) (o : Option Row) → get s.sessions near ≡ o → IsAlike s (counted_by s near part o)
 counted_alike s near part None is = alike_itself s
-counted_alike s near part (Some row) is = record { own = refl; holds = λ secrets holds. holds_still secrets s _ holds refl refl refl; rows = had_row s.sessions near row (record row { session = counted row.session part }) is (record { joined = refl; own = refl; role = refl; generation = refl; inward = refl; outward = refl; flows = refl }) }
+counted_alike s near part (Some row) is = record { own = refl; holds = λ secrets holds. holds_still secrets s _ holds refl refl refl; rows = had_row s.sessions near row (record row { session = counted row.session part }) is (record { joined = refl; own = refl; role = refl; generation = refl; inward = refl; outward = refl; flows = refl; gathering = refl; packets = omega arith }) }
 
 alike_counted : (s : State) (place : Place) (part : List ℕ) → IsAlike s (counted_at s place part)
 alike_counted s (Startup generation) part = alike_itself s
@@ -108,7 +95,7 @@ alike_counted s (Session near) part = counted_alike s near part (get s.sessions 
 
 timed_alike : (s : State) (near : ℕ) (head : PacketHead) (o : Option Row) → get s.sessions near ≡ o → IsAlike s (timed_by s near head o)
 timed_alike s near head None is = alike_itself s
-timed_alike s near head (Some row) is = record { own = refl; holds = λ secrets holds. holds_still secrets s _ holds refl refl refl; rows = had_row s.sessions near row (record row { session = with_stamps head s.moment row.session }) is (record { joined = refl; own = refl; role = refl; generation = refl; inward = refl; outward = refl; flows = refl }) }
+timed_alike s near head (Some row) is = record { own = refl; holds = λ secrets holds. holds_still secrets s _ holds refl refl refl; rows = had_row s.sessions near row (record row { session = with_stamps head s.moment row.session }) is (record { joined = refl; own = refl; role = refl; generation = refl; inward = refl; outward = refl; flows = refl; gathering = refl; packets = omega arith }) }
 
 alike_timed : (s : State) (place : Place) (head : PacketHead) → IsAlike s (timed_at s place head)
 alike_timed s (Startup generation) head = alike_itself s
@@ -244,9 +231,10 @@ module _ (e : End) (A B : Type 0) where
     lawful = k.lawful;
     honest = k.honest;
     begun = k.begun;
+    splits = k.splits;
     state = record {
       own = k.state.own;
-      rows = λ near row there. (let r = k.state.rows near row there in record { id = r.id; own = r.own; keyed = r.keyed; named = r.named; flows = r.flows });
+      rows = λ near row there. (let r = k.state.rows near row there in record { id = r.id; own = r.own; keyed = r.keyed; named = r.named; flows = r.flows; held = r.held; split = r.split });
     };
     holds = k.holds;
   }
@@ -274,16 +262,6 @@ hands_as e A facts d h k = record {
 
 -- ---- what was admitted
 
-came_after : (e : End) (place : Place) (facts : List Fact) (before : Option Numbers) (cs : List Placed) (h : History) (d : Did) → BeginsAt e place → (one : Hands e facts d h) → AllCameAt e place facts before cs h →
-    AllCameAt e place (facts_onto d.entries facts) before cs one.after
-came_after e (Startup generation) facts before cs h d at one all = tt
-came_after e (Attempt near generation) facts before cs h d at one all = tt
-came_after e (Session near) facts before cs h d at one all = record {
-  context = all.context;
-  named = stays e near facts (facts_onto d.entries facts) at (one.still near) ∙ all.named;
-  came = λ x among. one.grows.came e.who (back all.context) x (all.came x among);
-}
-
 -- One thing, and then another that needs nothing of it.
 hands_and : (e : End) (facts : List Fact) (h : History) (d : Did) (next : State → Did) → (AreNew e facts d.entries → Hands e facts d h) → ((more : List Fact) (t : State) → Does e more t (next t)) →
     AreNew e facts (then_do d next).entries → Hands e facts (then_do d next) h
@@ -292,24 +270,28 @@ hands_and e facts h d next first does new =
     let one : Hands e facts d h = first parts.0 in
     hands_after e facts d.state d.entries (next d.state) h one (does (facts_onto d.entries facts) d.state one.after one.stands parts.1)
 
-module _ (e : End) (owed : FlowsHand e) (place : Place) (from : AddressParts) (draws : Draws) (at : BeginsAt e place) (cs : List Placed) (count : ℕ) where
+module _ (e : End) (owed : FlowsHand e) (place : Place) (from : AddressParts) (draws : Draws) (at : BeginsAt e place) (packet : Whole) (chunks : State → ℕ) (count : ℕ) where
+  -- so many of the chunks that are gone through
+  abbrev steps : State → List WalkStep
+  steps t = take (chunks t) (walk_of place from draws t packet)
+
   -- the chunks, and the acks after them
-  hands_acked : (facts : List Fact) (s : State) (h : History) → Stands e facts s h → AllCameAt e place facts None cs h → AreNew e facts (walked_and_acked place from draws s (in_order outset cs) count).entries →
-      Hands e facts (walked_and_acked place from draws s (in_order outset cs) count) h
+  hands_acked : (facts : List Fact) (s : State) (h : History) → Stands e facts s h → AllCameAt e place facts None (chunks_of packet) h → AreNew e facts (walked_and_acked place from draws s (steps s) count).entries →
+      Hands e facts (walked_and_acked place from draws s (steps s) count) h
   hands_acked facts s h stands all =
-      hands_and e facts h (chunks_did place from draws outset s cs) (λ t. acked count t place) (λ new. hands_chunks e owed place from draws at cs facts outset s h stands tt all new) (λ more t. acked_made (timed_does e owed) count t place more)
+      hands_and e facts h (steps_did place from draws s (steps s)) (λ t. acked count t place) (λ new. hands_steps e owed place from draws at (chunks_of packet) outset s tt (chunks s) facts h stands all new) (λ more t. acked_made (timed_does e owed) count t place more)
 
   -- once the session is confirmed, and with what comes last
-  hands_walked : (next : State → Did) (facts : List Fact) (s : State) (h : History) → Stands e facts s h → AllCameAt e place facts None cs h → ((more : List Fact) (t : State) → Does e more t (next t)) →
-      AreNew e facts (then_do (confirming s place) (λ t. then_do (walked_and_acked place from draws t (in_order outset cs) count) next)).entries → Hands e facts (then_do (confirming s place) (λ t. then_do (walked_and_acked place from draws t (in_order outset cs) count) next)) h
+  hands_walked : (next : State → Did) (facts : List Fact) (s : State) (h : History) → Stands e facts s h → AllCameAt e place facts None (chunks_of packet) h → ((more : List Fact) (t : State) → Does e more t (next t)) →
+      AreNew e facts (then_do (confirming s place) (λ t. then_do (walked_and_acked place from draws t (steps t) count) next)).entries → Hands e facts (then_do (confirming s place) (λ t. then_do (walked_and_acked place from draws t (steps t) count) next)) h
   hands_walked next facts s h stands all does new =
       let d : Did = confirming s place in
-      let went : Did = walked_and_acked place from draws d.state (in_order outset cs) count in
+      let went : Did = walked_and_acked place from draws d.state (steps d.state) count in
       let later : Did = then_do went next in
       let parts = new_split e d.entries later.entries facts new in
       let one : Hands e facts d h = confirming_made (quiet_does e) s place facts h stands parts.0 in
       let now : List Fact = facts_onto d.entries facts in
-      hands_after e facts d.state d.entries later h one (hands_and e now one.after went next (hands_acked now d.state one.after one.stands (came_after e place facts None cs h d at one all)) does parts.1)
+      hands_after e facts d.state d.entries later h one (hands_and e now one.after went next (hands_acked now d.state one.after one.stands (came_after e place facts None (chunks_of packet) h d at one all)) does parts.1)
 
 -- ---- the datagram came
 
@@ -340,84 +322,6 @@ abbrev pub Arrives : End → State → List ℕ → History → Type 0
 Arrives e s datagram h = (near : ℕ) (row : Row) → get s.sessions near ≡ Some row → opens_in s datagram ≡ Some (context_of row.session false) →
     (secret : List ℕ) → get e.secrets row.session.generation ≡ Some secret → WasSent (back (away row.session)) (pieces_in secret (back (away row.session)) datagram) h
 
-module _ (e : End) (facts : List Fact) (c : Context) (pieces : List Piece) (h : History) where
-  abbrev taken : History
-  taken = done e.who (In c pieces) ∷ h
-
-  stands_in : (s : State) → WasSent c pieces h → Stands e facts s h → Stands e facts s taken
-  stands_in s sent k = record {
-    lawful = (tt, k.lawful);
-    honest = (sent, k.honest);
-    begun = λ d was. earlier d was;
-    state = record {
-      own = k.state.own;
-      rows = λ near row there.
-          (let r = k.state.rows near row there in
-          record { id = r.id; own = r.own; keyed = r.keyed; named = r.named; flows = kept_by e.who (away row.session) row.flows (In c pieces) h (record { sends = λ f k. refl; takes = λ f k. refl }) r.flows });
-    };
-    holds = k.holds;
-  }
-    where
-      earlier : (d : Context) → HasBegun d taken → HasStarted e facts d
-      earlier d (inl none) = absurd none
-      earlier d (inr before) = k.begun d before
-
-  hands_in : (d : Did) → Hands e facts d taken → Hands e facts d h
-  hands_in d k = record {
-    after = k.after;
-    grows = grows_then e.who h taken k.after (grows_by e.who (In c pieces) h) k.grows;
-    stands = k.stands;
-    log = k.log;
-    named = k.named;
-    outs = k.outs;
-    still = k.still;
-    order = λ b n asked was. k.order b n asked (tt, was);
-  }
-
--- what some of the chunks have, all have
-in_more : (x : Piece) (first less more : List Piece) → (IsIn x less → IsIn x more) → IsIn x (first ++ less) → IsIn x (first ++ more)
-in_more x [] less more f among = f among
-in_more x (p ∷ ps) less more f (inl is) = inl is
-in_more x (p ∷ ps) less more f (inr among) = inr (in_more x ps less more f among)
-
-in_some : (x : Piece) (before : Option Numbers) (xs ys : List Placed) → IsIn x (pieces_behind before xs) → IsIn x (pieces_behind before (xs ++ ys))
-in_some x before [] ys among = absurd among
-in_some x before (c ∷ xs) ys among =
-    let next : Option Numbers = before_next (data_reading before c.kind c.payload) in
-    in_more x (pieces_at before c.kind c.payload) (pieces_behind next xs) (pieces_behind next (xs ++ ys)) (in_some x next xs ys) among
-
--- ---- chunks none of which is a part of a packet
-
-abbrev AreWhole : List Placed → Type 0
-AreWhole [] = Unit {0}
-AreWhole (c ∷ cs) = ((c.kind == 0x7f) ≡ false) × AreWhole cs
-
-are_whole : (before : Option Numbers) (cs : List Placed) → (IsIn Part (pieces_behind before cs) → ⊥) → AreWhole cs
-are_whole before [] none = tt
-are_whole before (c ∷ cs) none =
-    let later : List Piece = pieces_behind (before_next (data_reading before c.kind c.payload)) cs in (
-      by (c.kind == 0x7f) refl,
-      are_whole (before_next (data_reading before c.kind c.payload)) cs (λ part. none (in_second Part (pieces_at before c.kind c.payload) later part)),
-    )
-  where
-    by : (b : Bool) → (c.kind == 0x7f) ≡ b → (c.kind == 0x7f) ≡ false
-    by true is = absurd (none (in_first Part (pieces_at before c.kind c.payload) (pieces_behind (before_next (data_reading before c.kind c.payload)) cs)
-        (subst (λ (ps : List Piece). IsIn Part ps) (sym (ap (λ (b : Bool). if b then Part ∷ [] else pieces_read (data_reading before c.kind c.payload)) is)) (inl refl))))
-    by false is = is
-
-none_whole : (s : State) (place : Place) (c : Placed) (o : Option Cause) → (c.kind == 0x7f) ≡ false → whole_at s place o c ≡ None
-none_whole s place c (Some cause) whole = refl
-none_whole s place c None whole = fragment_apart s (sid_at place) (chunk_reading c.kind c.payload) (λ more id number bytes read.
-    let clash : true ≡ false = ap (λ (k : ℕ). k == 0x7f) (sym (read_kind c.kind c.payload (Fragment more id number bytes) read)) ∙ whole in cc)
-
-whole_steps : (place : Place) (from : AddressParts) (draws : Draws) (walk : Walk) (s : State) (cs : List Placed) → AreWhole cs → steps_of place from draws walk s cs ≡ in_order walk cs
-whole_steps place from draws walk s [] whole = refl
-whole_steps place from draws walk s (c ∷ cs) whole =
-    ap (λ (o : Option (List ℕ)).
-    let these : List WalkStep = walk_step walk c ∷ in_order inset (chunks_in s (sid_at place) o) in
-    these ++ steps_of place from draws (walked walk c) (steps_did place from draws s these).state cs) (none_whole s place c (chunk_cause s place walk from c) whole.0)
-    ∙ ap (λ (xs : List WalkStep). walk_step walk c ∷ xs) (whole_steps place from draws (walked walk c) (steps_did place from draws s (walk_step walk c ∷ [])).state cs whole.1)
-
 -- ---- all of it
 
 module _ (e : End) (owed : (A : Type 0) → FlowsHand (with_begins e A)) (from : AddressParts) (draws : Draws) (facts : List Fact) (s : State) (datagram : List ℕ) (h : History) where
@@ -427,14 +331,14 @@ module _ (e : End) (owed : (A : Type 0) → FlowsHand (with_begins e A)) (from :
   abbrev shut_end : End
   shut_end = with_begins e ⊥
 
-  -- the chunks of a packet that was admitted, or some of them, so many packets of acks, and what comes then
-  module _ (t : State) (packet : Whole) (cs : List Placed) (rest : List Placed) (whole : chunks_of packet ≡ cs ++ rest) (count : ℕ) (next : State → Did) (does : (A : Type 0) (more : List Fact) (u : State) → Does (with_begins e A) more u (next u)) where
+  -- so many of the chunks of a packet that was admitted, so many packets of acks, and what comes then
+  module _ (t : State) (packet : Whole) (chunks : Place → State → ℕ) (count : ℕ) (next : State → Did) (does : (A : Type 0) (more : List Fact) (u : State) → Does (with_begins e A) more u (next u)) where
     abbrev did : Place → Did
-    did place = then_do (confirming t place) (λ u. then_do (walked_and_acked place from draws u (in_order outset cs) count) next)
+    did place = then_do (confirming t place) (λ u. then_do (walked_and_acked place from draws u (take (chunks place u) (walk_of place from draws u packet)) count) next)
 
     -- outside of sessions
-    hands_outside : (place : Place) → BeginsAt open_end place → AllCameAt open_end place facts None cs h → Stands open_end facts t h → AreNew open_end facts (did place).entries → Hands open_end facts (did place) h
-    hands_outside place at all stands new = hands_walked open_end (owed (Unit {0})) place from draws at cs count next facts t h stands all (does (Unit {0})) new
+    hands_outside : (place : Place) → BeginsAt open_end place → AllCameAt open_end place facts None (chunks_of packet) h → Stands open_end facts t h → AreNew open_end facts (did place).entries → Hands open_end facts (did place) h
+    hands_outside place at all stands new = hands_walked open_end (owed (Unit {0})) place from draws at packet (chunks place) count next facts t h stands all (does (Unit {0})) new
 
     hands_inside : (near : ℕ) → OpensHere s datagram near packet → IsAlike s t → Arrives open_end s datagram h → Stands open_end facts s h → Stands open_end facts t h → AreNew open_end facts (did (Session near)).entries → Hands open_end facts (did (Session near)) h
     hands_inside near opens alike arrives before stands new =
@@ -444,16 +348,16 @@ module _ (e : End) (owed : (A : Type 0) → FlowsHand (with_begins e A)) (from :
         let pieces : List Piece = pieces_in kept.keyed.secret c datagram in
         let sent : WasSent c pieces h = arrives near row opens.there opens.opens kept.keyed.secret kept.keyed.known in
         let are : pieces ≡ pieces_of (chunks_of packet) = came_pieces kept.keyed.secret row.session datagram packet kept.keyed.keyed opens.reads in
-        let now : History = taken shut_end facts c pieces h in
-        let all : AllCame shut_end near facts None cs now = record {
+        let now : History = came_now shut_end facts c pieces h in
+        let all : AllCame shut_end near facts None (chunks_of packet) now = record {
           context = away row.session;
           named = kept.named;
-          came = λ x among. inl (refl, (refl, subst (λ (ps : List Piece). IsIn x ps) (sym are) (subst (λ (l : List Placed). IsIn x (pieces_of l)) (sym whole) (in_some x None cs rest among))));
+          came = λ x among. inl (refl, (refl, subst (λ (ps : List Piece). IsIn x ps) (sym are) among));
         } in
         let stands_now : Stands shut_end facts t now = stands_in shut_end facts c pieces h t sent (stands_as e (Unit {0}) ⊥ facts t h stands) in
         hands_as e ⊥ facts (did (Session near)) h
         (hands_in shut_end facts c pieces h (did (Session near))
-        (hands_walked shut_end (owed ⊥) (Session near) from draws (λ never. never) cs count next facts t now stands_now all (does ⊥) (new_as e (Unit {0}) ⊥ (did (Session near)).entries facts new)))
+        (hands_walked shut_end (owed ⊥) (Session near) from draws (λ never. never) packet (chunks (Session near)) count next facts t now stands_now all (does ⊥) (new_as e (Unit {0}) ⊥ (did (Session near)).entries facts new)))
 
     -- at whatever place
     hands_admitted : (place : Place) → IsAlike s t → OpensAt s datagram place packet → Arrives open_end s datagram h → Stands open_end facts s h → AreNew open_end facts (did place).entries → Hands open_end facts (did place) h
@@ -461,39 +365,22 @@ module _ (e : End) (owed : (A : Type 0) → FlowsHand (with_begins e A)) (from :
     hands_admitted (Attempt near generation) alike opens arrives stands new = hands_outside (Attempt near generation) tt tt (stands_silent open_end facts s t [] tt alike h stands) new
     hands_admitted (Session near) alike opens arrives stands new = hands_inside near opens alike arrives stands (stands_silent open_end facts s t [] tt alike h stands) new
 
-  -- no chunk of a packet that was admitted completes another packet
-  walk_plain : (place : Place) (packet : Whole) → OpensAt s datagram place packet → Arrives open_end s datagram h → Stands open_end facts s h → (u : State) → walk_of place from draws u packet ≡ in_order outset (chunks_of packet)
-  walk_plain (Startup generation) packet opens arrives stands u = outside_sessions (Startup generation) refl from draws outset u (chunks_of packet)
-  walk_plain (Attempt near generation) packet opens arrives stands u = outside_sessions (Attempt near generation) refl from draws outset u (chunks_of packet)
-  walk_plain (Session near) packet opens arrives stands u =
-      let row : Row = opens.row in
-      let c : Context = back (away row.session) in
-      let kept = stands.state.rows near row opens.there in
-      let sent : WasSent c (pieces_in kept.keyed.secret c datagram) h = arrives near row opens.there opens.opens kept.keyed.secret kept.keyed.known in
-      let are : pieces_in kept.keyed.secret c datagram ≡ pieces_of (chunks_of packet) = came_pieces kept.keyed.secret row.session datagram packet kept.keyed.keyed opens.reads in
-      whole_steps (Session near) from draws outset u (chunks_of packet) (are_whole None (chunks_of packet) (λ part. sent_whole c (pieces_in kept.keyed.secret c datagram) h stands.lawful sent (subst (λ (ps : List Piece). IsIn Part ps) (sym are) part)))
-
   module _ (short : length draws.token < 2 ^ 16) (arrives : Arrives open_end s datagram h) (stands : Stands open_end facts s h) where
     received_by : (a : Admission) → AdmissionIs s datagram a → AreNew open_end facts (received from draws a).entries → Hands open_end facts (received from draws a) h
     received_by (Rejected t cause) alike new = (quiet_does open_end).discards t 0 cause facts h (stands_silent open_end facts s t [] tt alike h stands) new
     received_by (Admitted t place packet) so new =
         let d : Did = confirming t place in
         let all : List WalkStep → Did = λ xs. after_entries d.entries (walked_and_tested place from draws d.state xs) in
-        let same : all (walk_of place from draws d.state packet) ≡ all (in_order outset (chunks_of packet)) = ap all (walk_plain place packet so.1 arrives stands d.state) in
-        subst (λ (x : Did). AreNew open_end facts x.entries → Hands open_end facts x h) (sym same)
-        (λ fresh. hands_admitted t packet (chunks_of packet) [] (sym (append-nil (chunks_of packet))) most_acks (λ u. tested u place from draws) (λ A more u. tested_made (quiet_does (with_begins e A)) u place from draws (ping_none draws.token short) more)
+        let steps : List WalkStep = walk_of place from draws d.state packet in
+        subst (λ (x : Did). AreNew open_end facts x.entries → Hands open_end facts x h) (ap all (take-length steps))
+        (λ fresh. hands_admitted t packet (λ p u. length (walk_of p from draws u packet)) most_acks (λ u. tested u place from draws) (λ A more u. tested_made (quiet_does (with_begins e A)) u place from draws (ping_none draws.token short) more)
         place so.0 so.1 arrives stands fresh) new
 
     part_by : (count acks : ℕ) (a : Admission) → AdmissionIs s datagram a → AreNew open_end facts (part_received from draws a count acks).entries → Hands open_end facts (part_received from draws a count acks) h
     part_by count acks (Rejected t cause) alike new = does_nothing open_end facts t h (stands_silent open_end facts s t [] tt alike h stands) tt
     part_by count acks (Admitted t place packet) so new =
-        let d : Did = confirming t place in
-        let all : List WalkStep → Did = λ xs. after_entries d.entries (walked_in_part place from draws d.state xs acks) in
-        let same : all (take count (walk_of place from draws d.state packet)) ≡ all (in_order outset (take count (chunks_of packet))) =
-        ap (λ xs. all (take count xs)) (walk_plain place packet so.1 arrives stands d.state) ∙ ap all (take_in_order count outset (chunks_of packet)) in
-        subst (λ (x : Did). AreNew open_end facts x.entries → Hands open_end facts x h) (sym same)
-        (λ fresh. hands_admitted t packet (take count (chunks_of packet)) (drop count (chunks_of packet)) (sym (take-append-drop count (chunks_of packet))) acks (λ u. nothing (unowed u place)) (λ A more u. unowed_made (timed_does (with_begins e A) (owed A)) u place more)
-        place so.0 so.1 arrives stands fresh) new
+        hands_admitted t packet (λ p u. count) acks (λ u. nothing (unowed u place)) (λ A more u. unowed_made (timed_does (with_begins e A) (owed A)) u place more)
+        place so.0 so.1 arrives stands new
 
     pub hands_received : AreNew open_end facts (received from draws (admission s datagram)).entries → Hands open_end facts (received from draws (admission s datagram)) h
     hands_received new = received_by (admission s datagram) (admission_is s datagram) new

@@ -25,7 +25,8 @@ use Rattle.flow_history.specs.Deeds.{Deed as Done_in, OpensFlow, ActsOn as ActsO
 use Rattle.flow_history.specs.Deeds.{TakesFrom}
 use Rattle.flow_history.specs.Deeds.{HandsOn, AcksOn, done, History, by_name, touch_of, steps_of}
 use Rattle.flow_history.specs.Lawful.{HasBegun, CameIn, MayActOn, MayDo, IsLawful, IsHonestDeed}
-use Rattle.flow_history.specs.Lawful.{IsHonest}
+use Rattle.flow_history.specs.Lawful.{IsHonest, WasSplit, WasSplitBy, HasPart}
+use Rattle.flow_history.proofs.Splitting.{IsNoSplit, split_before, split_by_before}
 use Rattle.flow_history.specs.Log.{Entry as Tell, Queued, Abandoned, Handed, log_of, HasOrder}
 use Rattle.flow_history.specs.Keeping.{Flows}
 use Rattle.flow_history.proofs.Names.{same_self, name_is, number_self}
@@ -206,17 +207,26 @@ begins_none who c (Hands f) h at (inl is) = absurd is
 begins_none who c (Acks f pairs) h at (inl is) = absurd is
 begins_none who c d h at (inr was) = was
 
+-- nor does it split a packet
+splits_none : (c : Context) (d : Deed) → IsNoSplit (in_context c d)
+splits_none c (Opens f a) = tt
+splits_none c (ActsOn f act) = tt
+splits_none c (Makes f a) = tt
+splits_none c (Takes f x) = tt
+splits_none c (Hands f) = tt
+splits_none c (Acks f pairs) = tt
+
 -- ---- what it says
 
 abbrev pub Said : ℕ → Context → History → Piece → Type 0
 Said who c h (Data f x) = WasGiven (steps_of (name c f) h) x
 Said who c h (Ack f a) = WasTold (steps_of (name (back c) f) h) a
-Said who c h Part = ⊥
+Said who c h (Part id x) = HasPart c id x h
 
 pub said_later : (who : ℕ) (c : Context) (h after : History) (p : Piece) → Grows who h after → Said who c h p → Said who c after p
 said_later who c h after (Data f x) grows was = grows.given (name c f) x was
 said_later who c h after (Ack f a) grows was = grows.told (name (back c) f) a was
-said_later who c h after Part grows was = was
+said_later who c h after (Part id x) grows was = (was.0, was.1, grows.split c id was.0 was.1 was.2, was.3)
 
 gives_here : (f : ℕ) (c : Context) (act : Act) (k : Option (Option Opened)) (x : Carried) → IsGiven k act x → Gives k (touch_of (name c f) (ActsOn_flow (name c f) act)) x
 gives_here f c act k x given = subst (λ (t : Touch). Gives k t x) (sym (here f f c (BySender (Acts act)) ∙ ap (λ (b : Bool). cond b (BySender (Acts act)) Beside) (number_self f))) given
@@ -378,6 +388,8 @@ pub record Ran (who : ℕ) (c : Context) (fl : Flows) (deeds : List Deed) (h : H
   pub lawful : IsLawful after
   pub honest : IsHonest after
   pub begun : (d : Context) → HasBegun d after → HasBegun d h
+  pub split : (d : Context) (id size : ℕ) (packet : List ℕ) → WasSplit d id size packet after → WasSplit d id size packet h
+  pub split_by : (other : ℕ) (d : Context) (id : ℕ) → WasSplitBy other d id after → WasSplitBy other d id h
   pub kept : AreKept who c (did_all fl deeds) after
   pub beside : (d : Context) (flows : FlowsState) → (c ≡ d → ⊥) → FlowsKept who d flows h → FlowsKept who d flows after
   pub log : log_of after ≡ told_on c (told_all fl deeds) (log_of h)
@@ -391,6 +403,8 @@ ran who c came [] fl h lawful honest kept all may = record {
   lawful = lawful;
   honest = honest;
   begun = λ d was. was;
+  split = λ d id size packet was. was;
+  split_by = λ other d id was. was;
   kept = kept;
   beside = λ d flows ne k. k;
   log = refl;
@@ -409,6 +423,8 @@ ran who c came (d ∷ deeds) fl h lawful honest kept all may =
       lawful = rest.lawful;
       honest = rest.honest;
       begun = λ at was. begins_none who c d h at (rest.begun at was);
+      split = λ at id size packet was. split_before who (D ∷ []) at id size packet h (splits_none c d, tt) (rest.split at id size packet was);
+      split_by = λ other at id was. split_by_before who other (D ∷ []) at id h (splits_none c d, tt) (rest.split_by other at id was);
       kept = rest.kept;
       beside = λ at flows ne k. rest.beside at flows ne (kept_by who at flows D h (deed_leaves_be c at d ne) k);
       log = rest.log ∙ ap (told_on c (told_all (did fl d) deeds)) (states_now who c fl d h kept) ∙ sym (told_on_joined c (told fl d) (told_all (did fl d) deeds) (log_of h));

@@ -1,5 +1,5 @@
 -- A datagram goes out, in the startup context or in a session.
-use Rattle.std.proofs.Common.{◌≡◌, ℕ, ◌+◌, ◌==◌, List, [], ◌∷◌, Bool, true, false, if◌then◌else◌}
+use Rattle.std.proofs.Common.{arith, ◌≡◌, ℕ, ◌+◌, ◌==◌, List, [], ◌∷◌, Bool, true, false, if◌then◌else◌}
 use Rattle.std.proofs.Common.{Option, Some, inl, inr, refl, sym, ap, subst, ◌∙◌}
 use Rattle.std.specs.FinMap.{get}
 use Rattle.rtmfp_forms.specs.Address.{AddressParts}
@@ -11,12 +11,14 @@ use Rattle.endpoint_model.specs.declared.row.Row.{Row}
 use Rattle.endpoint_model.specs.declared.entry.Entry.TheVariants.{Out as OutEntry}
 use Rattle.endpoint_model.specs.State.{State, Did, nothing, with_session}
 use Rattle.endpoint_model.specs.Sending.{last_count}
-use Rattle.endpoint_model.specs.Sending.{session_datagram, sent_by}
+use Rattle.endpoint_model.specs.Sending.{session_datagram, sent_whole}
 use Rattle.flow_history.specs.Deeds.{Context, Piece, Out, done, History}
 use Rattle.flow_history.specs.Lawful.{MayDo, WasSent}
+use Rattle.flow_history.proofs.Splitting.{split_before, split_by_before}
+use Rattle.endpoint_handing.proofs.PartsHeld.{held_wider}
 use Rattle.endpoint_handing.proofs.Pieces.{pieces_in}
 use Rattle.endpoint_laws.proofs.Kin.{holds_still}
-use Rattle.endpoint_handing.proofs.Kept.{End, away, HasKeys, RowKept, Stands, WentIn, Hands, Does}
+use Rattle.endpoint_handing.proofs.Kept.{End, away, HasKeys, PartCame, RowKept, Stands, WentIn, Hands, Does}
 use Rattle.endpoint_handing.proofs.Kept.{does_nothing}
 use Rattle.endpoint_handing.proofs.Deeding.{grows_by, kept_by, out_leaves_be, out_orders}
 use Rattle.endpoint_handing.proofs.Silent.{IsSilent, IsSame, same_itself, row_same, had_row}
@@ -32,7 +34,7 @@ startup_silent to datagram generation = record { told = λ own facts. refl; cont
 
 sealed_same : (b : Bool) (row : Row) → IsSame row (record row { session = if b then row.session else record row.session { sealed = row.session.sealed + 1 } })
 sealed_same true row = same_itself row
-sealed_same false row = record { joined = refl; own = refl; role = refl; generation = refl; inward = refl; outward = refl; flows = refl }
+sealed_same false row = record { joined = refl; own = refl; role = refl; generation = refl; inward = refl; outward = refl; flows = refl; gathering = refl; packets = omega arith }
 
 module _ (e : End) (facts : List Fact) (c : Context) (pieces : List Piece) (h : History) where
   abbrev after : History
@@ -45,6 +47,8 @@ module _ (e : End) (facts : List Fact) (c : Context) (pieces : List Piece) (h : 
     keyed = k.keyed;
     named = k.named;
     flows = kept_by e.who (away row.session) row.flows (Out c pieces) h (out_leaves_be c pieces (away row.session)) k.flows;
+    held = held_wider (PartCame e.who (away row.session) h) (PartCame e.who (away row.session) after) row.gathering (λ id x came. inr came) k.held;
+    split = λ id was. k.split id (split_by_before e.who e.who (Out c pieces ∷ []) (away row.session) id h (tt, tt) was);
   }
 
   pub stands_out : (s t : State) → IsAlike s t → MayDo h e.who (Out c pieces) → Stands e facts s h → Stands e facts t after
@@ -52,6 +56,7 @@ module _ (e : End) (facts : List Fact) (c : Context) (pieces : List Piece) (h : 
     lawful = (may, stands.lawful);
     honest = (tt, stands.honest);
     begun = λ d was. elim was [ inl none ↦ absurd none | inr before ↦ stands.begun d before ];
+    splits = λ d id size packet was. inr (stands.splits d id size packet (split_before e.who (Out c pieces ∷ []) d id size packet h (tt, tt) was));
     state = record {
       own = alike.own ∙ stands.state.own;
       rows = λ near row there.
@@ -86,7 +91,7 @@ module _ (e : End) (facts : List Fact) (s : State) (near : ℕ) (to : AddressPar
       went = inl (refl, sym its)
 
       -- whose pieces were given and told before
-      hands_out : Hands e facts out h
+      pub hands_out : Hands e facts out h
       hands_out = record {
         after = later;
         grows = grows_by e.who (Out context (body_pieces body)) h;
@@ -103,8 +108,8 @@ module _ (e : End) (facts : List Fact) (s : State) (near : ℕ) (to : AddressPar
         order = λ b n asked was. (out_orders b n context (body_pieces body), was);
       }
 
-      pub hands_sent : Hands e facts (sent_by s near to body (Some row)) h
-      hands_sent = by (row.session.sealed == last_count)
+      pub hands_whole : Hands e facts (sent_whole s near to body (Some row)) h
+      hands_whole = by (row.session.sealed == last_count)
         where
           by : (b : Bool) → Hands e facts (if b then nothing s else out) h
           by true = does_nothing e facts s h stands tt
@@ -112,4 +117,4 @@ module _ (e : End) (facts : List Fact) (s : State) (near : ℕ) (to : AddressPar
 
     -- a body without pieces
     pub does_out : body_pieces body ≡ [] → Does e facts s out
-    does_out none h stands new = hands_out h stands (subst (λ (p : List Piece). MayDo h e.who (Out context p)) (sym none) ((λ f x among. absurd among), (λ f a among. absurd among), (λ among. among)))
+    does_out none h stands new = hands_out h stands (subst (λ (p : List Piece). MayDo h e.who (Out context p)) (sym none) ((λ f x among. absurd among), (λ f a among. absurd among), (λ id x among. absurd among)))

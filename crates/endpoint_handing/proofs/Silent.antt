@@ -1,6 +1,6 @@
 -- Things that say nothing of flows: no session begins, nothing goes out in one, and no message is
 -- told.
-use Rattle.std.proofs.Common.{◌≡◌, ℕ, List, [], ◌∷◌, ◌++◌}
+use Rattle.std.proofs.Common.{◌≡◌, ℕ, ◌≤◌, arith, List, [], ◌∷◌, ◌++◌}
 use Rattle.std.proofs.Common.{Option, Some, None, inl, inr, refl, sym, ap, subst, ◌∙◌}
 use Rattle.std.specs.FinMap.{get, insert, remove}
 use Rattle.rtmfp_base.proofs.Maps.{found_inserted, found_left}
@@ -22,9 +22,12 @@ use Rattle.flow_history.specs.Log.{Entry as Tell, log_of}
 use Rattle.endpoint_handing.specs.Once.{HasBegun as HasStated}
 use Rattle.endpoint_handing.specs.Told.{message_in, HasContext, AllHaveContext}
 use Rattle.endpoint_handing.specs.Told.{sends_in, sending_context, told_at, facts_onto, told_onto}
-use Rattle.endpoint_handing.proofs.Kept.{End, away, FlowsKept, HasKeys, RowKept, HasStarted}
+use Rattle.endpoint_handing.proofs.Kept.{End, away, FlowsKept, HasKeys, PartCame, RowKept, HasStarted}
+use Rattle.endpoint_handing.proofs.PartsHeld.{AllHeld}
+use Rattle.rtmfp_fragments.specs.Held.{PacketParts}
+use Rattle.flow_history.specs.Lawful.{WasSplitBy}
 use Rattle.endpoint_handing.proofs.Kept.{Stands}
-use Rattle.endpoint_handing.proofs.Kept.{grows_not, OutWent, OutsWent, Does}
+use Rattle.endpoint_handing.proofs.Kept.{grows_not, OutWent, OutsWent, Hands, Does}
 
 -- ---- silent entries
 
@@ -94,9 +97,11 @@ pub record IsSame (old new : Row) : Type 0 where
   pub inward : new.session.inward ≡ old.session.inward
   pub outward : new.session.outward ≡ old.session.outward
   pub flows : new.flows ≡ old.flows
+  pub gathering : new.gathering ≡ old.gathering
+  pub packets : old.packets ≤ new.packets
 
 pub same_itself : (row : Row) → IsSame row row
-same_itself row = record { joined = refl; own = refl; role = refl; generation = refl; inward = refl; outward = refl; flows = refl }
+same_itself row = record { joined = refl; own = refl; role = refl; generation = refl; inward = refl; outward = refl; flows = refl; gathering = refl; packets = omega arith }
 
 pub same_then : (a b c : Row) → IsSame a b → IsSame b c → IsSame a c
 same_then a b c p q = record {
@@ -107,6 +112,8 @@ same_then a b c p q = record {
   inward = q.inward ∙ p.inward;
   outward = q.outward ∙ p.outward;
   flows = q.flows ∙ p.flows;
+  gathering = q.gathering ∙ p.gathering;
+  packets = omega (arith, p.packets, q.packets);
 }
 
 pub away_same : (old new : SessionState) → new.joined ≡ old.joined → new.own ≡ old.own →
@@ -140,6 +147,9 @@ module _ (e : End) (facts : List Fact) (near : ℕ) (h : History) where
         named = k.named ∙ ap (λ (c : Context). Some c) (sym context);
         flows = subst (λ (f : FlowsState). FlowsKept e.who (away new.session) f h) (sym same.flows)
             (subst (λ (c : Context). FlowsKept e.who c old.flows h) (sym context) k.flows);
+        held = subst (λ (g : List PacketParts). AllHeld (PartCame e.who (away new.session) h) g) (sym same.gathering)
+            (subst (λ (c : Context). AllHeld (PartCame e.who c h) old.gathering) (sym context) k.held);
+        split = λ id was. omega (arith, same.packets, k.split id (subst (λ (c : Context). WasSplitBy e.who c id h) context was));
       }
 
   row_later : (entries : List Entry) (row : Row) → AreSilent entries → RowKept e facts near row h →
@@ -150,6 +160,8 @@ module _ (e : End) (facts : List Fact) (near : ℕ) (h : History) where
     keyed = k.keyed;
     named = context_silent e.own near entries facts are ∙ k.named;
     flows = k.flows;
+    held = k.held;
+    split = k.split;
   }
 
 -- ---- states whose rows were there before
@@ -189,6 +201,7 @@ module _ (e : End) (facts : List Fact) (s t : State) (entries : List Entry) (are
     lawful = stands.lawful;
     honest = stands.honest;
     begun = λ c was. started_later e entries facts c (stands.begun c was);
+    splits = stands.splits;
     state = record {
       own = alike.own ∙ stands.state.own;
       rows = λ near row there.
@@ -199,8 +212,8 @@ module _ (e : End) (facts : List Fact) (s t : State) (entries : List Entry) (are
     holds = alike.holds e.secrets stands.holds;
   }
 
-  pub does_silent : Does e facts s (record { state = t; entries = entries })
-  does_silent h stands new = record {
+  pub hands_silent : (h : History) → Stands e facts s h → Hands e facts (record { state = t; entries = entries }) h
+  hands_silent h stands = record {
     after = h;
     grows = grows_not e.who h;
     stands = stands_silent h stands;
@@ -210,6 +223,9 @@ module _ (e : End) (facts : List Fact) (s t : State) (entries : List Entry) (are
     still = λ near. inr (context_silent e.own near entries facts are);
     order = λ b n asked was. was;
   }
+
+  pub does_silent : Does e facts s (record { state = t; entries = entries })
+  does_silent h stands new = hands_silent h stands
 
 -- a thing after a silent change of the state
 pub does_from : (e : End) (facts : List Fact) (s t : State) (d : Did) → IsAlike s t → Does e facts t d → Does e facts s d

@@ -3,12 +3,12 @@ use Rattle.std.proofs.Common.{◌≡◌, ◌<◌, ◌^◌, List, [], length}
 use Rattle.std.proofs.Common.{None, refl, sym, subst}
 use Rattle.glare_core.specs.declared.facts.Fact.{Fact}
 use Rattle.endpoint_model.specs.declared.entry.Entry.{Entry}
-use Rattle.endpoint_model.specs.Event.{Call, Open, Seek, Unseek, Cancel, Close, AddRow, Introduce}
+use Rattle.endpoint_model.specs.Event.{Call, Open, Seek, Unseek, Cancel, Close, AddRow, Introduce, Narrow}
 use Rattle.endpoint_model.specs.Event.{Learn, Advance, OnFlows}
 use Rattle.endpoint_model.specs.Event.{Receive, Tick}
 use Rattle.endpoint_model.specs.Event.{Answer, Began, Searching, Done, Succeeds, NotOpened, NotSought, Refused, NotAdded, Stopped}
 use Rattle.endpoint_model.specs.Event.{OutOfMemory}
-use Rattle.endpoint_model.specs.State.{State, Did, Does as DoesSo, nothing}
+use Rattle.endpoint_model.specs.State.{State, Did, Does as DoesSo, nothing, narrowing}
 use Rattle.endpoint_model.specs.Admission.{admission}
 use Rattle.endpoint_model.specs.Introducing.{with_redirect, introducing}
 use Rattle.endpoint_model.specs.Succession.{next_group, learning, advancing}
@@ -72,6 +72,7 @@ module _ (e : End) (owed : (A : Type 0) → FlowsHand (with_begins e A)) (facts 
     answers_hand (AddRow print addresses) Done given is = changed (with_redirect s print addresses) (record { own = refl; holds = λ secrets holds. holds_still secrets s _ holds refl refl refl; rows = had_it s.sessions }) is.1
     answers_hand (AddRow print addresses) (NotAdded refusal) given is = none is.1
     answers_hand Introduce Done given is = changed (introducing s) (record { own = refl; holds = λ secrets holds. holds_still secrets s _ holds refl refl refl; rows = had_it s.sessions }) is
+    answers_hand (Narrow limit) Done given is = changed (narrowing s limit) (record { own = refl; holds = λ secrets holds. holds_still secrets s _ holds refl refl refl; rows = had_it s.sessions }) is
     answers_hand (Learn secret) (Succeeds generation) given is = by_did (learning s secret) is.2 new (learning_does it facts s secret (given is.2.entries) h stands)
     answers_hand (Learn secret) (Refused refusal) given is = none is.1
     answers_hand Advance (Succeeds generation) given is = by_did (advancing s) is.2 new (advancing_does it facts s h stands)

@@ -31,6 +31,7 @@ stands_under e facts s group next h holds stands = record {
   lawful = stands.lawful;
   honest = stands.honest;
   begun = stands.begun;
+  splits = stands.splits;
   state = record { own = stands.state.own; rows = stands.state.rows };
   holds = holds;
 }
