@@ -16,7 +16,8 @@ use Rattle.glare_core.specs.declared.facts.Why.{Why}
 use Rattle.glare_core.specs.Standing.{peer_of, after, held, count}
 use Rattle.glare_core.specs.Stands.{Stands}
 use Rattle.glare_core.specs.Things.{IsSession, near_of}
-use Rattle.endpoint_model.specs.Event.{Setup, Call, Open, Seek, Unseek, Cancel, Close, AddRow, Introduce, Learn, Advance, OnFlows, Receive, Tick, Event, open_in, seek_in, receive_in}
+use Rattle.endpoint_model.specs.Event.{Setup, Call, Event, open_in, seek_in, receive_in}
+use Rattle.log_contexts.proofs.CallsTaken.{call_with}
 use Rattle.endpoint_model.specs.declared.entry.Entry.{Entry}
 use Rattle.endpoint_model.specs.declared.entry.Entry.TheVariants.{Fact as FactEntry, Closed, Sought, Unsought, Moved, Learnt, Advanced, FlowOpened, Queued, Finished, Abandoned, Handed, Discard, Out}
 use Rattle.endpoint_model.specs.Views.{fact_in, out_in, sought_in}
@@ -70,18 +71,9 @@ kept_of secrets setup past c are = record { went = are.went; keying = are.keying
 -- ---- one more event
 
 receives : (call : Call) (datagram : List ℕ) → datagram_of (receive_in call) ≡ Some datagram → (opened_tag (open_in call) None ≡ None) × (sought_tag (seek_in call) None ≡ None)
-receives (Open peer candidates draws) datagram e = absurd cc
-receives (Seek name candidates draws) datagram e = absurd cc
-receives (Unseek near) datagram e = (refl, refl)
-receives (Cancel n) datagram e = (refl, refl)
-receives (Close near) datagram e = (refl, refl)
-receives (AddRow print addresses) datagram e = (refl, refl)
-receives Introduce datagram e = (refl, refl)
-receives (Learn secret) datagram e = (refl, refl)
-receives Advance datagram e = (refl, refl)
-receives (OnFlows near call) datagram e = (refl, refl)
-receives (Receive from given draws) datagram e = (refl, refl)
-receives (Tick draws) datagram e = (refl, refl)
+receives call datagram e =
+    let is = (call_with call datagram e).1 in
+    (ap (λ (c : Call). opened_tag (open_in c) None) is, ap (λ (c : Call). sought_tag (seek_in c) None) is)
 
 through : (b : Bool) (o : Option (List ℕ)) (datagram : List ℕ) → (if b then o else None) ≡ Some datagram → o ≡ Some datagram
 through true o datagram e = e

@@ -1,6 +1,7 @@
 pub mod Rest
 pub mod Standing
 pub mod Keyed
+pub mod CallsTaken
 pub mod Going
 pub mod Takings
 pub mod Births

@@ -4,7 +4,8 @@ use Rattle.crypto_profile.specs.declared.keys.Context.TheVariants.{Startup}
 use Rattle.glare_core.specs.declared.facts.Fact.{Fact}
 use Rattle.glare_core.specs.declared.facts.Fact.TheVariants.{Started, Born, Opened, Confirmed, Ended}
 use Rattle.glare_core.specs.declared.facts.Joined.{Joined}
-use Rattle.endpoint_model.specs.Event.{Setup, Call, Open, Seek, Unseek, Cancel, Close, AddRow, Introduce, Learn, Advance, OnFlows, Receive, Tick, Event, ReceiveCall, learn_in, is_advance, receive_in}
+use Rattle.endpoint_model.specs.Event.{Setup, Call, Event, ReceiveCall, receive_in}
+use Rattle.log_contexts.proofs.CallsTaken.{no_learn, no_advance}
 use Rattle.endpoint_model.specs.declared.entry.Entry.{Entry}
 use Rattle.endpoint_model.specs.declared.entry.Entry.TheVariants.{Fact as FactEntry, Closed, Sought, Unsought, Moved, Learnt, Advanced, FlowOpened, Queued, Finished, Abandoned, Handed, Discard, Out}
 use Rattle.endpoint_model.specs.Views.{fact_in}
@@ -15,34 +16,6 @@ use Rattle.endpoint_laws.specs.Admissible.{Offer}
 use Rattle.log_contexts.specs.Changes.{begun_id}
 use Rattle.log_contexts.proofs.Births.{births_open}
 use Rattle.log_events.specs.Underway.{KeepsGenerations, IsUnderway}
-
-no_learn : (call : Call) (r : ReceiveCall) → receive_in call ≡ Some r → LearnsIn (learn_in call) → ⊥
-no_learn (Open peer candidates draws) r e learns = learns
-no_learn (Seek name candidates draws) r e learns = learns
-no_learn (Unseek near) r e learns = learns
-no_learn (Cancel n) r e learns = learns
-no_learn (Close near) r e learns = learns
-no_learn (AddRow print addresses) r e learns = learns
-no_learn Introduce r e learns = learns
-no_learn (Learn secret) r e learns = absurd cc
-no_learn Advance r e learns = learns
-no_learn (OnFlows near call) r e learns = learns
-no_learn (Receive from datagram draws) r e learns = learns
-no_learn (Tick draws) r e learns = learns
-
-no_advance : (call : Call) (r : ReceiveCall) → receive_in call ≡ Some r → is_advance call ≡ true → ⊥
-no_advance (Open peer candidates draws) r e advances = absurd cc
-no_advance (Seek name candidates draws) r e advances = absurd cc
-no_advance (Unseek near) r e advances = absurd cc
-no_advance (Cancel n) r e advances = absurd cc
-no_advance (Close near) r e advances = absurd cc
-no_advance (AddRow print addresses) r e advances = absurd cc
-no_advance Introduce r e advances = absurd cc
-no_advance (Learn secret) r e advances = absurd cc
-no_advance Advance r e advances = absurd cc
-no_advance (OnFlows near call) r e advances = absurd cc
-no_advance (Receive from datagram draws) r e advances = absurd cc
-no_advance (Tick draws) r e advances = absurd cc
 
 -- A call that takes a datagram changes no generation.
 pub receives_keeps : (call : Call) (r : ReceiveCall) → receive_in call ≡ Some r → KeepsGenerations call

@@ -6,7 +6,8 @@ use Rattle.glare_core.specs.declared.facts.Held.{Held}
 use Rattle.glare_core.specs.Standing.{count}
 use Rattle.glare_core.specs.Stands.{Stands}
 use Rattle.glare_core.specs.Things.{near_of}
-use Rattle.endpoint_model.specs.Event.{Setup, Call, Open, Seek, Unseek, Cancel, Close, AddRow, Introduce, Learn, Advance, OnFlows, Receive, Tick, Event, own_of, receive_in, seek_in}
+use Rattle.endpoint_model.specs.Event.{Setup, Call, Event, own_of, receive_in, seek_in}
+use Rattle.log_contexts.proofs.CallsTaken.{call_with}
 use Rattle.endpoint_model.specs.declared.entry.Entry.{Entry}
 use Rattle.endpoint_model.specs.declared.entry.Entry.TheVariants.{Fact as FactEntry, Closed, Sought, Unsought, Moved, Learnt, Advanced, FlowOpened, Queued, Finished, Abandoned, Handed, Discard, Out}
 use Rattle.endpoint_model.specs.Views.{fact_in}
@@ -126,18 +127,7 @@ through true o datagram e = e
 through false o datagram e = absurd cc
 
 draws_none : (call : Call) (datagram : List ℕ) → datagram_of (receive_in call) ≡ Some datagram → drawn_in (seek_in call) ≡ None
-draws_none (Open peer candidates draws) datagram e = refl
-draws_none (Seek name candidates draws) datagram e = absurd cc
-draws_none (Unseek near) datagram e = refl
-draws_none (Cancel n) datagram e = refl
-draws_none (Close near) datagram e = refl
-draws_none (AddRow print addresses) datagram e = refl
-draws_none Introduce datagram e = refl
-draws_none (Learn secret) datagram e = refl
-draws_none Advance datagram e = refl
-draws_none (OnFlows near call) datagram e = refl
-draws_none (Receive from given draws) datagram e = refl
-draws_none (Tick draws) datagram e = refl
+draws_none call datagram e = ap (λ (c : Call). drawn_in (seek_in c)) (call_with call datagram e).1
 
 pub given_draws_none : (e : Event) (datagram : List ℕ) → datagram_in (OfEvent e) ≡ Some datagram → drawn_in (seek_in e.call) ≡ None
 given_draws_none e datagram given = draws_none e.call datagram (through (was_gone_through e.answer) (datagram_of (receive_in e.call)) datagram given)

@@ -2,7 +2,7 @@
 use Rattle.std.proofs.Common.{◌≡◌, ℕ, List, [], ◌∷◌, map, replicate, false, Option, Some, None, filter_map, refl}
 use Rattle.std.specs.List.{AllByRecursion, cons_option}
 use Rattle.endpoint_model.specs.declared.entry.Entry.{Entry}
-use Rattle.endpoint_model.specs.Event.{Setup, Event, Call, Open, Seek, Unseek, Cancel, Close, AddRow, Introduce, Learn, Advance, OnFlows, Receive, Tick}
+use Rattle.endpoint_model.specs.Event.{Setup, Event, Call, Open, Seek, Unseek, Cancel, Close, AddRow, Introduce, Narrow, Learn, Advance, OnFlows, Receive, Tick}
 use Rattle.rtmfp_script.specs.Grammar.{IsName}
 use Rattle.audit_text.specs.declared.line.LogEntry.{LogEntry}
 use Rattle.audit_text.specs.declared.line.LogLine.TheVariants.{Entry as EntryIs}
@@ -21,6 +21,7 @@ none_drawn (Cancel n) h = refl
 none_drawn (Close near) h = refl
 none_drawn (AddRow print addresses) h = refl
 none_drawn Introduce h = refl
+none_drawn (Narrow limit) h = refl
 none_drawn (Learn secret) h = refl
 none_drawn Advance h = refl
 none_drawn (OnFlows near call) h = refl
