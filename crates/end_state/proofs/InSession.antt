@@ -1,6 +1,5 @@
 -- What goes out in a session.
-use Rattle.std.proofs.Common.{ℕ, List, [], ◌∷◌, ◌≡◌, ◌+◌, Bool, true, false, if◌then◌else◌, Option, Some, None, IfSome, inl, inr, refl, sym, ap, ◌∙◌, subst}
-use Rattle.std.specs.Prelude.{option_to_list}
+use Rattle.std.proofs.Common.{ℕ, List, [], ◌∷◌, ◌≡◌, ◌+◌, Bool, true, false, if◌then◌else◌, Option, Some, None, inl, inr, refl, sym, ap, ◌∙◌, subst}
 use Rattle.std.specs.FinMap.{get, insert}
 use Rattle.rtmfp_base.proofs.Maps.{same_tables, same_or_not, get_inserted, get_beside}
 use Rattle.rtmfp_forms.specs.Address.{AddressParts}
@@ -8,19 +7,19 @@ use Rattle.session_core.specs.Session.{SessionState, context_of}
 use Rattle.session_core.specs.Sealed.{after_seal, is_spent}
 use Rattle.startup.specs.State.{StartupState}
 use Rattle.session_table.specs.declared.sealing.Sealed.{Sealed}
-use Rattle.session_table.specs.Table.{in_session, of_session, with_changed, sealed_by}
+use Rattle.session_table.specs.declared.sealing.Packed.{Packed}
+use Rattle.session_table.specs.declared.sealing.Packed.TheVariants.{Nothing, Whole, Long}
+use Rattle.session_table.specs.Table.{IsPacked, IsPackedBy, in_row, of_session, packed_in, with_changed, sealed_by}
 use Rattle.endpoint_model.specs.declared.row.Row.{Row}
 use Rattle.end_state.specs.declared.settings.Settings.{Settings}
 use Rattle.end_state.specs.declared.groups.Groups.{Groups}
 use Rattle.endpoint_model.specs.declared.entry.Entry.{Entry}
 use Rattle.endpoint_model.specs.declared.entry.Entry.TheVariants.{Out}
-use Rattle.endpoint_model.specs.Added.{IsShort}
-use Rattle.endpoint_model.specs.InSessions.{sent_home, sent_home_by}
-use Rattle.endpoint_model.specs.Sending.{sent_by, sent_in_session, session_datagram}
-use Rattle.endpoint_model.specs.State.{State, Did, Sessions, nothing, with_session, with_sessions}
+use Rattle.endpoint_model.specs.Added.{Added}
+use Rattle.endpoint_model.specs.Sending.{is_long, limit_of, pieces_for, sent_by, sent_in_pieces, sent_in_session, sent_whole, session_datagram, session_packet}
+use Rattle.endpoint_model.specs.State.{State, Did, Done, Sessions, nothing, with_row, with_session, with_sessions}
 use Rattle.end_state.specs.Stored.{state_of}
-use Rattle.end_state.specs.Steps.{Gives}
-use Rattle.end_state.proofs.Giving.{gives_nothing}
+use Rattle.end_state.specs.Steps.{long_sent, packed_sent}
 
 -- ---- one datagram goes out, or none
 
@@ -50,29 +49,50 @@ by_count s near to body row true found is =
     ap (λ (m : Sessions). record { state = with_sessions s m; entries = [] })
     (sym (ap (λ (x : SessionState). insert s.sessions near (record row { session = x })) same ∙ insert_found s.sessions near row found))
 
-pub sent_as : (s : State) (near : ℕ) (to : AddressParts) (body : List ℕ) (o : Option Row) → get s.sessions near ≡ o → sent_by s near to body o ≡ sealed_did s near to o (sealed_by s.moment body o)
-sent_as s near to body None found = refl
-sent_as s near to body (Some row) found = by_count s near to body row (is_spent row.session) found refl
+pub whole_as : (s : State) (near : ℕ) (to : AddressParts) (body : List ℕ) (o : Option Row) → get s.sessions near ≡ o → sent_whole s near to body o ≡ sealed_did s near to o (sealed_by s.moment body o)
+whole_as s near to body None found = refl
+whole_as s near to body (Some row) found = by_count s near to body row (is_spent row.session) found refl
 
-pub sent_one : (settings : Settings) (moment sealed : ℕ) (groups : Groups) (startup : StartupState) (old new : Sessions) (t : State) (near : ℕ) (to : AddressParts) (body : List ℕ) (answer : Option Sealed) (entry : Option Entry) →
-    state_of settings moment sealed groups startup old ≡ t → answer ≡ sealed_by moment body (get old near) → new ≡ in_session after_seal old near →
-    out_of to answer ≡ option_to_list entry → IfSome entry (λ e. IsShort e) → Gives (sent_in_session t near to body) (state_of settings moment sealed groups startup new) entry
-sent_one settings moment sealed groups startup old new t near to body answer entry view answer_is new_is entries short =
-    let s : State = state_of settings moment sealed groups startup old in
-    let did : sent_in_session s near to body ≡ sealed_did s near to (get old near) answer =
-    sent_as s near to body (get old near) refl ∙ ap (sealed_did s near to (get old near)) (sym answer_is) in
-    let gives : Gives (sealed_did s near to (get old near) answer) (state_of settings moment sealed groups startup new) entry =
-    record { state = ap (with_sessions s) new_is; entries = entries; short = short } in
-    subst (λ (u : State). Gives (sent_in_session u near to body) (state_of settings moment sealed groups startup new) entry) view
-    (subst (λ (d : Did). Gives d (state_of settings moment sealed groups startup new) entry) (sym did) gives)
+-- ---- whole or in pieces
 
--- ---- to where its datagrams go
+-- the session in a row once its packet was sealed, where it isn't long
+abbrev sealed_row : Row → Bool → Row
+sealed_row row long = record row { session = if long then row.session else after_seal row.session }
 
-pub unsent_home : (s : State) (near : ℕ) (body : List ℕ) → get s.sessions near ≡ None → Gives (sent_home s near body) s None
-unsent_home s near body none = subst (λ (d : Did). Gives d s None) (sym (ap (sent_home_by s near body) none)) (gives_nothing s)
+by_length : (s : State) (near : ℕ) (to : AddressParts) (body : List ℕ) (row : Row) (long : Bool) (packed : Packed) → get s.sessions near ≡ Some row → is_long s row body ≡ long →
+    IsPacked (limit_of s) (session_packet row.session s.moment body) row.session packed →
+    packed_sent (with_row s near (sealed_row row long)) near to packed
+    ≡ (if long then sent_in_pieces s near to row (pieces_for s (session_packet row.session s.moment body)) else sent_whole s near to body (Some row))
+by_length s near to body row true Nothing found long is = let short = is.0 in absurd (cc)
+by_length s near to body row true (Whole x) found long is = let short = is.0 in absurd (cc)
+by_length s near to body row false (Long packet blank) found long is = let longer = is.0 in absurd (cc)
+by_length s near to body row false Nothing found long is =
+    ap (sealed_did s near to (Some row)) (sym is.1) ∙ sym (whole_as s near to body (Some row) found)
+by_length s near to body row false (Whole x) found long is =
+    ap (sealed_did s near to (Some row)) (sym is.1) ∙ sym (whole_as s near to body (Some row) found)
+by_length s near to body row true (Long packet blank) found long is =
+    ap (λ (m : Sessions). long_sent (with_sessions s m) near to packet (get m near)) (insert_found s.sessions near row found)
+    ∙ ap (long_sent s near to packet) found
+    ∙ ap (λ (xs : List ℕ). sent_in_pieces s near to row (pieces_for s xs)) is.1
 
-pub sent_home_to : (s t : State) (near : ℕ) (to : AddressParts) (body : List ℕ) (row : Row) (entry : Option Entry) → get s.sessions near ≡ Some row → to ≡ row.session.address →
-    Gives (sent_in_session s near to body) t entry → Gives (sent_home s near body) t entry
-sent_home_to s t near to body row entry found to_is sent =
-    let P : Did → Type 0 = λ d. Gives d t entry in
-    subst P (ap (λ (a : AddressParts). sent_in_session s near a body) to_is ∙ ap (sent_by s near row.session.address body) found ∙ sym (ap (sent_home_by s near body) found)) sent
+-- What became of a packet of a session goes out, where the session then is as it was left.
+pub packed_as : (s : State) (near : ℕ) (to : AddressParts) (body : List ℕ) (row : Row) (packed : Packed) → get s.sessions near ≡ Some row → IsPacked (limit_of s) (session_packet row.session s.moment body) row.session packed →
+    packed_sent (with_row s near (packed_in (limit_of s) s.moment (λ r. body) row)) near to packed ≡ sent_by s near to body (Some row)
+packed_as s near to body row packed found is = by_length s near to body row (is_long s row body) packed found refl is
+
+packed_where : (s : State) (near : ℕ) (to : AddressParts) (body : List ℕ) (o : Option Row) (packed : Packed) → get s.sessions near ≡ o → IsPackedBy (limit_of s) s.moment (λ r. body) o packed →
+    packed_sent (with_sessions s (with_changed (packed_in (limit_of s) s.moment (λ r. body)) s.sessions near o)) near to packed ≡ sent_by s near to body o
+packed_where s near to body None packed found is = ap (packed_sent s near to) is
+packed_where s near to body (Some row) packed found is = packed_as s near to body row packed found is
+
+pub sent_one : (settings : Settings) (moment sealed limit : ℕ) (groups : Groups) (startup : StartupState) (old new : Sessions) (t u : State) (near most : ℕ) (to : AddressParts) (body : List ℕ) (packed : Packed) (before after : Added) →
+    state_of settings moment sealed limit groups startup old ≡ t → most ≡ limit_of t → IsPackedBy most moment (λ r. body) (get old near) packed → new ≡ in_row (packed_in most moment (λ r. body)) old near →
+    Done (packed_sent (state_of settings moment sealed limit groups startup new) near to packed) u before after → Done (sent_in_session t near to body) u before after
+sent_one settings moment sealed limit groups startup old new t u near most to body packed before after view most_is is new_is done =
+    let s : State = state_of settings moment sealed limit groups startup old in
+    let limited : most ≡ limit_of s = most_is ∙ ap limit_of (sym view) in
+    let packed_so = subst (λ (n : ℕ). IsPackedBy n moment (λ r. body) (get old near) packed) limited is in
+    let left : new ≡ in_row (packed_in (limit_of s) moment (λ r. body)) old near = new_is ∙ ap (λ (n : ℕ). in_row (packed_in n moment (λ r. body)) old near) limited in
+    let did : packed_sent (with_sessions s new) near to packed ≡ sent_in_session s near to body =
+    ap (λ (m : Sessions). packed_sent (with_sessions s m) near to packed) left ∙ packed_where s near to body (get old near) packed refl packed_so in
+    subst (λ (x : State). Done (sent_in_session x near to body) u before after) view (subst (λ (d : Did). Done d u before after) did done)

@@ -1,5 +1,7 @@
 pub mod Giving
+pub mod InPieces
 pub mod InSession
+pub mod LongSent
 pub mod AcksSent
 pub mod Changing
 pub mod Endings

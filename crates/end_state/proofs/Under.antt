@@ -10,8 +10,8 @@ use Rattle.end_state.specs.declared.settings.Settings.{Settings}
 use Rattle.end_state.specs.Groups.{group_there}
 use Rattle.end_state.specs.Stored.{state_of}
 
-pub there_is : (settings : Settings) (moment sealed : ℕ) (groups : Groups) (startup : StartupState) (sessions : Sessions) (place : Place) →
-    group_there groups startup place ≡ group_at (state_of settings moment sealed groups startup sessions) place
-there_is settings moment sealed groups startup sessions (Startup generation) = refl
-there_is settings moment sealed groups startup sessions (Attempt near generation) = refl
-there_is settings moment sealed groups startup sessions (Session near) = refl
+pub there_is : (settings : Settings) (moment sealed limit : ℕ) (groups : Groups) (startup : StartupState) (sessions : Sessions) (place : Place) →
+    group_there groups startup place ≡ group_at (state_of settings moment sealed limit groups startup sessions) place
+there_is settings moment sealed limit groups startup sessions (Startup generation) = refl
+there_is settings moment sealed limit groups startup sessions (Attempt near generation) = refl
+there_is settings moment sealed limit groups startup sessions (Session near) = refl

@@ -1,5 +1,4 @@
 -- Which of the group's secrets goes at a place, of those that an end keeps hashed.
-use Rattle.std.specs.Prelude.{ℕ}
 use Rattle.std.specs.FinMap.{get}
 use Rattle.crypto_profile.specs.declared.group.GroupSecret.{GroupSecret}
 use Rattle.startup.specs.State.{StartupState}

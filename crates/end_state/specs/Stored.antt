@@ -5,12 +5,13 @@ use Rattle.end_state.specs.declared.groups.Groups.{Groups}
 use Rattle.end_state.specs.declared.settings.Settings.{Settings}
 use Rattle.endpoint_model.specs.State.{State, Sessions}
 
-abbrev pub state_of : Settings → ℕ → ℕ → Groups → StartupState → Sessions → State
-state_of settings moment sealed groups startup sessions =
+abbrev pub state_of : Settings → ℕ → ℕ → ℕ → Groups → StartupState → Sessions → State
+state_of settings moment sealed limit groups startup sessions =
     record {
       config = settings.config;
       moment = moment;
       sealed = sealed;
+      limit = limit;
       group = groups.current;
       next = groups.next;
       startup = startup;

@@ -6,6 +6,7 @@ use crypto_profile::Generation;
 use endpoint_model::{Config, Place};
 use identity::Certificate;
 use introducer::{Directory, RowRefusal};
+use rtmfp_base::limits::PLAIN;
 use rtmfp_forms::Address;
 use session_table::SessionTable;
 use startup::Startup;
@@ -15,9 +16,9 @@ use std::marker::Model;
 /// What an end keeps of its attempts, searches and sessions.
 ///
 /// Contracts see its limits, the largest moment that it was given, how many startup packets it
-/// sealed, the group's secret in the current generation and in a next one that is known, what it
-/// keeps of attempts, searches and sessions, each by their session IDs, whether it introduces, and
-/// its rows of addresses.
+/// sealed, how long a packet of a session may be that goes out whole, the group's secret in the
+/// current generation and in a next one that is known, what it keeps of attempts, searches and
+/// sessions, each by their session IDs, whether it introduces, and its rows of addresses.
 #[derive(Drop)]
 pub struct EndState {
     pub alloc: Global,
@@ -27,6 +28,8 @@ pub struct EndState {
     pub print: [u8; 32],
     /// How many startup packets were sealed.
     pub sealed: u64,
+    /// The longest plain packet of a session that goes out whole, in bytes.
+    pub limit: u16,
     pub groups: Groups,
     pub startup: Startup,
     pub sessions: SessionTable,
@@ -47,8 +50,8 @@ impl Model for EndState {
 
     ghost use Rattle.end_state.specs.Stored.{state_of, IsEnd};
 
-    ghost view = { λ e. state_of e.settings e.moment e.sealed e.groups e.startup
-        e.sessions.rows };
+    ghost view = { λ e. state_of e.settings e.moment e.sealed e.limit e.groups
+        e.startup e.sessions.rows };
 
     ghost invariant = { λ e. IsEnd e.settings e.print e.startup };
 }
@@ -59,7 +62,8 @@ impl EndState {
     ghost use Rattle.introducer.specs.Directory.{row_refusal};
     ghost use Rattle.startup.specs.Attempts.{cancel_fact};
     ghost use Rattle.endpoint_model.specs.Introducing.{introducing, with_redirect};
-    ghost use Rattle.endpoint_model.specs.State.{fresh, at_moment};
+    ghost use Rattle.endpoint_model.specs.State.{fresh, at_moment, narrowing};
+    ghost use Rattle.endpoint_model.specs.Sending.{limit_of};
     ghost use Rattle.endpoint_model.specs.Admission.{group_at};
 
     /// An end that holds nothing yet, in this generation with this secret of the group. It takes no
@@ -94,6 +98,7 @@ impl EndState {
             moment: 0,
             print,
             sealed: 0,
+            limit: PLAIN as u16,
             groups: Groups {
                 current: Generation::of(generation, &secret),
                 next: None,
@@ -142,6 +147,22 @@ impl EndState {
         ensures err { OnErr result (self.new ≡ self.old) }
     {
         self.settings.directory.add_row(print, addresses)
+    }
+
+    /// From now on no longer packet of a session goes out whole.
+    pub fn narrow(&mut self, limit: u16)
+        ensures { self.new ≡ narrowing self.old limit }
+    {
+        self.limit = limit;
+    }
+
+    /// How many plain bytes a packet of a session may have that goes out whole.
+    pub(crate) fn limit(&self) -> u16
+        ensures value { result ≡ limit_of self.now }
+        ensures least { 96 ≤ result }
+        ensures most { result ≤ 1164 }
+    {
+        self.limit.max(96).min(1164)
     }
 
     /// The end introduces others from now on.

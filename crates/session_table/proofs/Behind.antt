@@ -16,7 +16,6 @@ use Rattle.endpoint_model.proofs.Parts.{past_front}
 use Rattle.endpoint_model.specs.declared.row.Row.{Row}
 use Rattle.endpoint_model.specs.Sending.{packet_head, session_packet}
 use Rattle.endpoint_model.specs.FlowTimes.{data_body, data_packed}
-use Rattle.session_table.specs.Table.{packet_sealed, sealed_of}
 use Rattle.session_table.specs.FlowTimes.{DataFalls}
 use Rattle.session_table.proofs.SealedParts.{head_at_most}
 
@@ -65,10 +64,10 @@ behind_head row moment =
 -- ---- as it is filled and sealed
 
 module _ (row : Row) (moment : ℕ) (begun packed_now : List ℕ) (begun_is : begun ≡ packet_head row.session moment) where
-  pub sealed_behind : packed_now ≡ (filled (pace_of row.session moment) row.flows.sending begun).packet → packet_sealed packed_now row.session ≡ sealed_of moment (data_body row moment) row.session
-  sealed_behind is =
+  pub packet_behind : packed_now ≡ (filled (pace_of row.session moment) row.flows.sending begun).packet → packed_now ≡ session_packet row.session moment (data_body row moment)
+  packet_behind is =
       let whole : packed_now ≡ (data_packed row moment).packet = is ∙ ap (λ (x : List ℕ). (filled (pace_of row.session moment) row.flows.sending x).packet) begun_is in
-      ap (λ (x : List ℕ). packet_sealed x row.session) (whole ∙ sym (behind_head row moment))
+      whole ∙ sym (behind_head row moment)
 
   pub flows_behind : (new : FlowsState) → new ≡ with_sending row.flows (filled (pace_of row.session moment) row.flows.sending begun).sending → new ≡ with_sending row.flows (data_packed row moment).sending
   flows_behind new is = is ∙ ap (λ (x : List ℕ). with_sending row.flows (filled (pace_of row.session moment) row.flows.sending x).sending) begun_is

@@ -1,5 +1,5 @@
 -- One row is changed.
-use Rattle.std.proofs.Common.{ℕ, ◌≡◌, ◌+◌, set, Bool, true, false, if◌then◌else◌, Option, Some, None, refl, sym, ap, ◌∙◌}
+use Rattle.std.proofs.Common.{ℕ, ◌≡◌, ◌+◌, List, length, nat_lt, set, Bool, true, false, if◌then◌else◌, Option, Some, None, refl, sym, ap, ◌∙◌}
 use Rattle.std.specs.FinMap.{insert}
 use Rattle.session_core.specs.declared.stage.Stage.TheVariants.{NearClose, FarLinger}
 use Rattle.session_core.specs.declared.stage.SessionDue.{SessionDue}
@@ -15,7 +15,8 @@ use Rattle.keyed_slab.specs.KeyedSlab.{Seats, thing_at, with_thing}
 use Rattle.keyed_slab.specs.SlotSet.{Flags}
 use Rattle.keyed_slab.proofs.Seated.{set_at, set_loose}
 use Rattle.session_table.specs.declared.round.Round.{Round}
-use Rattle.session_table.specs.Table.{near_of, with_changed, in_row, of_session}
+use Rattle.endpoint_model.specs.Sending.{has_counts}
+use Rattle.session_table.specs.Table.{near_of, with_changed, in_row, of_session, after_packed, packet_counted}
 use Rattle.session_table.specs.Inside.{IsKept, IsLoose, due_from, rows_in, may_be_due_of, slot_of}
 use Rattle.session_table.proofs.Rounds.{beside_awaits}
 use Rattle.session_table.proofs.Rows.{row_there, put_at, found_at, found_nowhere}
@@ -86,3 +87,13 @@ spent_keeps false s t e = e
 
 pub sealing_keeps : (s : SessionState) → (after_seal s).joined.near ≡ s.joined.near
 sealing_keeps s = spent_keeps (is_spent s) s (record s { sealed = s.sealed + 1 }) refl
+
+pub packing_keeps : (limit : ℕ) (packet : List ℕ) (s : SessionState) → (after_packed limit packet s).joined.near ≡ s.joined.near
+packing_keeps limit packet s = spent_keeps (nat_lt limit (length packet)) s (after_seal s) (sealing_keeps s)
+
+counted_keeps : (b : Bool) (row : Row) → near_of (if b then record row { packets = row.packets + 1 } else row) ≡ near_of row
+counted_keeps true row = refl
+counted_keeps false row = refl
+
+pub counting_keeps : (pieces : ℕ) (row : Row) → near_of (packet_counted pieces row) ≡ near_of row
+counting_keeps pieces row = counted_keeps (has_counts row pieces) row

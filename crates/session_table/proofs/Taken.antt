@@ -1,5 +1,5 @@
 -- A row in which a chunk of flows was taken, or whose acks were sealed.
-use Rattle.std.proofs.Common.{ℕ, ◌≡◌, ◌<◌, ◌+◌, Bool, true, false, Option, Some, None, Result, Ok, Err, OnOk, OnErr, MatchOption, refl, sym, ap, subst, ◌∙◌}
+use Rattle.std.proofs.Common.{ℕ, List, ◌≡◌, ◌<◌, ◌+◌, Bool, true, false, Option, Some, None, Result, Ok, Err, OnOk, OnErr, MatchOption, refl, sym, ap, subst, ◌∙◌}
 use Rattle.std.specs.FinMap.{get}
 use Rattle.flow_send.specs.Flow.{Flow}
 use Rattle.flow_send.specs.Acks.{Told, makes_lost, new_bytes}
@@ -15,7 +15,10 @@ use Rattle.endpoint_model.specs.State.{Sessions}
 use Rattle.endpoint_model.specs.FlowChunks.{owes_by}
 use Rattle.rtmfp_base.proofs.Maps.{get_inserted}
 use Rattle.session_table.specs.declared.round.Round.{Round}
-use Rattle.session_table.specs.Table.{Table, near_of, in_row, with_changed}
+use Rattle.endpoint_model.specs.Sending.{session_packet}
+use Rattle.session_table.specs.declared.sealing.Packed.{Packed}
+use Rattle.session_table.specs.declared.sealing.Packed.TheVariants.{Nothing}
+use Rattle.session_table.specs.Table.{Table, near_of, in_row, with_changed, IsPacked, IsPackedBy}
 use Rattle.session_table.specs.Chunks.{of_flows, cause_in, owed_at}
 use Rattle.deadlines.specs.Deadlines.{Slots}
 use Rattle.keyed_slab.specs.Keys.{KeyTable}
@@ -69,6 +72,9 @@ module _ {keys : KeyTable} {deadlines : Slots} {sending : Flags} {round : Round}
   pub told_is : {A : Type 0} (tell : Option Row → A) → tell (get seen.rows near) ≡ tell (Some old)
   told_is tell = ap tell (there seen rows free near slot old view kept position is)
 
+  pub packed_is : (limit moment : ℕ) (body : Row → List ℕ) (packed : Packed) → IsPacked limit (session_packet old.session moment (body old)) old.session packed → IsPackedBy limit moment body (get seen.rows near) packed
+  packed_is limit moment body packed h = subst (λ (o : Option Row). IsPackedBy limit moment body o packed) (sym (there seen rows free near slot old view kept position is)) h
+
   pub cause_is : (cause : SessionState → FlowsState → Option Cause) (P : Type 0) (Q : Cause → Type 0) → MatchOption (cause old.session old.flows) P Q → MatchOption (cause_in cause (get seen.rows near)) P Q
   cause_is cause P Q h = subst (λ (o : Option Cause). MatchOption o P Q) (sym (told_is (cause_in cause))) h
 
@@ -91,8 +97,15 @@ none_owed e = absurd cc
 
 module _ {keys : KeyTable} {deadlines : Slots} {sending : Flags} {round : Round} (seen : Table) (rows : Seats Row) (free near : ℕ) (view : record { rows = rows_in rows; free = free } ≡ seen) (kept : IsKept rows keys deadlines sending round)
     (position : None ≡ slot_of keys near) where
+  pub none_there : get seen.rows near ≡ None
+  none_there = ap (λ (t : Table). get t.rows near) (sym view) ∙ found_nowhere rows near kept position
+
   pub told_none : {A : Type 0} (tell : Option Row → A) → tell (get seen.rows near) ≡ tell None
-  told_none tell = ap tell (ap (λ (t : Table). get t.rows near) (sym view) ∙ found_nowhere rows near kept position)
+  told_none tell = ap tell none_there
+
+  pub packed_none : (limit moment : ℕ) (body : Row → List ℕ) → IsPackedBy limit moment body (get seen.rows near) Nothing
+  packed_none limit moment body =
+      subst (λ (o : Option Row). IsPackedBy limit moment body o Nothing) (sym none_there) refl
 
   pub same_rows : (change : Row → Row) → seen.rows ≡ in_row change seen.rows near
   same_rows change = ap (λ (t : Table). t.rows) (sym view) ∙ unchanged change rows near kept position ∙ ap (λ (t : Table). in_row change t.rows near) view

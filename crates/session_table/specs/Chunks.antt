@@ -2,7 +2,6 @@
 use Rattle.std.specs.Prelude.{ℕ, List, [], Option, Some, None}
 use Rattle.flow_send.specs.Acks.{Told}
 use Rattle.session_core.specs.Session.{SessionState}
-use Rattle.session_core.specs.Sealed.{after_seal}
 use Rattle.rtmfp_base.specs.declared.cause.Cause.{Cause}
 use Rattle.rtmfp_base.specs.declared.cause.Cause.TheVariants.{WrongState}
 use Rattle.session_flows.specs.Keeping.{FlowsState, Stated}
@@ -10,10 +9,9 @@ use Rattle.session_flows.specs.Chunks.{heard, session_heard, rejecting, waiting_
 use Rattle.session_flows.specs.Handing.{hands_once}
 use Rattle.session_flows.specs.Owing.{after_acks, owed_count}
 use Rattle.endpoint_model.specs.declared.row.Row.{Row}
-use Rattle.endpoint_model.specs.Sending.{packet_head}
+use Rattle.endpoint_model.specs.Sending.{packet_head, session_packet}
 use Rattle.endpoint_model.specs.FlowChunks.{acks_body}
-use Rattle.session_table.specs.declared.sealing.Sealed.{Sealed}
-use Rattle.session_table.specs.Table.{sealed_of}
+use Rattle.session_table.specs.Table.{after_packed}
 
 -- the flows of a session are changed so
 abbrev pub of_flows : (FlowsState → FlowsState) → Row → Row
@@ -48,17 +46,17 @@ waiting_in flow (Some row) = waiting_at row.flows flow
 
 -- ---- acks
 
--- The acks that are owed go out, as many as have room behind the head. Where all counts are used
--- nothing is sealed, and they count as sent all the same.
-abbrev pub acked : ℕ → Row → Row
-acked moment row = record row {
-  session = after_seal row.session;
+-- what is behind the head of a packet of acks
+abbrev pub acks_at : ℕ → Row → List ℕ
+acks_at moment row = acks_body row moment
+
+-- The acks that are owed go out, as many as have room behind the head. Where nothing is sealed they
+-- count as sent all the same.
+abbrev pub acked : ℕ → ℕ → Row → Row
+acked limit moment row = record row {
+  session = after_packed limit (session_packet row.session moment (acks_at moment row)) row.session;
   flows = after_acks row.flows (packet_head row.session moment);
 }
-
-abbrev pub acks_sealed : ℕ → Option Row → Option Sealed
-acks_sealed moment None = None
-acks_sealed moment (Some row) = sealed_of moment (acks_body row moment) row.session
 
 -- how many are owed
 abbrev pub owed_at : Option Row → ℕ

@@ -1,9 +1,8 @@
 -- What time makes due of the flows of the sessions, and what is done of it.
-use Rattle.std.specs.Prelude.{ℕ, ◌≡◌, ◌<◌, [], ◌∷◌, true, Option, Some, None, IfSome}
+use Rattle.std.specs.Prelude.{ℕ, ◌≡◌, ◌<◌, List, [], ◌∷◌, true, Option, None, IfSome}
 use Rattle.std.specs.Option.{option_map}
 use Rattle.std.specs.FinMap.{get}
 use Rattle.rtmfp_base.specs.Reasons.{where_true, first_that_stands}
-use Rattle.session_core.specs.Sealed.{after_seal}
 use Rattle.session_core.specs.Closing.{needs_keepalive}
 use Rattle.session_flows.specs.Keeping.{with_sending}
 use Rattle.session_flows.specs.Calling.{abandon_refused}
@@ -14,9 +13,9 @@ use Rattle.endpoint_model.specs.declared.row.Row.{Row}
 use Rattle.endpoint_model.specs.declared.row_due.RowDue.{RowDue}
 use Rattle.endpoint_model.specs.declared.row_due.RowDue.TheVariants.{Data, Keepalive}
 use Rattle.endpoint_model.specs.State.{Sessions}
+use Rattle.endpoint_model.specs.Sending.{session_packet}
 use Rattle.endpoint_model.specs.FlowTimes.{abandon_due, data_body, data_packed, late_marked}
-use Rattle.session_table.specs.declared.sealing.Sealed.{Sealed}
-use Rattle.session_table.specs.Table.{sealed_of}
+use Rattle.session_table.specs.Table.{after_packed}
 
 -- ---- numbers that are lost by time
 
@@ -47,16 +46,16 @@ overdue_gone moment row = record row {
   flows = (overdue_done row.flows (overdue_in row.session row.flows moment)).flows;
 }
 
+-- what is behind the head of a packet of flow data
+abbrev pub data_at : ℕ → Row → List ℕ
+data_at moment row = data_body row moment
+
 -- Flow data goes.
-abbrev pub data_gone : ℕ → Row → Row
-data_gone moment row = record row {
-  session = after_seal row.session;
+abbrev pub data_gone : ℕ → ℕ → Row → Row
+data_gone limit moment row = record row {
+  session = after_packed limit (session_packet row.session moment (data_at moment row)) row.session;
   flows = with_sending row.flows (data_packed row moment).sending;
 }
-
-abbrev pub data_sealed : ℕ → Option Row → Option Sealed
-data_sealed moment None = None
-data_sealed moment (Some row) = sealed_of moment (data_body row moment) row.session
 
 -- Where it is due, less is left to send then, and the same messages wait.
 pub record DataFalls (moment : ℕ) (row : Row) : Type 0 where

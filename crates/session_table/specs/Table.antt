@@ -1,20 +1,22 @@
 -- The rows of an end's sessions: as a list, and by their session IDs; and what is done to the row
 -- under one.
-use Rattle.std.specs.Prelude.{ℕ, List, map, true, if◌then◌else◌, Option, Some, None, refl}
+use Rattle.std.specs.Prelude.{ℕ, ◌≡◌, ◌≤◌, ◌+◌, nat_lt, List, length, map, true, false, if◌then◌else◌, Option, Some, None, refl}
 use Rattle.std.specs.List.{find}
 use Rattle.std.specs.Coded.{Coded, code_by, coded×, coded_ℕ}
 use Rattle.std.specs.FinMap.{from_entries, entries, get, insert, code}
 use Rattle.rtmfp_forms.specs.Address.{AddressParts}
 use Rattle.packet_scramble.specs.Datagram.{datagram}
 use Rattle.session_core.specs.Session.{SessionState, context_of, moved_to}
-use Rattle.session_core.specs.Sealed.{is_spent, sealed_part}
+use Rattle.session_core.specs.Sealed.{after_seal, is_spent, sealed_part}
 use Rattle.mobility.specs.Tests.{after_seen, after_reply}
 use Rattle.endpoint_model.specs.declared.row.Row.{Row}
 use Rattle.endpoint_model.specs.declared.row_due.RowDue.{RowDue}
 use Rattle.endpoint_model.specs.State.{Sessions}
-use Rattle.endpoint_model.specs.Sending.{session_packet}
+use Rattle.endpoint_model.specs.Sending.{has_counts, session_packet}
 use Rattle.endpoint_model.specs.FlowTimes.{is_row_due, row_due}
 use Rattle.session_table.specs.declared.sealing.Sealed.{Sealed}
+use Rattle.session_table.specs.declared.sealing.Packed.{Packed}
+use Rattle.session_table.specs.declared.sealing.Packed.TheVariants.{Nothing, Whole, Long}
 
 -- the session ID of the session in a row
 abbrev pub near_of : Row → ℕ
@@ -80,6 +82,47 @@ sealed_of moment body session = packet_sealed (session_packet session moment bod
 abbrev pub sealed_by : ℕ → List ℕ → Option Row → Option Sealed
 sealed_by moment body None = None
 sealed_by moment body (Some row) = sealed_of moment body row.session
+
+-- ---- packets that may be too long
+
+-- What became of a packet: one of more bytes than the limit isn't sealed, and is left to go out in
+-- pieces.
+abbrev pub IsPacked : ℕ → List ℕ → SessionState → Packed → Type 0
+IsPacked limit packet session Nothing =
+    (nat_lt limit (length packet) ≡ false) × (packet_sealed packet session ≡ None)
+IsPacked limit packet session (Whole x) =
+    (nat_lt limit (length packet) ≡ false) × (packet_sealed packet session ≡ Some x) ×
+    (length x.datagram ≤ 1200)
+IsPacked limit packet session (Long long blank) = (nat_lt limit (length packet) ≡ true) ×
+    (long ≡ packet) × (length packet ≤ 1164) × (length blank.items ≡ 1200)
+
+-- that of a body, behind the head of the session
+abbrev pub IsPackedBy : ℕ → ℕ → (Row → List ℕ) → Option Row → Packed → Type 0
+IsPackedBy limit moment body None packed = packed ≡ Nothing
+IsPackedBy limit moment body (Some row) packed =
+    IsPacked limit (session_packet row.session moment (body row)) row.session packed
+
+-- the session then: a packet that isn't sealed isn't counted
+abbrev pub after_packed : ℕ → List ℕ → SessionState → SessionState
+after_packed limit packet session =
+    if nat_lt limit (length packet) then session else after_seal session
+
+abbrev pub packed_in : ℕ → ℕ → (Row → List ℕ) → Row → Row
+packed_in limit moment body row = record row {
+  session = after_packed limit (session_packet row.session moment (body row)) row.session;
+}
+
+-- ---- IDs of packets that go out in pieces
+
+-- the next one, where it is left, and counts for so many pieces
+abbrev pub next_packet : ℕ → Option Row → Option ℕ
+next_packet pieces None = None
+next_packet pieces (Some row) =
+    if has_counts row pieces then Some (row.packets + 1) else None
+
+abbrev pub packet_counted : ℕ → Row → Row
+packet_counted pieces row =
+    if has_counts row pieces then record row { packets = row.packets + 1 } else row
 
 -- ---- what is due
 

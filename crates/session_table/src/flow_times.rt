@@ -1,19 +1,20 @@
 //! What time makes due of the flows of the sessions, and what is done of it. None of it takes
 //! memory.
 
-ghost use Rattle.std.specs.Prelude.{◌≡◌, ◌<◌, ◌≤◌, ℕ, IfSome, IsSome, length};
+ghost use Rattle.std.specs.Prelude.{◌≡◌, ◌<◌, ℕ, IfSome, IsSome, length};
 ghost use Rattle.std.specs.FinMap.{get};
-ghost use Rattle.endpoint_model.specs.FlowTimes.{data_body, late_marked};
-ghost use Rattle.session_table.specs.FlowTimes.{AreLate, DataFalls, OverdueWaits, data_gone};
-ghost use Rattle.session_table.specs.FlowTimes.{data_sealed, overdue_gone};
+ghost use Rattle.endpoint_model.specs.FlowTimes.{late_marked};
+ghost use Rattle.endpoint_model.specs.Sending.{session_packet};
+ghost use Rattle.session_table.specs.FlowTimes.{AreLate, DataFalls, OverdueWaits, data_at};
+ghost use Rattle.session_table.specs.FlowTimes.{data_gone, overdue_gone};
 ghost use Rattle.keyed_slab.specs.KeyedSlab.{thing_at};
 ghost use Rattle.keyed_slab.specs.SlotSet.{AreApart, slot_at};
 ghost use Rattle.keyed_slab.specs.Walks.{AreChanged};
 ghost use Rattle.session_table.specs.Inside.{IsKept, rows_in};
-ghost use Rattle.session_table.specs.Table.{in_row, sealed_of};
+ghost use Rattle.session_table.specs.Table.{IsPacked, IsPackedBy, in_row};
 
 use crate::kept::Kept;
-use crate::sealing::{Sealed, seal_packet};
+use crate::sealing::{Packed, pack};
 use crate::slot::slot_near;
 use crate::table::SessionTable;
 use endpoint_model::Row;
@@ -44,23 +45,22 @@ impl SessionTable {
 
     /// Seals a packet of flow data in the session with this session ID, in a buffer that is lent
     /// for it: as many chunks as go, behind a head that has the timestamp of this moment. The flows
-    /// keep that they went. Where there is no such session, or all its counts are used, nothing is
-    /// sealed.
-    pub fn seal_data(&mut self, near: u32, moment: u64, blank: Vec<u8>) -> Option<Sealed>
+    /// keep that they went. Where there is no such session, all its counts are used, or the packet
+    /// has more bytes than the limit, nothing is sealed.
+    pub fn seal_data(&mut self, near: u32, moment: u64, limit: u16, blank: Vec<u8>) -> Packed
         requires blank { length blank.items ≡ 1200 }
-        ensures answer { result ≡ data_sealed moment (get self.old.rows near) }
-        ensures limit { IfSome result (λ x. length x.datagram ≤ 1200) }
-        ensures rows { self.new.rows ≡ in_row (data_gone moment) self.old.rows near }
+        ensures answer { IsPackedBy limit moment (data_at moment) (get self.old.rows near) result }
+        ensures rows { self.new.rows ≡ in_row (data_gone limit moment) self.old.rows near }
         // Where flow data is due, less is left to send then, and the same messages wait.
         ensures falls { IfSome (get self.old.rows near) (λ row. DataFalls moment row) }
     {
         match slot_near(&self.kept, near, self.likely) {
             Some(slot) => {
-                let sealed = seal_data_in(&mut self.kept.rows[slot], moment, blank);
+                let packed = seal_data_in(&mut self.kept.rows[slot], moment, limit, blank);
                 self.kept.settle(slot);
-                sealed
+                packed
             }
-            None => None,
+            None => Packed::Nothing,
         }
     }
 }
@@ -116,14 +116,14 @@ fn abandon_in(row: &mut Row, moment: u64)
 }
 
 /// Seals a packet of flow data in a session.
-fn seal_data_in(row: &mut Row, moment: u64, blank: Vec<u8>) -> Option<Sealed>
+fn seal_data_in(row: &mut Row, moment: u64, limit: u16, blank: Vec<u8>) -> Packed
     requires blank { length blank.items ≡ 1200 }
-    ensures answer { result ≡ sealed_of moment (data_body row.old moment) row.old.session }
-    ensures limit { IfSome result (λ x. length x.datagram ≤ 1200) }
-    ensures row { row.new ≡ data_gone moment row.old }
+    ensures answer { IsPacked limit (session_packet row.old.session moment
+        (data_at moment row.old)) row.old.session result }
+    ensures row { row.new ≡ data_gone limit moment row.old }
     ensures falls { DataFalls moment row.old }
 {
     let mut packet = begin_packet(&row.session.head(moment));
     row.flows.fill(&row.session, moment, &mut packet);
-    seal_packet(&mut row.session, blank, &packet)
+    pack(&mut row.session, limit, blank, packet)
 }

@@ -15,5 +15,5 @@ mod sealing;
 mod slot;
 mod table;
 
-pub use sealing::Sealed;
+pub use sealing::{Packed, Sealed};
 pub use table::SessionTable;

@@ -107,7 +107,7 @@ impl SessionTable {
     }
 
     /// Keeps a session that begins under its session ID, for which there is room: no address of it
-    /// is tested, it has no flows, and no pieces of packets came.
+    /// is tested, it has no flows, and no pieces of packets came or went.
     pub fn keep(&mut self, session: Session)
         requires { 0 < self.old.free }
         ensures { self.new.rows ≡ insert self.old.rows session.joined.near (new_row session) }
@@ -117,6 +117,7 @@ impl SessionTable {
             moves: Moves::new(),
             flows: Flows::new(self.alloc),
             gathering: Reassembly::new(self.alloc),
+            packets: 0,
         });
     }
 

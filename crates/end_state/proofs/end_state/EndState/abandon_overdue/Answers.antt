@@ -9,5 +9,5 @@ use Rattle.end_state.proofs.end_state.EndState.abandon_overdue.Goals as goal
 pub returns-clause-state : goal.returns-clause-state
 returns-clause-state c =
     let i = c.self.inside in
-    changed_state i.settings i.moment i.sealed i.groups i.startup i.sessions.rows c.abandon_overdue.new.self.rows c.args.self.now c.args.near (overdue_gone i.moment)
+    changed_state i.settings i.moment i.sealed i.limit i.groups i.startup i.sessions.rows c.abandon_overdue.new.self.rows c.args.self.now c.args.near (overdue_gone i.moment)
     (λ (s : State) (o : Option Row). row_changed overdue_gone s c.args.near o) c.self.view_is c.abandon_overdue.ensures.rows refl (λ row. refl)

@@ -24,7 +24,7 @@ returns-in-Some c =
     let i = c.self.inside in
     let row : Row = c.in-Some.row.now in
     let peer = ap (λ (j : Joined). j.peer) c.joined.ensures in
-    confirmed_gives (state_of i.settings i.moment i.sealed i.groups i.startup i.sessions.rows) c.args.self.now c.args.near row (of_session confirmed row) c.confirm-fact.new.self c.confirm.new.self.rows c.confirm-fact.result c.fact_entry.result
+    confirmed_gives (state_of i.settings i.moment i.sealed i.limit i.groups i.startup i.sessions.rows) c.args.self.now c.args.near row (of_session confirmed row) c.confirm-fact.new.self c.confirm.new.self.rows c.confirm-fact.result c.fact_entry.result
     c.self.view_is (sym c.in-Some.ensures) c.requires refl (c.confirm.ensures ∙ ap (with_changed (of_session confirmed) i.sessions.rows c.args.near) (sym c.in-Some.ensures))
     (c.confirm-fact.ensures.after ∙ ap (after_confirm i.startup) peer) (c.confirm-fact.ensures.fact ∙ ap (confirm_fact i.startup) peer) c.fact_entry.ensures.entries c.fact_entry.ensures.short
 

@@ -11,5 +11,5 @@ use Rattle.end_state.proofs.end_state.EndState.count_in.Goals as goal
 pub returns : goal.returns
 returns c =
     let i = c.self.inside in
-    changed_state i.settings i.moment i.sealed i.groups i.startup i.sessions.rows c.take_number.new.self.rows c.args.self.now c.args.near (of_session (λ (x : SessionState). counted x c.args.part.now))
+    changed_state i.settings i.moment i.sealed i.limit i.groups i.startup i.sessions.rows c.take_number.new.self.rows c.args.self.now c.args.near (of_session (λ (x : SessionState). counted x c.args.part.now))
     (λ (s : State) (o : Option Row). counted_by s c.args.near c.args.part.now o) c.self.view_is c.take_number.ensures refl (λ row. refl)

@@ -21,7 +21,7 @@ pub returns-in-Some : goal.returns-in-Some
 returns-in-Some c =
     let i = c.self.inside in
     let peer = ap (λ (j : Joined). j.peer) c.joined.ensures in
-    told_gives (state_of i.settings i.moment i.sealed i.groups i.startup i.sessions.rows) c.args.self.now c.args.near c.args.why c.in-Some.row.now c.end-fact.new.self c.end-fact.result c.fact_entry.result
+    told_gives (state_of i.settings i.moment i.sealed i.limit i.groups i.startup i.sessions.rows) c.args.self.now c.args.near c.args.why c.in-Some.row.now c.end-fact.new.self c.end-fact.result c.fact_entry.result
     c.self.view_is (sym c.in-Some.ensures) (c.end-fact.ensures.after ∙ ap (λ p. after_end i.startup p c.args.why) peer) (c.end-fact.ensures.fact ∙ ap (λ p. end_fact i.startup p c.args.why) peer)
     c.fact_entry.ensures.entries c.fact_entry.ensures.short
 

@@ -10,5 +10,5 @@ use Rattle.end_state.proofs.end_state.EndState.forget_acks.Goals as goal
 pub returns : goal.returns
 returns c =
     let i = c.self.inside in
-    changed_state i.settings i.moment i.sealed i.groups i.startup i.sessions.rows c.forget_acks.new.self.rows c.args.self.now c.args.near (of_flows owing_none)
+    changed_state i.settings i.moment i.sealed i.limit i.groups i.startup i.sessions.rows c.forget_acks.new.self.rows c.args.self.now c.args.near (of_flows owing_none)
     (λ (s : State) (o : Option Row). unowed_by s c.args.near o) c.self.view_is c.forget_acks.ensures refl (λ row. refl)

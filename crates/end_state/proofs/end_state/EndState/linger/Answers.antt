@@ -10,5 +10,5 @@ use Rattle.end_state.proofs.end_state.EndState.linger.Goals as goal
 pub returns : goal.returns
 returns c =
     let i = c.self.inside in
-    changed_state i.settings i.moment i.sealed i.groups i.startup i.sessions.rows c.linger.new.self.rows c.args.self.now c.args.near (of_session (asked_to_close i.moment))
+    changed_state i.settings i.moment i.sealed i.limit i.groups i.startup i.sessions.rows c.linger.new.self.rows c.args.self.now c.args.near (of_session (asked_to_close i.moment))
     (λ (s : State) (o : Option Row). session_changed asked_to_close s c.args.near o) c.self.view_is c.linger.ensures refl (λ row. refl)

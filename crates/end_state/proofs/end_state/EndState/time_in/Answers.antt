@@ -10,5 +10,5 @@ use Rattle.end_state.proofs.end_state.EndState.time_in.Goals as goal
 pub returns : goal.returns
 returns c =
     let i = c.self.inside in
-    changed_state i.settings i.moment i.sealed i.groups i.startup i.sessions.rows c.take_stamps.new.self.rows c.args.self.now c.args.near (of_session (with_stamps c.args.head.now i.moment))
+    changed_state i.settings i.moment i.sealed i.limit i.groups i.startup i.sessions.rows c.take_stamps.new.self.rows c.args.self.now c.args.near (of_session (with_stamps c.args.head.now i.moment))
     (λ (s : State) (o : Option Row). timed_by s c.args.near c.args.head.now o) c.self.view_is c.take_stamps.ensures refl (λ row. refl)
