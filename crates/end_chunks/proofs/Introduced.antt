@@ -25,7 +25,7 @@ narrow_tag tag narrow = by (nat_lt 128 (length tag)) refl narrow
     by true is e = absurd (cc)
     by false is e = ltb-false 128 (length tag) is
 
-pub forwarded_length : (epd tag : List ℕ) (reply : AddressParts) (selected : Epd) → wide tag ≡ None → discriminator_of epd ≡ Some selected → length (chunk_bytes (FIHello epd reply tag)) ≤ 1159
+pub forwarded_length : (epd tag : List ℕ) (reply : AddressParts) (selected : Epd) → wide tag ≡ None → discriminator_of epd ≡ Some selected → length (chunk_bytes (FIHello epd reply tag)) ≤ 288
 forwarded_length epd tag reply selected narrow is =
     omega (arith, fihello_length epd reply tag (omega (arith, discriminator_length epd selected is)) (narrow_tag tag narrow))
 

@@ -59,10 +59,10 @@ added_first entries d new before between after is done = record {
 
 -- ---- what startup left
 
-pub startup_put : (settings : Settings) (moment sealed : ℕ) (groups : Groups) (startup next left : StartupState) (sessions rows : Sessions) → rows ≡ sessions → next ≡ left →
-    state_of settings moment sealed groups next rows ≡ with_startup (state_of settings moment sealed groups startup sessions) left
-startup_put settings moment sealed groups startup next left sessions rows same is =
-    ap (λ r. state_of settings moment sealed groups next r) same ∙ ap (λ x. state_of settings moment sealed groups x sessions) is
+pub startup_put : (settings : Settings) (moment sealed limit : ℕ) (groups : Groups) (startup next left : StartupState) (sessions rows : Sessions) → rows ≡ sessions → next ≡ left →
+    state_of settings moment sealed limit groups next rows ≡ with_startup (state_of settings moment sealed limit groups startup sessions) left
+startup_put settings moment sealed limit groups startup next left sessions rows same is =
+    ap (λ r. state_of settings moment sealed limit groups next r) same ∙ ap (λ x. state_of settings moment sealed limit groups x sessions) is
 
 -- ---- an initiator's keying
 
@@ -80,15 +80,15 @@ keyed_so s t place from draws payload near g k new before after near_is g_is key
     subst (λ n. Done (keying_done (left n (group_at s place)) from (group_at s place) (keyed s.startup payload from s.moment n draws.nonce (group_at s place))) new before after) near_is under
 
 -- the same of how an end is kept
-pub keyed_here : (settings : Settings) (moment sealed : ℕ) (groups : Groups) (startup next : StartupState) (sessions rows : Sessions) (s : State) (place : Place) (from : AddressParts) (draws : Draws) (payload : List ℕ) (near : ℕ) (g : GroupSecret) (k : Keyed) (new : State) (before after : Added) →
-    state_of settings moment sealed groups startup sessions ≡ s → near ≡ free_from s draws.word → g ≡ group_there groups startup place → rows ≡ sessions →
+pub keyed_here : (settings : Settings) (moment sealed limit : ℕ) (groups : Groups) (startup next : StartupState) (sessions rows : Sessions) (s : State) (place : Place) (from : AddressParts) (draws : Draws) (payload : List ℕ) (near : ℕ) (g : GroupSecret) (k : Keyed) (new : State) (before after : Added) →
+    state_of settings moment sealed limit groups startup sessions ≡ s → near ≡ free_from s draws.word → g ≡ group_there groups startup place → rows ≡ sessions →
     keyed startup payload from moment near draws.nonce g ≡ Some k → next ≡ after_keying startup payload from moment near draws.nonce g →
-    Done (keying_done (state_of settings moment sealed groups next rows) from g (Some k)) new before after → Done (initiator_keyed s place from draws payload) new before after
-keyed_here settings moment sealed groups startup next sessions rows s place from draws payload near g k new before after view near_is under rows_are is left done =
+    Done (keying_done (state_of settings moment sealed limit groups next rows) from g (Some k)) new before after → Done (initiator_keyed s place from draws payload) new before after
+keyed_here settings moment sealed limit groups startup next sessions rows s place from draws payload near g k new before after view near_is under rows_are is left done =
     subst (λ (u : State). Done (initiator_keyed u place from draws payload) new before after) view
-    (keyed_so (state_of settings moment sealed groups startup sessions) (state_of settings moment sealed groups next rows) place from draws payload near g k new before after
-    (near_is ∙ ap (λ (u : State). free_from u draws.word) (sym view)) (under ∙ there_is settings moment sealed groups startup sessions place) is
-    (startup_put settings moment sealed groups startup next (after_keying startup payload from moment near draws.nonce g) sessions rows rows_are left) done)
+    (keyed_so (state_of settings moment sealed limit groups startup sessions) (state_of settings moment sealed limit groups next rows) place from draws payload near g k new before after
+    (near_is ∙ ap (λ (u : State). free_from u draws.word) (sym view)) (under ∙ there_is settings moment sealed limit groups startup sessions place) is
+    (startup_put settings moment sealed limit groups startup next (after_keying startup payload from moment near draws.nonce g) sessions rows rows_are left) done)
 
 -- the answer alone goes out
 pub answer_sent : (t : State) (answer : Answer) (new : State) (entry : Option Entry) (before roomy after : Added) → roomy.entries ≡ before.entries → before.free ≤ roomy.free → roomy.room ≡ before.room →
@@ -96,19 +96,19 @@ pub answer_sent : (t : State) (answer : Answer) (new : State) (entry : Option En
 answer_sent t answer new entry before roomy after e1 f1 r1 gives e2 f2 r2 =
     made_room (sent_answer t answer) new before roomy after e1 f1 r1 (given_done (sent_answer t answer) new entry roomy after gives e2 f2 r2)
 
-pub born_state : (settings : Settings) (moment sealed : ℕ) (groups : Groups) (startup : StartupState) (rows new : Sessions) (ended : Option Fact) (born : Fact) (from : AddressParts) (print : List ℕ) (g : GroupSecret) →
+pub born_state : (settings : Settings) (moment sealed limit : ℕ) (groups : Groups) (startup : StartupState) (rows new : Sessions) (ended : Option Fact) (born : Fact) (from : AddressParts) (print : List ℕ) (g : GroupSecret) →
     print ≡ startup.ledger.own → new ≡ sessions_born rows ended born print from g moment →
-    state_of settings moment sealed groups startup new ≡ with_born (state_of settings moment sealed groups startup rows) ended born from g
-born_state settings moment sealed groups startup rows new ended born from print g print_is table =
-    ap (with_sessions (state_of settings moment sealed groups startup rows)) (table ∙ ap (λ p. sessions_born rows ended born p from g moment) print_is)
+    state_of settings moment sealed limit groups startup new ≡ with_born (state_of settings moment sealed limit groups startup rows) ended born from g
+born_state settings moment sealed limit groups startup rows new ended born from print g print_is table =
+    ap (with_sessions (state_of settings moment sealed limit groups startup rows)) (table ∙ ap (λ p. sessions_born rows ended born p from g moment) print_is)
 
 -- ---- a responder's keying
 
-pub opened_state : (settings : Settings) (moment sealed : ℕ) (groups : Groups) (startup : StartupState) (rows new : Sessions) (fact : Fact) (from : AddressParts) (print : List ℕ) (g : GroupSecret) →
+pub opened_state : (settings : Settings) (moment sealed limit : ℕ) (groups : Groups) (startup : StartupState) (rows new : Sessions) (fact : Fact) (from : AddressParts) (print : List ℕ) (g : GroupSecret) →
     print ≡ startup.ledger.own → new ≡ sessions_opened rows fact print from g moment →
-    state_of settings moment sealed groups startup new ≡ with_opened (state_of settings moment sealed groups startup rows) fact from g
-opened_state settings moment sealed groups startup rows new fact from print g print_is table =
-    ap (with_sessions (state_of settings moment sealed groups startup rows)) (table ∙ ap (λ p. sessions_opened rows fact p from g moment) print_is)
+    state_of settings moment sealed limit groups startup new ≡ with_opened (state_of settings moment sealed limit groups startup rows) fact from g
+opened_state settings moment sealed limit groups startup rows new fact from print g print_is table =
+    ap (with_sessions (state_of settings moment sealed limit groups startup rows)) (table ∙ ap (λ p. sessions_opened rows fact p from g moment) print_is)
 
 pub opened_so : (s t : State) (near : ℕ) (from : AddressParts) (payload : List ℕ) (fact : Fact) (g : GroupSecret) (new : State) (before after : Added) →
     opened s.startup near payload ≡ Some fact → g ≡ attempt_group s.group (get s.startup.attempts near) → t ≡ with_opened (with_startup s (after_opening s.startup near fact)) fact from g →

@@ -10,3 +10,4 @@ pub mod Relocating
 mod Ways
 mod Fragments
 mod Pieced
+mod Datagrams

@@ -232,10 +232,22 @@ fn reply(
         end.new out.old out.new) }
     ensures err { OnErr result (Done (nothing end.old) end.new out.old out.new) }
 {
-    out.make_room(1)?;
-    let blank = blank(end.alloc)?;
-    out.add_some(end.seal_in_session(blank, near, to, chunk));
+    let blanks = end.blanks(most_bytes(chunk))?;
+    out.make_room(blanks.count())?;
+    end.send_in_session(blanks, near, to, chunk, out);
     Ok(())
+}
+
+/// The most bytes that an answer to a chunk takes.
+fn most_bytes(chunk: &ChunkView<'_>) -> usize
+    requires { length (chunk_bytes (chunk_of chunk.now)) ≤ 1159 }
+    ensures most { length (chunk_bytes (chunk_of chunk.now)) ≤ result }
+    ensures short { result ≤ 1159 }
+{
+    match chunk {
+        ChunkView::PingReply { bytes } => bytes.len() + 3,
+        _ => 1159,
+    }
 }
 
 /// The walk goes on behind a chunk that is none of flows, which is an initiator's keying or isn't.

@@ -7,11 +7,14 @@ ghost use Rattle.endpoint_model.specs.State.{Done, nothing};
 ghost use Rattle.end_state.specs.Steps.{Gives};
 ghost use Rattle.end_chunks.specs.Steps.{lingering_by};
 
-use end_state::{EndState, Outbox, blank};
+use end_state::{EndState, Outbox};
 use endpoint_model::Entry;
 use glare_core::Why;
 use rtmfp_chunks::ChunkView;
 use std::alloc::AllocError;
+
+/// The bytes of an answer to a close.
+const CLOSE_ACK: usize = 3;
 
 /// Takes a close of the peer, which is answered.
 pub(crate) fn take_close(end: &mut EndState, near: u32, out: &mut Outbox) -> Result<(), AllocError>
@@ -19,10 +22,10 @@ pub(crate) fn take_close(end: &mut EndState, near: u32, out: &mut Outbox) -> Res
         end.new out.old out.new) }
     ensures err { OnErr result (Done (nothing end.old) end.new out.old out.new) }
 {
-    out.make_room(2)?;
-    let blank = blank(end.alloc)?;
+    let blanks = end.blanks(CLOSE_ACK)?;
+    out.make_room(1 + blanks.count())?;
     out.add_some(end_by_peer(end, near));
-    out.add_some(end.seal_home(blank, near, &ChunkView::CloseAck));
+    end.send_home(blanks, near, &ChunkView::CloseAck, out);
     Ok(())
 }
 

@@ -1,6 +1,6 @@
 //! What an end does for others as an introducer, and redirects of its own attempts.
 
-ghost use Rattle.std.specs.Prelude.{◌≡◌, ◌≤◌, All, IfErr, IfOk, None, Ok, OnErr, OnOk};
+ghost use Rattle.std.specs.Prelude.{◌≡◌, ◌≤◌, ◌+◌, All, IfErr, IfOk, None, Ok, OnErr, OnOk};
 ghost use Rattle.std.specs.Prelude.{Some, length};
 ghost use Rattle.identity.specs.declared.discriminator.Epd.{Epd};
 ghost use Rattle.identity.specs.Discriminators.{discriminator_of};
@@ -13,20 +13,23 @@ ghost use Rattle.startup.specs.Judging.{after_extension_of, extension_spread, Ex
 ghost use Rattle.endpoint_model.specs.Admission.{group_at};
 ghost use Rattle.endpoint_model.specs.Effects.{forwarded, hello_reply, read_done, replied};
 ghost use Rattle.endpoint_model.specs.Introducing.{hello_cause, redirect_of};
-ghost use Rattle.endpoint_model.specs.Sending.{sent_if};
+ghost use Rattle.endpoint_model.specs.Sending.{limit_of, sent_if};
 ghost use Rattle.endpoint_model.specs.State.{Done, nothing, then_do, with_startup};
-ghost use Rattle.end_state.specs.Steps.{Gives};
+ghost use Rattle.end_state.specs.Steps.{datagrams_for};
 ghost use Rattle.end_chunks.specs.Judging.{Stands};
 
 use crate::judging::Verdict;
-use end_state::{EndState, Outbox, RowAddresses, blank, blanks};
-use endpoint_model::{Entry, Place};
+use end_state::{Blanks, EndState, Outbox, RowAddresses, blank, blanks};
+use endpoint_model::Place;
 use identity::Epd;
 use rtmfp_base::Cause;
 use rtmfp_chunks::ChunkView;
 use rtmfp_forms::Address;
 use startup::{Answer, Extension, Spread, redirect_answer, wide};
 use std::alloc::AllocError;
+
+/// No hello that is forwarded has more bytes.
+const FORWARDED: usize = 288;
 
 /// The origin of an address that an end observed.
 const OBSERVED: u8 = 2;
@@ -111,31 +114,33 @@ pub(crate) fn judge_redirect<'a>(
     }
 }
 
-/// The entry of a hello that is forwarded, with the address that it came from, where there is a
-/// session to forward it in.
+/// Forwards a hello, with the address that it came from, where there is a session to forward it in.
 fn forward(
     end: &mut EndState,
-    blank: Vec<u8>,
+    blanks: Blanks,
     near: Option<u32>,
     epd: &[u8],
     tag: &[u8],
     from: &Address,
-) -> Option<Entry>
-    requires blank { length blank.items ≡ 1200 }
+    out: &mut Outbox,
+)
+    requires enough { datagrams_for (limit_of end.old) 288 ≤ blanks }
+    requires room { blanks ≤ out.old.free }
     requires tag { wide tag.now ≡ None }
     requires selected { (selected : Epd) × (discriminator_of epd.now ≡ Some selected) }
-    ensures { Gives (forwarded end.old near
-        (chunk_bytes (FIHello epd.now (observed from.now) tag.now))) end.new result }
+    ensures done { Done (forwarded end.old near
+        (chunk_bytes (FIHello epd.now (observed from.now) tag.now))) end.new out.old out.new }
+    ensures free { out.old.free ≤ out.new.free + blanks }
 {
     let Some(near) = near else {
-        return None;
+        return;
     };
     let chunk = ChunkView::FIHello {
         epd,
         reply: observed(from),
         tag,
     };
-    end.seal_home(blank, near, &chunk)
+    end.send_home(blanks, near, &chunk, out);
 }
 
 /// The redirect that answers a hello with this tag, which came at a place, with the addresses of a
@@ -179,13 +184,13 @@ pub(crate) fn introduce(
         end.new out.old out.new) }
     ensures err { OnErr result (Done (nothing end.old) end.new out.old out.new) }
 {
-    out.make_room(2)?;
-    let first = blank(end.alloc)?;
-    let second = blank(end.alloc)?;
+    let blanks = end.blanks(FORWARDED)?;
+    out.make_room(1 + blanks.count())?;
+    let blank = blank(end.alloc)?;
     let redirect = redirect_at(end, place, tag, from, row);
-    out.add_some(forward(end, first, near, epd, tag, from));
+    forward(end, blanks, near, epd, tag, from, out);
     if let Some(answer) = redirect {
-        out.add_some(end.seal_answer(second, &answer));
+        out.add_some(end.seal_answer(blank, &answer));
     }
     Ok(())
 }

@@ -23,6 +23,9 @@ use startup::{Hearing, Keyed};
 use startup_packets::{InitiatorFields, ResponderFields};
 use std::alloc::AllocError;
 
+/// The bytes of a ping without bytes of its own.
+const EMPTY_PING: usize = 3;
+
 /// Hears an initiator's keying that was found to be this, which came from an address at a place.
 pub(crate) fn initiator_keyed(
     end: &mut EndState,
@@ -104,9 +107,9 @@ pub(crate) fn responder_keyed(
         fields.now.payload.now) end.new out.old out.new) }
     ensures err { OnErr result (Done (nothing end.old) end.new out.old out.new) }
 {
-    out.make_room(2)?;
+    let blanks = end.blanks(EMPTY_PING)?;
+    out.make_room(1 + blanks.count())?;
     end.sessions.reserve()?;
-    let blank = blank(end.alloc)?;
     // That of its attempt, which isn't there any more then.
     let group = end.groups.of_attempt(&end.startup, near).copy();
     let fact = end.startup.apply_responder_keying(near, peer, fields);
@@ -119,7 +122,7 @@ pub(crate) fn responder_keyed(
         end.moment,
     );
     out.add(Entry::Fact(fact));
-    out.add_some(end.seal_in_session(blank, near, from, &ChunkView::Ping { bytes: &[] }));
+    end.send_in_session(blanks, near, from, &ChunkView::Ping { bytes: &[] }, out);
     Ok(())
 }
 

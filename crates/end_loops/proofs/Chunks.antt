@@ -75,19 +75,6 @@ module _ (place : Place) (from : AddressParts) (draws : Draws) where
             (joined (chunk_did place from draws x.walk s x.chunk) (λ u. steps_did place from draws u (take count xs)) t new before between after first rest.done));
       }
 
-  pub first_alone : (s t : State) (x : WalkStep) (before after : Added) → Done (chunk_did place from draws x.walk s x.chunk) t before after → TakesAll place from draws s (x ∷ []) t before after 1
-  first_alone s t x before after first = record {
-    all = refl;
-    done = subst (λ (d : Did). Done d t before after) (sym (then_nothing (chunk_did place from draws x.walk s x.chunk))) first;
-  }
-
-  pub none_taken : (s : State) (out : Added) → TakesAll place from draws s [] s out out 0
-  none_taken s out = record { all = refl; done = done_nothing s out }
-
-  -- no memory for the first one
-  pub first_untaken : (s new : State) (x : WalkStep) (xs : List WalkStep) (before after : Added) → Done (nothing s) new before after → TakesSome place from draws s (x ∷ xs) new before after 0
-  first_untaken s new x xs before after still = record { some = omega arith; done = still }
-
   -- ---- and so on through the datagram
 
   pub chunk_roomy : (t new : State) (before after : Added) (more : ℕ) (walk then : Walk) (c : Placed) (rest : List Placed) → IsRoomy place from draws t (steps_of place from draws walk t (c ∷ rest)) before.free →

@@ -1,5 +1,5 @@
 -- Each thing that a tick does is due no more, so a tick ends, and what found no memory is still due.
-use Rattle.std.proofs.Common.{ℕ, ◌≡◌, ◌<◌, ◌≤◌, ◌+◌, ◌*◌, ◌-◌, ◌&&◌, cond, List, [], ◌∷◌, Option, Some, None, is_some, refl, sym, ap, subst, ◌∙◌, if◌then◌else◌, Bool, true, false, nat_le, arith}
+use Rattle.std.proofs.Common.{ℕ, ◌≡◌, ◌<◌, ◌≤◌, ◌+◌, ◌*◌, ◌-◌, ◌&&◌, cond, List, [], ◌∷◌, length, map, Option, Some, None, is_some, refl, sym, ap, subst, ◌∙◌, if◌then◌else◌, Bool, true, false, nat_le, arith}
 use Rattle.std.specs.Prelude.{◌==◌, IfSome}
 use Rattle.std.specs.FinMap.{get, insert, remove}
 use Rattle.std.proofs.lemmas.Bool.Decides.{nat_tests}
@@ -16,7 +16,8 @@ use Rattle.glare_core.specs.declared.facts.Why.TheVariants.{Unconfirmed as NotCo
 use Rattle.startup.proofs.Falling.{falls_when}
 use Rattle.session_core.specs.declared.stage.SessionDue.{SessionDue}
 use Rattle.session_core.specs.declared.stage.SessionDue.TheVariants.{Unconfirmed, Idle, Over, RepeatClose}
-use Rattle.session_core.specs.Session.{SessionState}
+use Rattle.rtmfp_fragments.specs.Pieces.{PieceParts}
+use Rattle.session_core.specs.Session.{SessionState, context_of}
 use Rattle.session_core.specs.Sealed.{after_seal, is_spent}
 use Rattle.session_core.specs.Closing.{first_due as first_due_in, after_due as after_due_in, needs_keepalive, kept_alive, is_past, is_over, is_open, is_near_close}
 use Rattle.rtmfp_base.specs.Reasons.{where_true, first_that_stands}
@@ -32,10 +33,11 @@ use Rattle.endpoint_model.specs.declared.row.Row.{Row}
 use Rattle.endpoint_model.specs.declared.row_due.RowDue.{RowDue}
 use Rattle.endpoint_model.specs.declared.row_due.RowDue.TheVariants.{Abandon, Data, Keepalive}
 use Rattle.endpoint_model.specs.declared.row_due.RowDue.TheVariants as is_row
-use Rattle.endpoint_model.specs.State.{State, Did, Sessions, nothing, with_row, with_startup, with_session}
+use Rattle.endpoint_model.specs.declared.entry.Entry.TheVariants.{Out}
+use Rattle.endpoint_model.specs.State.{State, Did, Sessions, nothing, then_do, with_row, with_startup, with_session}
 use Rattle.endpoint_model.specs.FlowTimes.{data_packed, row_due, row_due_done}
 use Rattle.crypto_profile.specs.Keys.{Keys, startup_keys_of}
-use Rattle.endpoint_model.specs.Sending.{sent_startup, sent_each, last_count}
+use Rattle.endpoint_model.specs.Sending.{has_counts, is_long, last_count, piece_body, pieces_for, sent_bodies, sent_by, sent_each, sent_in_pieces, sent_startup, sent_whole, session_datagram, session_packet}
 use Rattle.endpoint_model.specs.InSessions.{sent_home, sent_home_by, session_due_done}
 use Rattle.endpoint_model.specs.Effects.{due_done, tick_once}
 use Rattle.end_loops.specs.declared.ticking.DueItem.{DueItem}
@@ -101,26 +103,68 @@ pub record IsLighter (s t : State) (near moment weight : ℕ) : Type 0 where
   pub sessions : t.sessions ≡ insert s.sessions near row
   pub lighter : row_weight moment row < weight
 
+module _ (s : State) (near moment weight : ℕ) where
+  abbrev Lighter : State → Type 0
+  Lighter t = IsLighter s t near moment weight
+
+  -- a packet goes out in it
+  whole_lighter : (t : State) (to : AddressParts) (body : List ℕ) (is : Lighter t) → Lighter (sent_whole t near to body (Some is.row)).state
+  whole_lighter t to body is = by (is_spent is.row.session)
+    where
+      sealed : Row
+      sealed = record is.row { session = after_seal is.row.session }
+
+      by : (b : Bool) → Lighter (if b
+          then nothing t
+          else record { state = with_session t near is.row (after_seal is.row.session); entries = Out to (session_datagram is.row.session t.moment body) (context_of is.row.session true) ∷ [] }).state
+      by true = is
+      by false = record {
+        startup = is.startup;
+        moment_is = is.moment_is;
+        row = sealed;
+        sessions = ap (λ (m : Sessions). insert m near sealed) is.sessions ∙ insert_twice s.sessions near is.row sealed;
+        lighter = subst (λ (n : ℕ). n < weight) (sym (sealed_weighs is.row moment)) is.lighter;
+      }
+
+  bodies_lighter : (to : AddressParts) (bodies : List (List ℕ)) (t : State) → Lighter t → Lighter (sent_bodies t near to bodies).state
+  bodies_lighter to [] t is = is
+  bodies_lighter to (body ∷ rest) t is =
+      let found : get t.sessions near ≡ Some is.row = ap (λ (m : Sessions). get m near) is.sessions ∙ get_inserted s.sessions near is.row in
+      let one : Lighter (sent_whole t near to body (get t.sessions near)).state = subst (λ (o : Option Row). Lighter (sent_whole t near to body o).state) (sym found) (whole_lighter t to body is) in
+      bodies_lighter to rest (sent_whole t near to body (get t.sessions near)).state one
+
+  -- one goes out in pieces
+  pieces_lighter : (t : State) (to : AddressParts) (pieces : List PieceParts) (is : Lighter t) → Lighter (sent_in_pieces t near to is.row pieces).state
+  pieces_lighter t to pieces is = by (has_counts is.row (length pieces))
+    where
+      counted : Row
+      counted = record is.row { packets = is.row.packets + 1 }
+
+      by : (b : Bool) → Lighter (if b then then_do (nothing (with_row t near counted)) (λ u. sent_bodies u near to (map (piece_body (is.row.packets + 1)) pieces)) else nothing t).state
+      by true = bodies_lighter to (map (piece_body (is.row.packets + 1)) pieces) (with_row t near counted) (record {
+        startup = is.startup;
+        moment_is = is.moment_is;
+        row = counted;
+        sessions = ap (λ (m : Sessions). insert m near counted) is.sessions ∙ insert_twice s.sessions near is.row counted;
+        lighter = is.lighter;
+      })
+      by false = is
+
+  sent_lighter : (t : State) (to : AddressParts) (body : List ℕ) (is : Lighter t) → Lighter (sent_by t near to body (Some is.row)).state
+  sent_lighter t to body is = by (is_long t is.row body)
+    where
+      pieces : List PieceParts
+      pieces = pieces_for t (session_packet is.row.session t.moment body)
+
+      by : (b : Bool) → Lighter (if b then sent_in_pieces t near to is.row pieces else sent_whole t near to body (Some is.row)).state
+      by true = pieces_lighter t to pieces is
+      by false = whole_lighter t to body is
+
 -- what went out in a session after its row changed
 home_lighter : (s : State) (near moment weight : ℕ) (new : Row) (body : List ℕ) → row_weight moment new < weight → IsLighter s (sent_home (with_row s near new) near body).state near moment weight
 home_lighter s near moment weight new body less =
-    subst (λ (o : Option Row). IsLighter s (sent_home_by t near body o).state near moment weight) (sym (get_inserted s.sessions near new)) (by (new.session.sealed == last_count) _ more)
-  where
-    t : State
-    t = with_row s near new
-
-    more : IsLighter s (with_session t near new (after_seal new.session)) near moment weight
-    more = record {
-      startup = refl;
-      moment_is = refl;
-      row = record new { session = after_seal new.session };
-      sessions = insert_twice s.sessions near new (record new { session = after_seal new.session });
-      lighter = subst (λ (n : ℕ). n < weight) (sym (sealed_weighs new moment)) less;
-    }
-
-    by : (b : Bool) (d : Did) → IsLighter s d.state near moment weight → IsLighter s (if b then nothing t else d).state near moment weight
-    by true d is = record { startup = refl; moment_is = refl; row = new; sessions = refl; lighter = less }
-    by false d is = is
+    subst (λ (o : Option Row). IsLighter s (sent_home_by (with_row s near new) near body o).state near moment weight) (sym (get_inserted s.sessions near new))
+    (sent_lighter s near moment weight (with_row s near new) new.session.address body (record { startup = refl; moment_is = refl; row = new; sessions = refl; lighter = less }))
 
 swapped : (k a b v w : ℕ) → a + v ≡ b + w → w < v → k + a < k + b
 swapped k a b v w e less = omega arith

@@ -15,12 +15,16 @@ ghost use Rattle.end_loops.specs.DueItems.{RowFalls, abandoned_by, dropped_by, e
 ghost use Rattle.end_loops.specs.DueItems.{handed_on, kept_alive_in, row_due_by, told_item};
 
 use crate::ticking::DueItem;
-use end_state::{EndState, Outbox, blank};
+use crate::walking::BODY;
+use end_state::{EndState, Outbox};
 use endpoint_model::{Entry, RowDue};
 use glare_core::Why;
 use rtmfp_chunks::ChunkView;
 use session_core::SessionDue;
 use std::alloc::AllocError;
+
+/// The bytes of a chunk without a payload.
+const BARE: usize = 3;
 
 /// The first thing that is due of a session, by rising session IDs.
 pub(crate) fn due_session(end: &mut EndState) -> Option<DueItem>
@@ -120,9 +124,9 @@ fn send_data(end: &mut EndState, near: u32, out: &mut Outbox) -> Result<(), Allo
     ensures falls { OnOk result
         (IfSome (get end.old.sessions near) (λ row. DataFalls end.old.moment row)) }
 {
-    out.make_room(1)?;
-    let blank = blank(end.alloc)?;
-    out.add_some(end.seal_data(blank, near));
+    let blanks = end.blanks(BODY)?;
+    out.make_room(blanks.count())?;
+    end.send_data(blanks, near, out);
     Ok(())
 }
 
@@ -146,10 +150,10 @@ fn repeat_close(end: &mut EndState, near: u32, out: &mut Outbox) -> Result<(), A
         (get end.old.sessions near)) end.new out.old out.new) }
     ensures err { OnErr result (Done (nothing end.old) end.new out.old out.new) }
 {
-    out.make_room(1)?;
-    let blank = blank(end.alloc)?;
+    let blanks = end.blanks(BARE)?;
+    out.make_room(blanks.count())?;
     end.note_due(near);
-    out.add_some(end.seal_home(blank, near, &ChunkView::Close));
+    end.send_home(blanks, near, &ChunkView::Close, out);
     Ok(())
 }
 
@@ -159,10 +163,10 @@ fn keep_alive(end: &mut EndState, near: u32, out: &mut Outbox) -> Result<(), All
         end.new out.old out.new) }
     ensures err { OnErr result (Done (nothing end.old) end.new out.old out.new) }
 {
-    out.make_room(1)?;
-    let blank = blank(end.alloc)?;
+    let blanks = end.blanks(BARE)?;
+    out.make_room(blanks.count())?;
     end.note_keepalive(near);
     let ping = ChunkView::Ping { bytes: &[] };
-    out.add_some(end.seal_home(blank, near, &ping));
+    end.send_home(blanks, near, &ping, out);
     Ok(())
 }

@@ -7,11 +7,14 @@ ghost use Rattle.endpoint_model.specs.InSessions.{asks_at, asks_by, held_row, te
 ghost use Rattle.endpoint_model.specs.State.{Done, nothing};
 ghost use Rattle.end_loops.specs.Pending.{test_pending};
 
-use end_state::{EndState, Outbox, blank};
+use end_state::{EndState, Outbox};
 use endpoint_model::{Draws, Place};
 use rtmfp_chunks::ChunkView;
 use rtmfp_forms::Address;
 use std::alloc::AllocError;
+
+/// The bytes of a ping with a token.
+const TEST: usize = 19;
 
 /// Whether a datagram from this address asks for a test of it.
 fn asks(end: &EndState, near: u32, from: &Address) -> bool
@@ -50,10 +53,10 @@ fn test_in(
     if !asks(end, near, from) {
         return Ok(());
     }
-    out.make_room(1)?;
-    let blank = blank(end.alloc)?;
+    let blanks = end.blanks(TEST)?;
+    out.make_room(blanks.count())?;
     begin_test(end, near, from, token);
-    out.add_some(end.seal_in_session(blank, near, from, &ChunkView::Ping { bytes: &token }));
+    end.send_in_session(blanks, near, from, &ChunkView::Ping { bytes: &token }, out);
     Ok(())
 }
 

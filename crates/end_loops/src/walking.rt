@@ -19,7 +19,7 @@ ghost use Rattle.end_loops.specs.Walks.{gathered_steps, taken_upto};
 use crate::admission::packet_at;
 use crate::testing::test;
 use end_chunks::take_chunk;
-use end_state::{EndState, Outbox, blank};
+use end_state::{EndState, Outbox};
 use endpoint_model::{Draws, Entry, Place, Stopped, Walk};
 use rtmfp_base::Cause;
 use rtmfp_data_chunks::DataCursor;
@@ -30,6 +30,9 @@ use std::alloc::AllocError;
 
 /// The most packets of acks that a datagram's chunks can owe, one for each flow (own).
 const MOST_ACKS: u32 = 256;
+
+/// The most bytes of the chunks of a packet (own).
+pub(crate) const BODY: usize = 1159;
 
 /// No memory was found before the datagram was taken.
 pub const NOT_TAKEN: Stopped = Stopped {
@@ -285,9 +288,9 @@ fn send_acks(end: &mut EndState, place: Place, out: &mut Outbox) -> Result<(), A
         if !end.owes_acks(near) {
             return Ok(());
         }
-        out.make_room(1)?;
-        let blank = blank(end.alloc)?;
-        out.add_some(end.seal_acks(blank, near));
+        let blanks = end.blanks(BODY)?;
+        out.make_room(blanks.count())?;
+        end.send_acks(blanks, near, out);
     }
     Ok(())
 }

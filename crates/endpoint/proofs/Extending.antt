@@ -19,17 +19,17 @@ use Rattle.endpoint_model.specs.declared.answers.SeekRefusal.TheVariants.{Memory
 use Rattle.endpoint_model.specs.declared.answers.Stopped.{Stopped as Stop}
 use Rattle.endpoint_model.specs.declared.entry.Entry.{Entry}
 use Rattle.endpoint_model.specs.Added.{Added}
-use Rattle.endpoint_model.specs.Event.{Event, Call, Open, Seek, Unseek, Cancel, Close, AddRow, Introduce, Learn, Advance, OnFlows, Tick, Answer, Done as IsDone, Succeeds as IsSucceeds, Refused as IsRefused, NotAdded as IsNotAdded}
+use Rattle.endpoint_model.specs.Event.{Event, Call, Open, Seek, Unseek, Cancel, Close, AddRow, Introduce, Narrow, Learn, Advance, OnFlows, Tick, Answer, Done as IsDone, Succeeds as IsSucceeds, Refused as IsRefused, NotAdded as IsNotAdded}
 use Rattle.endpoint_model.specs.Introducing.{with_redirect, introducing}
 use Rattle.endpoint_model.specs.Succession.{learn_refusal, learning, advance_refusal, advancing}
-use Rattle.endpoint_model.specs.State.{State, Did, Does, Done, nothing, fresh, at_moment, free_from}
+use Rattle.endpoint_model.specs.State.{State, Did, Does, Done, nothing, fresh, at_moment, narrowing, free_from}
 use Rattle.endpoint_model.specs.Admission.{admission}
 use Rattle.endpoint_model.specs.InSessions.{held_row, closing}
 use Rattle.endpoint_model.specs.FlowCall.{FlowCall}
 use Rattle.endpoint_model.specs.OnFlows.{call_refusal, flow_called}
 use Rattle.endpoint_model.specs.FlowTimes.{all_late}
 use Rattle.endpoint_model.specs.Effects.{open_refusal, opening, seek_refusal, seeking, unseek_refusal, unseeking, cancelling, ticks, received, first_due}
-use Rattle.endpoint_model.specs.Log.{Step, Answers, Leads, Extends, IsTaken, StopsSo, not_opened, not_sought, not_added, not_called, answer_of_open, answer_of_seek, answer_of_call, answer_of_row, answer_of_succession, answer_of_tick, event, open_event, seek_event, unseek_event, cancel_event, close_event, flow_event, row_event, introduce_event, learn_event, advance_event, tick_event, receive_event}
+use Rattle.endpoint_model.specs.Log.{Step, Answers, Leads, Extends, IsTaken, StopsSo, not_opened, not_sought, not_added, not_called, answer_of_open, answer_of_seek, answer_of_call, answer_of_row, answer_of_succession, answer_of_tick, event, open_event, seek_event, unseek_event, cancel_event, close_event, flow_event, row_event, introduce_event, narrow_event, learn_event, advance_event, tick_event, receive_event}
 use Rattle.endpoint.specs.Calls.{moment_given, answer_of, Gives, Adds, Called, called_event}
 use Rattle.endpoint.specs.Answered.{began, sought, done_as, done, added_row, succeeded, ticked}
 
@@ -284,6 +284,14 @@ introduced s t moment out is = record {
   added = adds_none out;
 }
 
+pub narrowed : (s t : State) (moment limit : ℕ) (out : Added) → t ≡ narrowing s limit → Called s moment (Narrow limit) told.Done t out out
+narrowed s t moment limit out is = record {
+  entries = [];
+  answers = unnoted s t (Narrow limit) IsDone [] (record { state = is; entries = refl });
+  numbered = tt;
+  added = adds_none out;
+}
+
 -- Of generations: the number is that of the log, where it is done.
 pub learnt : (s t : State) (moment : ℕ) (secret : List ℕ) (r : Result ℕ CallRefusal) (before after : Added) →
     IfOk r (λ number. number ≡ s.group.generation + 1) →
@@ -401,6 +409,9 @@ row_stands s t print addresses r did = method_extends s t 0 (AddRow print addres
 
 pub introduce_stands : (s t : State) → t ≡ introducing s → Extends s t introduce_event
 introduce_stands s t is = method_extends s t 0 Introduce told.Done none none IsDone refl (introduced s t 0 none is)
+
+pub narrow_stands : (s t : State) (limit : ℕ) → t ≡ narrowing s limit → Extends s t (narrow_event limit)
+narrow_stands s t limit is = method_extends s t 0 (Narrow limit) told.Done none none IsDone refl (narrowed s t 0 limit none is)
 
 pub tick_stands : (s t : State) (moment : ℕ) (draws : Draws) (r : Result (Unit {0}) Memory) (before after : Added) → Called s moment (Tick draws) (ticked r) t before after → Extends s t (tick_event moment draws r before.entries after.entries)
 tick_stands s t moment draws r before after did = method_extends s t moment (Tick draws) (ticked r) before after (answer_of_tick r) (answer_of_ticked r) did

@@ -10,7 +10,7 @@ use Rattle.endpoint_model.specs.declared.entry.Entry.{Entry}
 use Rattle.endpoint_model.specs.declared.entry.Entry.TheVariants as entry
 use Rattle.endpoint_model.specs.Added.{Added}
 use Rattle.endpoint_model.specs.FlowCall.{FlowCall, OpenFlow, Queue, Abandon, Finish}
-use Rattle.endpoint_model.specs.Event.{Call, Open, Seek, Unseek, Cancel, Close, AddRow, Introduce, Learn, Advance, OnFlows, Receive, Tick, Answer, Began, Searching, Done, Succeeds, NotOpened, NotSought, Refused, NotAdded, OutOfMemory, Event}
+use Rattle.endpoint_model.specs.Event.{Call, Open, Seek, Unseek, Cancel, Close, AddRow, Introduce, Narrow, Learn, Advance, OnFlows, Receive, Tick, Answer, Began, Searching, Done, Succeeds, NotOpened, NotSought, Refused, NotAdded, OutOfMemory, Event}
 use Rattle.endpoint_model.specs.State.{State, at_moment}
 use Rattle.endpoint_model.specs.Log.{Answers, event}
 
@@ -29,9 +29,15 @@ call_of (given.Abandon near flow seq) draws = OnFlows near (Abandon flow seq)
 call_of (given.Finish near flow) draws = OnFlows near (Finish flow)
 call_of (given.AddRow print addresses) draws = AddRow print.now addresses.now
 call_of given.Introduce draws = Introduce
+call_of (given.Narrow limit) draws = Narrow limit
 call_of (given.Learn secret) draws = Learn secret.now
 call_of given.Advance draws = Advance
 call_of given.Tick draws = Tick draws
+
+-- The limit of a narrowing is one that an end may have.
+abbrev pub IsWithin : EndCall → Type 0
+IsWithin (given.Narrow limit) = (96 ≤ limit) × (limit ≤ 1164)
+IsWithin call = Unit {0}
 
 -- its moment, or 0 where it is given none
 abbrev pub moment_given : Call → ℕ → ℕ

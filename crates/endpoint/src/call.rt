@@ -68,6 +68,8 @@ pub enum EndCall<'a> {
     },
     /// The end introduces others to each other from now on.
     Introduce,
+    /// Packets of sessions that have more than so many plain bytes go out in pieces from now on.
+    Narrow(u16),
     /// The secret of the group's next generation is learnt.
     Learn {
         secret: &'a [u8; 32],

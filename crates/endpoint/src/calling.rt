@@ -1,7 +1,7 @@
 //! A call that is handed over as one value.
 
 ghost use Rattle.std.specs.Prelude.{◌≡◌};
-ghost use Rattle.endpoint.specs.Calls.{Called, call_of, called_event};
+ghost use Rattle.endpoint.specs.Calls.{Called, IsWithin, call_of, called_event};
 ghost use Rattle.endpoint_model.specs.Log.{Extends};
 ghost use Rattle.endpoint.specs.Answered.{added_row, began, done, flow_opened, queued, sought};
 ghost use Rattle.endpoint.specs.Answered.{succeeded, ticked};
@@ -17,7 +17,8 @@ use rtmfp_base::Memory;
 impl Endpoint {
     /// Makes a call, as the method of its name does. The moment is noted by an open, a seek, a
     /// close and a tick alone, the draws are those of an open, a seek and a tick, and the outbox is
-    /// that of all but a row and an introduction.
+    /// that of all but a row, an introduction and a narrowing, whose limit is one that an end may
+    /// have.
     pub fn call(
         &mut self,
         call: &EndCall<'_>,
@@ -25,6 +26,7 @@ impl Endpoint {
         draws: &Draws,
         out: &mut Outbox,
     ) -> Answered
+        requires { IsWithin call.now }
         ensures called { Called self.old moment (call_of call.now draws.now) result self.new out.old
             out.new }
 
@@ -38,6 +40,7 @@ impl Endpoint {
 
     /// Makes a call.
     fn make(&mut self, call: &EndCall<'_>, moment: u64, draws: &Draws, out: &mut Outbox) -> Answered
+        requires { IsWithin call.now }
         ensures { Called self.old moment (call_of call.now draws.now) result self.new out.old
             out.new }
     {
@@ -68,6 +71,10 @@ impl Endpoint {
             EndCall::AddRow { print, addresses } => added_row(self.add_row(**print, addresses)),
             EndCall::Introduce => {
                 self.introduce();
+                Answered::Done
+            }
+            EndCall::Narrow(limit) => {
+                self.narrow(*limit);
                 Answered::Done
             }
             EndCall::Learn { secret } => succeeded(self.learn(**secret, out)),

@@ -7,11 +7,14 @@ ghost use Rattle.endpoint_model.specs.Log.{Extends, close_event};
 ghost use Rattle.endpoint_model.specs.State.{Done, at_moment, nothing};
 
 use crate::endpoint::Endpoint;
-use end_state::{EndState, Outbox, blank};
+use end_state::{EndState, Outbox};
 use endpoint_model::CallRefusal;
 use glare_core::Why;
 use rtmfp_chunks::ChunkView;
 use std::alloc::AllocError;
+
+/// The bytes of a close.
+const CLOSE: usize = 3;
 
 impl Endpoint {
     /// Closes the held session with this session ID: it ends, and a close goes out, which is sent
@@ -68,10 +71,10 @@ fn close_held(end: &mut EndState, near: u32, out: &mut Outbox) -> Result<(), All
     ensures ok { OnOk result (Done (closing end.old near) end.new out.old out.new) }
     ensures err { OnErr result (Done (nothing end.old) end.new out.old out.new) }
 {
-    out.make_room(2)?;
-    let blank = blank(end.alloc)?;
+    let blanks = end.blanks(CLOSE)?;
+    out.make_room(1 + blanks.count())?;
     out.add_some(end.end_session(near, Why::Near));
     end.begin_closing(near);
-    out.add_some(end.seal_home(blank, near, &ChunkView::Close));
+    end.send_home(blanks, near, &ChunkView::Close, out);
     Ok(())
 }

@@ -14,9 +14,9 @@ use std::marker::Model;
 /// One end: what it keeps of its attempts, searches and sessions.
 ///
 /// Contracts see its limits, the largest moment that it was given, how many startup packets it
-/// sealed, the group's secret in the current generation and in a next one that is known, what it
-/// keeps of attempts, searches and sessions, each by their session IDs, whether it introduces, and
-/// its rows of addresses.
+/// sealed, how long a packet of a session may be that goes out whole, the group's secret in the
+/// current generation and in a next one that is known, what it keeps of attempts, searches and
+/// sessions, each by their session IDs, whether it introduces, and its rows of addresses.
 #[derive(Drop)]
 pub struct Endpoint {
     pub(crate) end: EndState,

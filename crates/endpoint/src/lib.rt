@@ -12,6 +12,7 @@ mod holding;
 mod introducing;
 mod kinds;
 pub mod laws;
+mod narrowing;
 mod receiving;
 mod searches;
 pub mod sizes;

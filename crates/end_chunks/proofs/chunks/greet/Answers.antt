@@ -32,9 +32,9 @@ returns-in-Ok-clause-ok c =
     let g = c.copy-group.result in
     let chosen = c.requires.greeted.0 in
     let is : IsFound i.startup greeting.found chosen = subst (λ (s : State). IsFound s.startup greeting.found chosen) (sym c.end.view_is) c.requires.greeted.1.1.found in
-    let v : State = state_of i.settings i.moment i.sealed i.groups i.startup i.sessions.rows in
-    let t : State = state_of i.settings i.moment i.sealed i.groups c.apply_responder_hello.new.self i.sessions.rows in
-    let put = startup_put i.settings i.moment i.sealed i.groups i.startup c.apply_responder_hello.new.self (after_answer i.startup greeting.print chosen c.args.from.now c.args.cookie.now i.moment g)
+    let v : State = state_of i.settings i.moment i.sealed i.limit i.groups i.startup i.sessions.rows in
+    let t : State = state_of i.settings i.moment i.sealed i.limit i.groups c.apply_responder_hello.new.self i.sessions.rows in
+    let put = startup_put i.settings i.moment i.sealed i.limit i.groups i.startup c.apply_responder_hello.new.self (after_answer i.startup greeting.print chosen c.args.from.now c.args.cookie.now i.moment g)
     i.sessions.rows i.sessions.rows refl (c.in-Ok.ensures.after chosen is) in
     let entries : List Entry = fact_entries c.in-Ok.told.0 in
     let added : IsAdded c.args.out.now c.add_some.new.self entries = record {
@@ -46,6 +46,6 @@ returns-in-Ok-clause-ok c =
     c.seal_answer.ensures c.add_some-in-Ok.ensures.entries c.add_some-in-Ok.ensures.free c.add_some-in-Ok.ensures.room in
     subst (λ (s : State). Done (greeting_did s (group_at s c.args.place) greeting.print (found_in s.startup greeting.found) c.args.from.now c.args.cookie.now) c.seal_answer.new.self c.args.out.now c.add_some-in-Ok.new.self) c.end.view_is
     (hello_so v t g (group_at v c.args.place) greeting.print chosen (found_in i.startup greeting.found) c.args.from.now c.args.cookie.now c.in-Ok.told.0 c.in-Ok.told.1 c.seal_answer.new.self c.args.out.now c.add_some-in-Ok.new.self
-    (c.copy-group.ensures ∙ c.at.ensures ∙ there_is i.settings i.moment i.sealed i.groups i.startup i.sessions.rows c.args.place)
+    (c.copy-group.ensures ∙ c.at.ensures ∙ there_is i.settings i.moment i.sealed i.limit i.groups i.startup i.sessions.rows c.args.place)
     (found_is i.startup greeting.found chosen is) (c.in-Ok.ensures.fact chosen is) (c.in-Ok.ensures.answer chosen is) put
     (added_first entries (sent_answer t c.in-Ok.told.1) c.seal_answer.new.self c.args.out.now c.add_some.new.self c.add_some-in-Ok.new.self added sent))

@@ -1,4 +1,4 @@
-use Rattle.std.proofs.Common.{◌≡◌, ℕ, List, Option, Some, sym, subst, ◌∙◌}
+use Rattle.std.proofs.Common.{rules, ◌≡◌, ℕ, List, Option, Some, sym, subst, ◌∙◌}
 use Rattle.rtmfp_forms.specs.Address.{AddressParts}
 use Rattle.rtmfp_chunks.specs.Chunk.{FIHello}
 use Rattle.rtmfp_chunks.specs.Writing.{chunk_bytes}
@@ -22,10 +22,12 @@ returns-in-Some-clause-ok c =
     let first : Did = forwarded s c.args.near (chunk_bytes (FIHello c.args.epd.now (observed from) tag)) in
     let redirect : Option Answer = redirect_of tag from c.args.row.now (group_at s c.args.place) in
     let told : Some c.in-Some.answer ≡ redirect = sym c.in-Some.is ∙ c.redirect_at-redirect.ensures in
-    let forwards = given_done first c.forward.new.end c.forward.result c.make_room.new.self c.add_some.new.self
-    c.forward.ensures c.add_some.ensures.entries c.add_some.ensures.free c.add_some.ensures.room in
-    let answers = given_done (sent_answer c.forward.new.end c.in-Some.answer) c.seal_answer.new.self c.seal_answer.result c.add_some.new.self c.add_some-in-Some.new.self
-    c.seal_answer.ensures c.add_some-in-Some.ensures.entries c.add_some-in-Some.ensures.free c.add_some-in-Some.ensures.room in
-    made_room (then_do first (λ t. sent_if t redirect)) c.seal_answer.new.self c.args.out.now c.make_room.new.self c.add_some-in-Some.new.self c.make_room.ensures.entries c.make_room.ensures.free c.make_room.ensures.room
-    (joined first (λ t. sent_if t redirect) c.forward.new.end c.seal_answer.new.self c.make_room.new.self c.add_some.new.self c.add_some-in-Some.new.self forwards
-    (subst (λ (o : Option Answer). Done (sent_if c.forward.new.end o) c.seal_answer.new.self c.add_some.new.self c.add_some-in-Some.new.self) told answers))
+    let answers = given_done (sent_answer c.forward.new.end c.in-Some.answer) c.seal_answer.new.self c.seal_answer.result c.forward.new.out c.add_some.new.self
+    c.seal_answer.ensures c.add_some.ensures.entries c.add_some.ensures.free c.add_some.ensures.room in
+    made_room (then_do first (λ t. sent_if t redirect)) c.seal_answer.new.self c.args.out.now c.make_room.new.self c.add_some.new.self c.make_room.ensures.entries c.make_room.ensures.free c.make_room.ensures.room
+    (joined first (λ t. sent_if t redirect) c.forward.new.end c.seal_answer.new.self c.make_room.new.self c.forward.new.out c.add_some.new.self c.forward.ensures.done
+    (subst (λ (o : Option Answer). Done (sent_if c.forward.new.end o) c.seal_answer.new.self c.forward.new.out c.add_some.new.self) told answers))
+
+-- so that a wrong body is refused fast
+pub returns-in_default-clause-ok : goal.returns-in_default-clause-ok
+returns-in_default-clause-ok c = search rules

@@ -28,7 +28,7 @@ returns-clause-ok c =
     let before : Added = c.args.out.now in
     let between : Added = c.make_room.new.self in
     let after : Added = c.match-branch-3.out in
-    let s : State = state_of i.settings i.moment i.sealed i.groups i.startup i.sessions.rows in
+    let s : State = state_of i.settings i.moment i.sealed i.limit i.groups i.startup i.sessions.rows in
     let t : State = with_sessions s c.gather.new.self.rows in
     let done : (whole : Option (List ℕ)) (entry : Option Entry) → whole ≡ whole_by s.moment (get s.sessions near) id x → whole_faults s near at whole ≡ option_to_list entry →
     after.entries ≡ between.entries ++ option_to_list entry → between.free ≤ after.free + length (option_to_list entry) → after.room ≡ between.room →

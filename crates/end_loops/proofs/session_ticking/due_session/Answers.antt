@@ -22,4 +22,4 @@ returns-clause-item c =
 pub returns-clause-same : goal.returns-clause-same
 returns-clause-same c =
     let i = c.end.inside in
-    ap (λ (t : Table). state_of i.settings i.moment i.sealed i.groups i.startup t.rows) c.first_due-found.ensures.same ∙ c.end.view_is
+    ap (λ (t : Table). state_of i.settings i.moment i.sealed i.limit i.groups i.startup t.rows) c.first_due-found.ensures.same ∙ c.end.view_is

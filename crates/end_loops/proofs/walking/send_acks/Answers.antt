@@ -5,7 +5,6 @@ use Rattle.endpoint_model.specs.State.{Done}
 use Rattle.endpoint_model.specs.FlowChunks.{acked, acked_by, acked_in}
 use Rattle.endpoint_model.proofs.FlowChunks.{acked_more, acked_still}
 use Rattle.end_state.proofs.Endings.{made_room}
-use Rattle.end_state.proofs.Giving.{given_done}
 use Rattle.end_loops.proofs.Acking.{owed_from}
 use Rattle.end_loops.proofs.walking.send_acks.Goals as goal
 
@@ -21,13 +20,11 @@ loop-preserved c =
     let more : suc c.loop.counter ≡ c.loop.counter + 1 = omega arith in
     let owed = sym c.owes_acks.ensures ∙ c.if-not-owes_acks.false in
     let acks = acked_by c.loop.end c.in-Session.near (get c.loop.end.sessions c.in-Session.near) in
-    let once =
-    made_room acks c.seal_acks.new.self c.loop.out c.make_room.new.self c.add_some.new.self c.make_room.ensures.entries c.make_room.ensures.free c.make_room.ensures.room
-    (given_done acks c.seal_acks.new.self c.seal_acks.result c.make_room.new.self c.add_some.new.self c.seal_acks.ensures c.add_some.ensures.entries c.add_some.ensures.free c.add_some.ensures.room) in
+    let once = made_room acks c.send_acks.new.self c.loop.out c.make_room.new.self c.send_acks.new.out c.make_room.ensures.entries c.make_room.ensures.free c.make_room.ensures.room c.send_acks.ensures in
     record {
       so_far =
-          subst (λ (n : ℕ). Done (acked_in n c.args.end.now c.in-Session.near) c.seal_acks.new.self c.args.out.now c.add_some.new.self) more
-          (acked_more c.loop.counter c.args.end.now c.loop.end c.seal_acks.new.self c.in-Session.near c.args.out.now c.loop.out c.add_some.new.self c.loop.invariant.so_far owed once);
+          subst (λ (n : ℕ). Done (acked_in n c.args.end.now c.in-Session.near) c.send_acks.new.self c.args.out.now c.send_acks.new.out) more
+          (acked_more c.loop.counter c.args.end.now c.loop.end c.send_acks.new.self c.in-Session.near c.args.out.now c.loop.out c.send_acks.new.out c.loop.invariant.so_far owed once);
       owed = λ some. owed_from c.loop.counter c.args.end.now c.loop.end c.in-Session.near c.args.out.now c.loop.out c.loop.invariant.so_far c.loop.invariant.owed owed;
     }
 

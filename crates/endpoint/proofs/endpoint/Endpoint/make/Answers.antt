@@ -3,7 +3,7 @@ use Rattle.endpoint_model.specs.declared.entry.Entry.TheVariants as entry
 use Rattle.endpoint_model.specs.FlowCall.{Queue}
 use Rattle.endpoint_model.specs.OnFlows.{flow_called}
 use Rattle.endpoint.specs.declared.call.Answered.TheVariants as told
-use Rattle.endpoint.proofs.Extending.{opened, searched, on_flows}
+use Rattle.endpoint.proofs.Extending.{opened, searched, closed, on_flows}
 use Rattle.endpoint.proofs.endpoint.Endpoint.make.Goals as goal
 
 pub returns-in-Open : goal.returns-in-Open
@@ -24,3 +24,9 @@ returns-in-Queue c =
     (on_flows (λ (seq : ℕ). (flow_called c.args.self.now c.in-Queue.near (Queue c.in-Queue.flow c.in-Queue.message.now c.in-Queue.options)).entries ≡ entry.Queued c.in-Queue.near c.in-Queue.flow seq c.in-Queue.message.now ∷ []) (λ seq. told.Queued seq)
     c.args.self.now c.queue.new.self c.args.moment c.in-Queue.near (Queue c.in-Queue.flow c.in-Queue.message.now c.in-Queue.options) c.queue.result c.args.out.now c.queue.new.out (λ x e. (refl, e))
     c.queue.ensures.number c.queue.ensures.ok c.queue.ensures.refused c.queue.ensures.memory c.queue.ensures.err)
+
+pub returns-in-Close : goal.returns-in-Close
+returns-in-Close c =
+    rw (c.in-Close.is, c.done-in-Close.ensures)
+    (closed c.args.self.now c.close.new.self c.args.moment c.in-Close.near c.close.result c.args.out.now c.close.new.out
+    c.close.ensures.ok c.close.ensures.refused c.close.ensures.memory c.close.ensures.err)
