@@ -83,7 +83,7 @@ class Refused(Exception):
 
 
 _BYTES, _SIZE, _END = C.c_char_p, C.c_size_t, C.POINTER(_Handle)
-_U8, _U32, _U64, _I32 = C.c_uint8, C.c_uint32, C.c_uint64, C.c_int32
+_U8, _U16, _U32, _U64, _I32 = C.c_uint8, C.c_uint16, C.c_uint32, C.c_uint64, C.c_int32
 _NUMBER, _NEAR, _PLACES, _DRAWS, _WRITTEN = C.POINTER(C.c_uint64), C.POINTER(C.c_uint32), C.POINTER(Address), C.POINTER(Draws), C.POINTER(C.c_char)
 # The calls of rtmfp.h: what each gives, and what it is given.
 CALLS = {
@@ -102,6 +102,7 @@ CALLS = {
     "finish": (_I32, [_END, _U32, _U64]),
     "add_row": (_I32, [_END, _BYTES, _PLACES, _SIZE]),
     "introduce": (_I32, [_END]),
+    "narrow": (_I32, [_END, _U16]),
     "learn": (_I32, [_END, _BYTES, _NUMBER]),
     "advance": (_I32, [_END, _NUMBER]),
     "keeps": (_I32, [_END, _BYTES]),
@@ -115,7 +116,7 @@ CALLS = {
 
 
 # How many bits a parameter has. (c_size_t is one of these.)
-_BITS = {_U8: 8, _U32: 32, _U64: 64}
+_BITS = {_U8: 8, _U16: 16, _U32: 32, _U64: 64}
 
 
 def _fits(number, bits):
@@ -252,6 +253,10 @@ class End:
 
     def introduce(self):
         self._do("introduce")
+
+    def narrow(self, limit):
+        """Has packets of sessions that have more than so many bytes, 96 to 1,164, go out in pieces from now on."""
+        self._do("narrow", limit)
 
     def learn(self, secret):
         """Learns the secret of the group's next generation, and gives that generation's number."""

@@ -116,7 +116,7 @@ def compare_numbers(expect, header, source):
     compare_refusals(expect, texts)
     compare_entries(expect, marks, re.findall(r"X\((\d+), \"([\w-]+)\"\)", header))
     limits = {name for name in wanted if re.match("RTMFP_M(AX|IN)_", name)}
-    named = re.findall(r"pub const (\w+): usize = sys::(RTMFP_\w+);", read("src", "lib.rs"))
+    named = re.findall(r"pub const (\w+): (?:usize|u16) = sys::(RTMFP_\w+);", read("src", "lib.rs"))
     expect({name for it, name in named if name == "RTMFP_" + it} == limits, "other limits")
     version = ".".join(str(wanted["RTMFP_VERSION"] >> shift & 255) for shift in (16, 8, 0))
     expect(f'\nversion = "{version}"\n' in read("Cargo.toml"), "the crate has another version")

@@ -227,6 +227,17 @@ impl Endpoint {
         done(unsafe { sys::rtmfp_introduce(self.raw()) })
     }
 
+    /// From now on a packet of a session that has more than so many bytes before it is sealed goes
+    /// out in pieces, each in a datagram of its own, of `limit` and 36 bytes at most: for paths on
+    /// which long datagrams get lost. A new end has [`MAX_LIMIT`](crate::MAX_LIMIT) and sends none in
+    /// pieces; packets that open sessions never go out so.
+    ///
+    /// # Errors
+    /// [`Refusal::Config`] if it is below [`MIN_LIMIT`](crate::MIN_LIMIT) or above the other.
+    pub fn narrow(&mut self, limit: u16) -> Result<(), Refusal> {
+        done(unsafe { sys::rtmfp_narrow(self.raw(), limit) })
+    }
+
     /// Learns the secret of the generation after the current one, and gives its number. Packets of
     /// it are understood from now on, and the end goes on sending in the current one.
     ///

@@ -75,6 +75,10 @@ pub use shapes::{
 pub const MAX_DATAGRAM: usize = sys::RTMFP_MAX_DATAGRAM;
 /// The most bytes of a datagram that goes out.
 pub const MAX_SENT: usize = sys::RTMFP_MAX_SENT;
+/// The least limit of [`Endpoint::narrow`] ..
+pub const MIN_LIMIT: u16 = sys::RTMFP_MIN_LIMIT;
+/// .. and the greatest, with which an end begins.
+pub const MAX_LIMIT: u16 = sys::RTMFP_MAX_LIMIT;
 /// The most bytes of a message.
 pub const MAX_MESSAGE: usize = sys::RTMFP_MAX_MESSAGE;
 /// The most bytes of a flow's metadata.

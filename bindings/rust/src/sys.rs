@@ -22,6 +22,11 @@ numbers! { u64:
     RTMFP_NEVER = u64::MAX, "no deadline";
 }
 
+numbers! { u16:
+    RTMFP_MIN_LIMIT = 96, "the least limit of rtmfp_narrow ..";
+    RTMFP_MAX_LIMIT = 1164, ".. and the greatest";
+}
+
 numbers! { usize:
     RTMFP_MAX_DATAGRAM = 2048, "the most bytes that rtmfp_receive takes";
     RTMFP_MAX_SENT = 1200, "the most bytes of a datagram that goes out";
@@ -268,6 +273,8 @@ unsafe extern "C" {
     ) -> i32;
     /// Has the end introduce others.
     pub fn rtmfp_introduce(end: *mut rtmfp_end) -> i32;
+    /// Has long packets of its sessions go out in pieces.
+    pub fn rtmfp_narrow(end: *mut rtmfp_end, limit: u16) -> i32;
     /// Learns the secret of the next generation.
     pub fn rtmfp_learn(end: *mut rtmfp_end, secret: *const [u8; 32], generation: *mut u64) -> i32;
     /// Goes over to the generation that was learnt.

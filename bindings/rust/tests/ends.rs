@@ -259,6 +259,20 @@ fn an_end_introduces_two_others() {
 }
 
 #[test]
+fn a_narrowed_end_sends_in_pieces() {
+    let mut world = World::new(&["alice", "bob"]);
+    let (here, _) = world.join();
+    for limit in [95, 1165, u16::MAX] {
+        assert_eq!(world.sides[0].end.narrow(limit), Err(Refusal::Config));
+    }
+    world.sides[0].end.narrow(1164).unwrap();
+    world.sides[0].end.narrow(96).unwrap();
+    world.send(0, here, &pattern(&[3000]));
+    world.turn(20);
+    assert_eq!(world.handed(1), pattern(&[3000]));
+}
+
+#[test]
 fn a_group_goes_over_to_another_secret() {
     let mut world = World::new(&["alice", "bob"]);
     let (here, _) = world.join();

@@ -19,6 +19,10 @@ message_options deadline resends = record {
   resends = if nat_eq resends 0xffffffff then None else Some resends;
 }
 
+-- a limit that an end may be narrowed to
+abbrev pub is_limit : ℕ → Bool
+is_limit limit = nat_le 96 limit && nat_le limit 1164
+
 -- the family is one of the two, and the origin one of the four
 abbrev pub is_address : CAddress → Bool
 is_address a = (nat_eq a.family 4 || nat_eq a.family 6) && nat_le a.origin 3

@@ -15,5 +15,6 @@ pub use numbers::{
     give_near, number_of, told_number, took_number,
 };
 pub use shapes::{
-    CAddress, CConfig, CDraws, CEntry, address_of, draws_of, is_config, no_draws, options_of,
+    CAddress, CConfig, CDraws, CEntry, address_of, draws_of, is_config, is_limit, no_draws,
+    options_of,
 };

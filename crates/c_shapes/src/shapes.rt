@@ -1,7 +1,7 @@
 //! The structs of rtmfp.h (own form).
 
 ghost use Rattle.std.specs.Prelude.{◌≡◌, ◌≤◌, true};
-ghost use Rattle.c_shapes.specs.Shapes.{drawn, is_config, message_options, nowhere};
+ghost use Rattle.c_shapes.specs.Shapes.{drawn, is_config, is_limit, message_options, nowhere};
 ghost use Rattle.c_shapes.specs.Shapes.{origin_of, placed, shown_address};
 
 use endpoint_model::Draws;
@@ -78,6 +78,14 @@ pub fn is_config(config: &CConfig) -> bool
         && config.max_peers <= 1_048_576
         && config.max_sessions >= 1
         && config.max_sessions <= 65_536
+}
+
+/// Whether an end may be narrowed to a limit.
+pub fn is_limit(limit: u16) -> bool
+    ensures value { result ≡ is_limit limit }
+    ensures within { result ≡ true → (96 ≤ limit) × (limit ≤ 1164) }
+{
+    limit >= 96 && limit <= 1164
 }
 
 /// The draws of a call.

@@ -298,6 +298,14 @@ int32_t rtmfp_add_row(rtmfp_end *end, const uint8_t print[32], const rtmfp_addre
 /* Has the end introduce others from now on, as `introduces` of its config does. */
 int32_t rtmfp_introduce(rtmfp_end *end);
 
+/* From now on a packet of a session that has more than `limit` bytes before it is sealed goes out in
+ * pieces, each in a datagram of its own, of `limit` and 36 bytes at most: for paths on which long
+ * datagrams get lost. A new end has RTMFP_MAX_LIMIT, and sends none in pieces; packets that open
+ * sessions never go out so. RTMFP_E_CONFIG: `limit` is below RTMFP_MIN_LIMIT or above the other. */
+#define RTMFP_MIN_LIMIT 96u
+#define RTMFP_MAX_LIMIT 1164u
+int32_t rtmfp_narrow(rtmfp_end *end, uint16_t limit);
+
 /* Learns the secret of the generation after the current one; *generation is its number. Packets of it
  * are understood from now on, and the end goes on sending in the current one. The first that stands:
  * RTMFP_E_NEXT_KNOWN, RTMFP_E_GENERATIONS_SPENT, RTMFP_E_SAME_SECRET. */

@@ -1,6 +1,6 @@
 //! Calls of an end that is in a handle.
 
-ghost use Rattle.endpoint.specs.Calls.{call_of};
+ghost use Rattle.endpoint.specs.Calls.{IsWithin, call_of};
 ghost use Rattle.rtmfp_c.specs.Making.{Done, Finds, Gives, Leaves};
 
 use crate::handle::Handle;
@@ -17,6 +17,7 @@ fn answer(
     moment: u64,
     draws: &Draws,
 ) -> Option<Answered>
+    requires { IsWithin call.now }
     ensures { Leaves moment (call_of call.now draws.now) result handle.old handle.new }
 {
     let Some(mut node) = take(alloc, handle) else {
@@ -35,6 +36,7 @@ pub(crate) fn make(
     moment: u64,
     draws: &Draws,
 ) -> i32
+    requires { IsWithin call.now }
     ensures { Done moment (call_of call.now draws.now) result handle.old handle.new }
 {
     told_number(answer(alloc, handle, call, moment, draws))
@@ -49,6 +51,7 @@ pub(crate) fn make_for(
     draws: &Draws,
     number: &mut u64,
 ) -> i32
+    requires { IsWithin call.now }
     ensures { Gives moment (call_of call.now draws.now) result number.old number.new handle.old
         handle.new }
 {
@@ -66,6 +69,7 @@ pub(crate) fn make_near(
     draws: &Draws,
     near: &mut u32,
 ) -> i32
+    requires { IsWithin call.now }
     ensures { Finds moment (call_of call.now draws.now) result near.old near.new handle.old
         handle.new }
 {

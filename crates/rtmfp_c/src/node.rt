@@ -1,7 +1,7 @@
 //! An end with its outbox.
 
 ghost use Rattle.std.specs.Prelude.{◌≤◌, length};
-ghost use Rattle.endpoint.specs.Calls.{call_of};
+ghost use Rattle.endpoint.specs.Calls.{IsWithin, call_of};
 ghost use Rattle.c_shapes.specs.Shapes.{drawn};
 ghost use Rattle.rtmfp_c.specs.Going.{Makes, Receives};
 
@@ -19,6 +19,7 @@ pub struct Node {
 impl Node {
     /// Makes a call of the end.
     pub(crate) fn call(&mut self, call: &EndCall<'_>, moment: u64, draws: &Draws) -> Answered
+        requires { IsWithin call.now }
         ensures { Makes moment (call_of call.now draws.now) result self.old self.new }
     {
         self.end.call(call, moment, draws, &mut self.out)
