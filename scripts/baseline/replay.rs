@@ -2,8 +2,10 @@
 //! With `--flows` it makes another run instead, of two ends that call on flows, with `--calls` one of six ends that also
 //! call each other, hang up and move, with `--meetings` one of three that begin and end sessions in short time, with `--names`
 //! one of six ends that also search for each other by three names, with `--successions` one of six ends whose group also
-//! changes its secret, with `--places` one of six ends that meet through address translators, and with `--transfer` one of K
-//! megabytes that go over, of whose datagrams each N-th is lost. With `--script` it prints the script of the run, with
+//! changes its secret, with `--places` one of six ends that meet through address translators, with `--narrowed` one of two ends
+//! that call on flows and are narrowed, with `--pieces` one of a message of K KiB that goes over between ends with the limit N, of
+//! whose datagrams each tenth is lost and others come late, and with `--transfer` one of K megabytes that go over, of whose
+//! datagrams each N-th is lost. With `--script` it prints the script of the run, with
 //! `--report` the report of it, and with `--journal` the text of its ends' logs. Without a seed it reads a script from its
 //! input, and prints the report of each line; with `--datagrams` alone it prints the bytes of each datagram that was sent
 //! instead, one a line, in hexadecimal, and with `--journal` alone the text of the logs.
@@ -17,6 +19,8 @@ mod flow;
 mod flows;
 #[path = "replay/journal.rs"]
 mod journal;
+#[path = "replay/pieces.rs"]
+mod pieces;
 #[path = "replay/places.rs"]
 mod places;
 #[path = "replay/random.rs"]
@@ -62,6 +66,7 @@ pub enum Step {
     Abandon { end: usize, near: u32, flow: u64, seq: u64 },
     Finish { end: usize, near: u32, flow: u64 },
     Introduce { end: usize },
+    Narrow { end: usize, limit: usize },
     Learn { end: usize },
     Advance { end: usize },
     Redirect { end: usize, peer: usize, list: Vec<Address> },
@@ -201,6 +206,13 @@ impl World {
             }
             Step::Introduce { end } => {
                 self.ends[*end].introduce();
+                Some(*end)
+            }
+            Step::Narrow { end, limit } => {
+                if !(end::LEAST_LIMIT..=wire::PACKET).contains(limit) {
+                    return Err(StepFault::BadStep);
+                }
+                self.ends[*end].narrow(*limit);
                 Some(*end)
             }
             Step::Redirect { end, peer, list } => {
@@ -390,7 +402,8 @@ fn run(seed: u64, steps: u64) -> Result<World, (StepFault, u64)> {
 /// The run of a seed; with `--flows` one that calls on flows; with `--calls` one of ends that also call each other, hang
 /// up and move; with `--meetings` one of ends that begin and end sessions; with `--names` one of ends that also search for
 /// each other; with `--successions` one of ends that also change the group's secret; with `--places` one of ends that meet
-/// through translators; with `--transfer` so many megabytes that go over, of whose datagrams each so many-th is lost, as the
+/// through translators; with `--narrowed` one of ends that are narrowed; with `--pieces` one message of so many KiB between
+/// ends whose limit the seed is; with `--transfer` so many megabytes that go over, of whose datagrams each so many-th is lost, as the
 /// seed says.
 fn generated(seed: u64, steps: u64, flags: &HashSet<String>) -> Result<World, (StepFault, u64)> {
     if flags.contains("--flows") {
@@ -410,6 +423,12 @@ fn generated(seed: u64, steps: u64, flags: &HashSet<String>) -> Result<World, (S
     }
     if flags.contains("--places") {
         return random::places(seed, steps);
+    }
+    if flags.contains("--narrowed") {
+        return random::narrowed(seed, steps);
+    }
+    if flags.contains("--pieces") {
+        return random::in_pieces(seed, steps);
     }
     if flags.contains("--transfer") {
         return random::transfer(seed, steps);
@@ -502,7 +521,7 @@ fn task() -> Option<Task> {
             "--generate" => seed = Some(words.next()?.parse().ok()?),
             "--steps" => steps = Some(words.next()?.parse().ok().filter(|n| *n <= 100_000)?),
             "--journal" if seed.is_none() && steps.is_none() && flags.is_empty() && words.peek().is_none() => return Some(Task::Journal),
-            "--script" | "--report" | "--journal" | "--flows" | "--calls" | "--meetings" | "--names" | "--successions" | "--places" | "--transfer" => _ = flags.insert(word),
+            "--script" | "--report" | "--journal" | "--flows" | "--calls" | "--meetings" | "--names" | "--successions" | "--places" | "--narrowed" | "--pieces" | "--transfer" => _ = flags.insert(word),
             "--datagrams" if seed.is_none() && steps.is_none() => return words.next().is_none().then_some(Task::Datagrams),
             _ => return None,
         }

@@ -1,5 +1,7 @@
 -- The events of steps: of one that makes a call, and of one that brings a datagram.
-use Rattle.std.proofs.Common.{◌≡◌, ℕ, ◌==◌, ◌||◌, nat_lt, Bool, List, [], ◌∷◌, ◌++◌, length, Option, Some, None, IsSome, IfNone, true, false, max, refl, sym, ap, ◌∙◌, subst, arith}
+use Rattle.std.proofs.Common.{◌≡◌, ℕ, ◌≤◌, ◌==◌, ◌||◌, nat_lt, Bool, List, [], ◌∷◌, ◌++◌, length, Option, Some, None, IsSome, IfNone, true, false, max, refl, sym, ap, ◌∙◌, subst, arith}
+use Rattle.std.proofs.lemmas.Bool.{or_parts}
+use Rattle.std.proofs.lemmas.Bool.Decides.{nat_tests}
 use Rattle.rtmfp_base.specs.Reasons.{first_that_stands, where_true}
 use Rattle.rtmfp_forms.specs.Address.{AddressParts}
 use Rattle.glare_core.specs.declared.answers.StartRefusal.{StartRefusal}
@@ -17,26 +19,29 @@ use Rattle.session_flows.specs.declared.refusal.CallRefusal.TheVariants.{NoSessi
 use Rattle.introducer.specs.declared.refusal.RowRefusal.{RowRefusal}
 use Rattle.introducer.specs.declared.refusal.RowRefusal.TheVariants.{Memory as NoMemoryForRow}
 use Rattle.endpoint_model.specs.declared.answers.Stopped.{Stopped as Stop}
-use Rattle.endpoint_model.specs.Event.{Call, Receive, Answer, Began, Searching, Done, Succeeds, NotOpened, NotSought, Refused as RefusedCall, NotAdded, OutOfMemory, Event}
+use Rattle.endpoint_model.specs.Event.{Call, Narrow, Receive, Answer, Began, Searching, Done, Succeeds, NotOpened, NotSought, Refused as RefusedCall, NotAdded, OutOfMemory, Event}
 use Rattle.endpoint_model.specs.State.{State, Does, at_moment, full}
 use Rattle.endpoint_model.specs.Succession.{no_next, advancing_to}
 use Rattle.endpoint_model.specs.InSessions.{held_row}
 use Rattle.endpoint_model.specs.Effects.{candidates_refusal, start_refused, full_refused, places_refusal, no_place}
 use Rattle.endpoint_model.specs.Log.{Answers, Step as StepOf, not_opened, not_sought}
 use Rattle.endpoint.specs.declared.call.Answered.{Answered}
-use Rattle.endpoint.specs.Calls.{moment_given as given_to, answer_of as told_by, Called}
+use Rattle.endpoint.specs.declared.call.EndCall.{EndCall}
+use Rattle.endpoint.specs.declared.call.EndCall.TheVariants as end_call
+use Rattle.endpoint.specs.Calls.{moment_given as given_to, answer_of as told_by, call_of, Called, IsWithin}
 use Rattle.rendezvous_world.specs.declared.journal.Refused.{Refused}
 use Rattle.rendezvous_world.specs.declared.journal.Refused.TheVariants.{Open as OpenRefused, Seek as SeekRefused, Call as CallRefused, Row as RowRefused}
 use Rattle.rendezvous_world.specs.declared.step.Step.{Step}
 use Rattle.rendezvous_world.specs.declared.step.DeedCall.{DeedCall}
+use Rattle.rendezvous_world.specs.declared.step.DeedCall.TheVariants.{Plain as PlainBy}
 use Rattle.rendezvous_world.specs.declared.step.Source.{Source}
 use Rattle.rendezvous_world.specs.declared.step.Source.TheVariants.{Delivered, Turned, Injected, Sealed}
-use Rattle.rendezvous_world.specs.Deed.{StepCall, Opens, Seeks, Unseeks, Cancels, Closes, CallsFlows, Introduces, Redirects, Learns, Advances, Ticks, Deed, Calls, deed_of}
+use Rattle.rendezvous_world.specs.Deed.{StepCall, Opens, Seeks, Unseeks, Cancels, Closes, CallsFlows, Introduces, Narrows, Redirects, Learns, Advances, Ticks, Deed, Calls, deed_of, narrows_beyond}
 use Rattle.rendezvous_world.specs.Draws.{draws_of}
 use Rattle.rendezvous_world.specs.Calls.{made, moment_in, number_started, near_sought, number_succeeded, answer_in, answer_to_datagram, IsDoneOrRefused, MayAnswer, LeavesUndone}
 use Rattle.rendezvous_world.specs.History.{call_by, moment_given, answer_by}
 use Rattle.rendezvous_world.specs.Stepping.{HasAnswer, HasItsAnswer}
-use Rattle.rendezvous_world.specs.Entering.{bringing, made_by, IsCallBy, IsCallOf, peer_by, event_by, refused_in, stopped_in, FoundNone, IsUndoneIn, IsUndone}
+use Rattle.rendezvous_world.specs.Entering.{bringing, made_by, IsCallBy, IsCallOf, IsWithinBy, peer_by, event_by, refused_in, stopped_in, FoundNone, IsUndoneIn, IsUndone}
 
 -- ---- a call
 
@@ -49,6 +54,7 @@ moment_same (Cancels n) print draws moment = refl
 moment_same (Closes near) print draws moment = refl
 moment_same (CallsFlows near call) print draws moment = refl
 moment_same Introduces print draws moment = refl
+moment_same (Narrows limit) print draws moment = refl
 moment_same (Redirects peer list) print draws moment = refl
 moment_same Learns print draws moment = refl
 moment_same Advances print draws moment = refl
@@ -82,6 +88,8 @@ fits (CallsFlows near call) print draws s t (RefusedCall refusal) entries h = re
 fits (CallsFlows near call) print draws s t answer entries h = absurd h
 fits Introduces print draws s t Done entries h = refl
 fits Introduces print draws s t answer entries h = absurd h
+fits (Narrows limit) print draws s t Done entries h = refl
+fits (Narrows limit) print draws s t answer entries h = absurd h
 fits (Redirects peer list) print draws s t Done entries h = refl
 fits (Redirects peer list) print draws s t (NotAdded refusal) entries h = refl
 fits (Redirects peer list) print draws s t answer entries h = absurd h
@@ -133,6 +141,8 @@ may (CallsFlows near call) print draws s t (RefusedCall refusal) entries h other
 may (CallsFlows near call) print draws s t answer entries h other = absurd h
 may Introduces print draws s t Done entries h other = (refl, refl)
 may Introduces print draws s t answer entries h other = absurd h
+may (Narrows limit) print draws s t Done entries h other = (refl, refl)
+may (Narrows limit) print draws s t answer entries h other = absurd h
 may (Redirects peer list) print draws s t Done entries h other = (refl, no_refusal)
 may (Redirects peer list) print draws s t (NotAdded refusal) entries h other = (refl, not_added_for refusal other)
 may (Redirects peer list) print draws s t answer entries h other = absurd h
@@ -204,6 +214,8 @@ left (CallsFlows near call) print draws moment s t Done entries h none = absurd 
 left (CallsFlows near call) print draws moment s t answer entries h none = absurd h
 left Introduces print draws moment s t Done entries h none = absurd none
 left Introduces print draws moment s t answer entries h none = absurd h
+left (Narrows limit) print draws moment s t Done entries h none = absurd none
+left (Narrows limit) print draws moment s t answer entries h none = absurd h
 left (Redirects peer list) print draws moment s t (NotAdded refusal) entries h none = h.1.state ∙ at_zero s
 left (Redirects peer list) print draws moment s t Done entries h none = absurd none
 left (Redirects peer list) print draws moment s t answer entries h none = absurd h
@@ -283,6 +295,41 @@ called_left s t end line moment by print step answered before after done none = 
 pub call_is : (end : ℕ) (by : DeedCall) (peer : Option ℕ) (deed : Deed) → IsCallBy end by deed → peer ≡ peer_by by → IsCallOf end peer deed
 call_is end by peer (Calls who call) is same = (is.0, is.1.peer ∙ sym same, is.1.sized)
 call_is end by peer deed is same = absurd is
+
+-- ---- its limits
+
+abbrev is_beyond : Call → Bool
+is_beyond (Narrow limit) = nat_lt limit 96 || nat_lt 1164 limit
+is_beyond call = false
+
+-- a limit that an end may have
+pub limits_hold : (limit : ℕ) → (nat_lt limit 96 || nat_lt 1164 limit) ≡ false → (96 ≤ limit) × (limit ≤ 1164)
+limits_hold limit e =
+    let both = or_parts (nat_lt limit 96) (nat_lt 1164 limit) e in
+    let least : nat_lt limit 96 ≡ false = both.0 in
+    let most : nat_lt 1164 limit ≡ false = both.1 in
+    (at_least limit least, at_most limit most)
+  where
+    at_least : (n : ℕ) → nat_lt n 96 ≡ false → 96 ≤ n
+    at_least n e = grind (arith, nat_tests)
+
+    at_most : (n : ℕ) → nat_lt 1164 n ≡ false → n ≤ 1164
+    at_most n e = grind (arith, nat_tests)
+
+within_end : (call : EndCall) (draws : Draws) → is_beyond (call_of call draws) ≡ false → IsWithin call
+within_end (end_call.Narrow limit) draws e = limits_hold limit e
+within_end call draws e = tt
+
+beyond_made : (end : ℕ) (call : StepCall) (print : List ℕ) (draws : Draws) → narrows_beyond (Calls end call) ≡ false → is_beyond (made call print draws) ≡ false
+beyond_made end (Narrows limit) print draws e = e
+beyond_made end call print draws e = refl
+
+-- the call of a step within its limits is one that an end may be called with
+pub within_by : (end : ℕ) (by : DeedCall) (deed : Deed) → IsCallBy end by deed → narrows_beyond deed ≡ false → IsWithinBy by
+within_by end (PlainBy call) (Calls who step) is e =
+    within_end call (draws_of 0) (subst (λ (c : Call). is_beyond c ≡ false) (is.1.same [] (draws_of 0)) (beyond_made who step [] (draws_of 0) e))
+within_by end (PlainBy call) deed is e = absurd is
+within_by end by deed is e = tt
 
 -- ---- a datagram
 

@@ -28,7 +28,7 @@ use Rattle.rendezvous_world.specs.declared.journal.JournalLine.{JournalLine}
 use Rattle.rendezvous_world.specs.declared.step.Step.{Step}
 use Rattle.rendezvous_world.specs.declared.step.StepFault.{StepFault}
 use Rattle.rendezvous_world.specs.declared.step.StepFault.TheVariants.{NoEnd, NoDatagram, BadStep, Forged}
-use Rattle.rendezvous_world.specs.Deed.{Opens, Seeks, Closes, Learns, Ticks, Deed, Calls, Brings, deed_of, end_of}
+use Rattle.rendezvous_world.specs.Deed.{Opens, Seeks, Closes, Narrows, Learns, Ticks, Deed, Calls, Brings, deed_of, end_of, narrows_beyond}
 use Rattle.rendezvous_world.specs.Calls.{peer_in}
 use Rattle.rendezvous_world.specs.Entering.{IsSizedDeed}
 use Rattle.rendezvous_world.specs.Seen.{group_secrets, EndSeen, Seen, print_at, setup_at}
@@ -37,9 +37,10 @@ use Rattle.rendezvous_world.specs.Datagrams.{datagram_for, datagram_in}
 use Rattle.rendezvous_world.specs.History.{bytes_or_none, peer_of, call_by, call_of, moment_given, event_of, happened, after_lines, history_of, given_by}
 use Rattle.rendezvous_world.specs.Sound.{AreBelow, StandsUpTo}
 use Rattle.rendezvous_world.specs.Stepping.{in_state, with_state, called_by, HasItsAnswer, IsAnswered, IsLineOf, Called}
-use Rattle.rendezvous_world.specs.Faults.{is_missing, lacks_peer, lacks_end_in, lacks_end, lacks_datagram, is_bad, is_forged_by, is_forged_in, is_forged, step_fault}
+use Rattle.rendezvous_world.specs.Faults.{is_missing, lacks_peer, lacks_end_in, lacks_end, lacks_datagram, is_bad_in, is_bad, is_forged_by, is_forged_in, is_forged, step_fault}
 use Rattle.rendezvous_world.specs.Kept.{name_of, print_of, IsNamed, HasPeerIn, HasPeer, IsLineIn, IsOfLine, IsWorld}
 use Rattle.endpoint_laws.proofs.Drawn.{OneDraw, MayDraw, event_draws}
+use Rattle.rendezvous_world.proofs.Answered.{limits_hold}
 use Rattle.rendezvous_world.proofs.Ends.{tested, setup_is, generation_is, below_length, setups_stay, length-with_state, changed_end, other_end, was_there, apart_with_state}
 use Rattle.rendezvous_world.proofs.Told.{SameSetups, same_happened, same_lines, one_more_line, all_more, rise_more, of_line_stays, of_line_new, number_below, log_same, log_other, honest_same}
 use Rattle.rendezvous_world.proofs.Forging.{was_sent}
@@ -79,6 +80,14 @@ may_step w step none =
       unforged = test_fails (is_forged w step) Forged d.0;
     }
 
+not_beyond : (w : Seen) (deed : Deed) → is_bad_in w deed ≡ false → narrows_beyond deed ≡ false
+not_beyond w (Calls end call) e = e
+not_beyond w deed e = refl
+
+-- nor is an end narrowed beyond the limits
+pub may_limits : (w : Seen) (step : Step) → step_fault w step ≡ None → narrows_beyond (deed_of step) ≡ false
+may_limits w step none = not_beyond w (deed_of step) (may_step w step none).fine
+
 not_missing : (w : Seen) (end : ℕ) → is_missing w end ≡ false → end < length w.ends
 not_missing w end e = grind (arith, nat_tests)
 
@@ -108,12 +117,13 @@ given_wide print generation (Calls end Learns) wide = refl
 given_wide print generation deed wide = wide
 
 -- what a call is given has its sizes
-is_call : (print : List ℕ) (number : ℕ) (bytes : List ℕ) (deed : Deed) → length print ≡ 32 → number < 2 ^ 32 → AreBytes bytes → IsSizedDeed deed → IsCall (call_by print number bytes deed)
-is_call print number bytes (Calls end (Opens peer list)) wide small are sized = (wide, length-two 0 number, small, length-two 2 number)
-is_call print number bytes (Calls end (Seeks name list)) wide small are sized = (sized, length-two 0 number, small, length-two 2 number)
-is_call print number bytes (Calls end Learns) wide small are sized = wide
-is_call print number bytes (Brings end from source) wide small are sized = (are, length-two 0 number, small, length-two 1 number)
-is_call print number bytes deed wide small are sized = tt
+is_call : (print : List ℕ) (number : ℕ) (bytes : List ℕ) (deed : Deed) → length print ≡ 32 → number < 2 ^ 32 → AreBytes bytes → IsSizedDeed deed → narrows_beyond deed ≡ false → IsCall (call_by print number bytes deed)
+is_call print number bytes (Calls end (Opens peer list)) wide small are sized within = (wide, length-two 0 number, small, length-two 2 number)
+is_call print number bytes (Calls end (Seeks name list)) wide small are sized within = (sized, length-two 0 number, small, length-two 2 number)
+is_call print number bytes (Calls end (Narrows limit)) wide small are sized within = limits_hold limit within
+is_call print number bytes (Calls end Learns) wide small are sized within = wide
+is_call print number bytes (Brings end from source) wide small are sized within = (are, length-two 0 number, small, length-two 1 number)
+is_call print number bytes deed wide small are sized within = tt
 
 -- it is given the moment of its line, or none
 given_from : (print : List ℕ) (number : ℕ) (bytes : List ℕ) (last moment : ℕ) (deed : Deed) → last ≤ moment → IsGivenFrom last (moment_given moment deed) (call_by print number bytes deed)
@@ -168,6 +178,7 @@ pub record IsNext (w : Seen) (line : JournalLine) (end : EndSeen) (state : State
   pub small : line.line < 2 ^ 32
   pub bytes : AreBytes (bytes_or_none line.datagram)
   pub sized : IsSizedDeed (deed_of line.step)
+  pub limits : narrows_beyond (deed_of line.step) ≡ false
   pub peer : HasPeer (length w.ends) line.step
   pub moment : line.moment ≡ w.moment
   pub generation : line.generation ≡ end.state.group.generation
@@ -260,7 +271,7 @@ module _ (w : Seen) (line : JournalLine) (end : EndSeen) (state : State) (is : I
   calls_now who = elim (tested line.end who) [
     | inl hit ↦
         subst (λ (log : List Event). AreCalls log) (sym (log_same who h (history_of w) hit.0))
-        (calls_more (log_of who (history_of w)) h.event (is.calls who) (is_call the_given line.line (bytes_or_none line.datagram) (deed_of line.step) (given_wide (print_at w.ends who_named) line.generation (deed_of line.step) (length-sha256 (setup_at w.ends who_named).cert)) next.small next.bytes next.sized))
+        (calls_more (log_of who (history_of w)) h.event (is.calls who) (is_call the_given line.line (bytes_or_none line.datagram) (deed_of line.step) (given_wide (print_at w.ends who_named) line.generation (deed_of line.step) (length-sha256 (setup_at w.ends who_named).cert)) next.small next.bytes next.sized next.limits))
     | inr miss ↦ subst (λ (log : List Event). AreCalls log) (sym (log_other who h (history_of w) miss.0)) (is.calls who)
   ]
 
@@ -338,6 +349,7 @@ called_may w number step line t is below small may called bytes sized =
       small = subst (λ (n : ℕ). n < 2 ^ 32) (sym of_step.line) small;
       bytes = bytes;
       sized = subst (λ (s : Step). IsSizedDeed (deed_of s)) (sym of_step.step) sized;
+      limits = subst (λ (s : Step). narrows_beyond (deed_of s) ≡ false) (sym of_step.step) (not_beyond w (deed_of step) may.fine);
       peer = subst (λ (s : Step). HasPeer (length w.ends) s) (sym of_step.step) (has_peer w (deed_of step) may.ends);
       moment = of_step.moment;
       generation = of_step.generation ∙ generation_is w.ends (called_by step) called.end (at_step of_step);

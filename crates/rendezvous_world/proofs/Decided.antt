@@ -13,8 +13,8 @@ use Rattle.endpoint_model.specs.declared.answers.SeekRefusal.TheVariants.{Memory
 use Rattle.session_flows.specs.declared.refusal.CallRefusal.{CallRefusal}
 use Rattle.session_flows.specs.declared.refusal.CallRefusal.TheVariants.{NoAttempt, NoSession, Memory as NoMemoryToCall}
 use Rattle.endpoint_model.specs.declared.answers.Stopped.{Stopped as Stop}
-use Rattle.endpoint_model.specs.Event.{Call, Open as OpenCall, Seek as SeekCall, Unseek as UnseekCall, Cancel as CancelCall, Close as CloseCall, AddRow, Introduce as IntroduceCall, Learn as LearnCall, Advance as AdvanceCall, OnFlows, Receive, Tick as TickCall, Answer, Began, Searching, Succeeds, Done, NotOpened, NotSought, Refused as RefusedCall, NotAdded, Stopped, OutOfMemory, Event}
-use Rattle.endpoint_model.specs.State.{State, Did, Does, after_entries, at_moment, nothing, then_do}
+use Rattle.endpoint_model.specs.Event.{Call, Open as OpenCall, Seek as SeekCall, Unseek as UnseekCall, Cancel as CancelCall, Close as CloseCall, AddRow, Introduce as IntroduceCall, Narrow as NarrowCall, Learn as LearnCall, Advance as AdvanceCall, OnFlows, Receive, Tick as TickCall, Answer, Began, Searching, Succeeds, Done, NotOpened, NotSought, Refused as RefusedCall, NotAdded, Stopped, OutOfMemory, Event}
+use Rattle.endpoint_model.specs.State.{State, Did, Does, after_entries, at_moment, narrowing, nothing, then_do}
 use Rattle.endpoint_model.specs.Admission.{admission}
 use Rattle.endpoint_model.specs.InSessions.{held_row, closing}
 use Rattle.endpoint_model.specs.FlowCall.{FlowCall}
@@ -30,7 +30,7 @@ use Rattle.rendezvous_world.specs.declared.journal.JournalLine.{JournalLine}
 use Rattle.rendezvous_world.specs.declared.journal.Refused.{Refused}
 use Rattle.rendezvous_world.specs.declared.journal.Refused.TheVariants.{Open as OpenRefused, Seek as SeekRefused, Call as CallRefused, Row as RowRefused}
 use Rattle.rendezvous_world.specs.declared.step.Step.{Step}
-use Rattle.rendezvous_world.specs.Deed.{Opens, Seeks, Introduces, Learns, Advances, Ticks, Deed, NewEnd, NewMoment, Calls, Brings, deed_of}
+use Rattle.rendezvous_world.specs.Deed.{Opens, Seeks, Introduces, Narrows, Learns, Advances, Ticks, Deed, NewEnd, NewMoment, Calls, Brings, deed_of}
 use Rattle.rendezvous_world.specs.Calls.{answer_to_call, answer_to_datagram, answer_to_open, answer_to_seek, answer_to_succession, answer_to_tick, IsDoneOrRefused}
 use Rattle.rendezvous_world.specs.Seen.{EndSeen, Seen, generation_at}
 use Rattle.rendezvous_world.specs.Same.{AreSameWorlds, without_room}
@@ -165,6 +165,11 @@ one_introduce s Done Done xs ys t r p q h k = same_did Done Done (nothing (intro
 one_introduce s Done other xs ys t r p q h k = absurd k
 one_introduce s answer other xs ys t r p q h k = absurd h
 
+one_narrow : (s : State) (limit : ℕ) (a b : Answer) (xs ys : List Entry) (t r : State) → IsWhole a → IsWhole b → Answers s (NarrowCall limit) a xs t → Answers s (NarrowCall limit) b ys r → SameAnswer a b xs ys t r
+one_narrow s limit Done Done xs ys t r p q h k = same_did Done Done (nothing (narrowing s limit)) (nothing (narrowing s limit)) xs ys t r refl refl h k
+one_narrow s limit Done other xs ys t r p q h k = absurd k
+one_narrow s limit answer other xs ys t r p q h k = absurd h
+
 -- a call on the group's secrets that isn't refused for want of memory
 one_learn : (s : State) (secret : List ℕ) (a b : Answer) (xs ys : List Entry) (t r : State) → IsWhole a → IsWhole b → Answers s (LearnCall secret) a xs t → Answers s (LearnCall secret) b ys r → SameAnswer a b xs ys t r
 one_learn s secret (Succeeds n) (Succeeds m) xs ys t r p q h k =
@@ -229,6 +234,7 @@ one_call s (CancelCall n) a b xs ys t r p q h k = one_cancel s n a b xs ys t r p
 one_call s (CloseCall near) a b xs ys t r p q h k = one_close s near a b xs ys t r p q h k
 one_call s (AddRow print addresses) a b xs ys t r p q h k = one_row s print addresses a b xs ys t r p q h k
 one_call s IntroduceCall a b xs ys t r p q h k = one_introduce s a b xs ys t r p q h k
+one_call s (NarrowCall limit) a b xs ys t r p q h k = one_narrow s limit a b xs ys t r p q h k
 one_call s (LearnCall secret) a b xs ys t r p q h k = one_learn s secret a b xs ys t r p q h k
 one_call s AdvanceCall a b xs ys t r p q h k = one_advance s a b xs ys t r p q h k
 one_call s (OnFlows near call) a b xs ys t r p q h k = one_flow s near call a b xs ys t r p q h k
@@ -280,6 +286,7 @@ whole (Calls end (Seeks name list)) refused stopped entries h none = sought_whol
 whole (Calls end Learns) refused stopped entries h none = succeeded_whole refused entries h.1
 whole (Calls end Advances) refused stopped entries h none = succeeded_whole refused entries h.1
 whole (Calls end Introduces) refused stopped entries h none = tt
+whole (Calls end (Narrows limit)) refused stopped entries h none = tt
 whole (Calls end Ticks) refused stopped entries h none = ticked_whole stopped none
 whole (Calls end call) refused stopped entries h none = called_whole refused h.1
 whole (Brings end from source) refused stopped entries h none = brought_whole stopped none
@@ -321,6 +328,7 @@ one_refusal (Calls end (Seeks name list)) a b p q xs ys h k e = sym (sought_for 
 one_refusal (Calls end Learns) a b p q xs ys h k e = sym (succeeded_for a xs) ∙ ap refused_in e ∙ succeeded_for b ys
 one_refusal (Calls end Advances) a b p q xs ys h k e = sym (succeeded_for a xs) ∙ ap refused_in e ∙ succeeded_for b ys
 one_refusal (Calls end Introduces) a b p q xs ys h k e = h.0 ∙ sym k.0
+one_refusal (Calls end (Narrows limit)) a b p q xs ys h k e = h.0 ∙ sym k.0
 one_refusal (Calls end Ticks) a b p q xs ys h k e = h.0 ∙ sym k.0
 one_refusal (Calls end call) a b p q xs ys h k e = sym (called_for a) ∙ ap refused_in e ∙ called_for b
 one_refusal (Brings end from source) a b p q xs ys h k e = h ∙ sym k

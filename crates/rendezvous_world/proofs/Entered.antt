@@ -16,7 +16,7 @@ use Rattle.rendezvous_world.specs.declared.journal.Refused.{Refused}
 use Rattle.rendezvous_world.specs.declared.step.StepFault.TheVariants.{Memory}
 use Rattle.rendezvous_world.specs.declared.step.Step.{Step}
 use Rattle.rendezvous_world.specs.declared.step.Step.TheVariants.{Inject}
-use Rattle.rendezvous_world.specs.Deed.{StepCall, Opens, Seeks, Closes, Introduces, Learns, Ticks, Deed, Calls, deed_of}
+use Rattle.rendezvous_world.specs.Deed.{StepCall, Opens, Seeks, Closes, Introduces, Narrows, Learns, Ticks, Deed, Calls, deed_of}
 use Rattle.rendezvous_world.specs.Calls.{peer_in, IsAllowed, LeavesUndone}
 use Rattle.rendezvous_world.specs.Seen.{EndSeen, Seen, generation_at, print_at}
 use Rattle.rendezvous_world.specs.Line.{IsWith}
@@ -94,6 +94,7 @@ undone_call print named moment (Opens peer list) old new p h = inr (subst (λ (x
 undone_call print named moment (Seeks name list) old new p h = inr h
 undone_call print named moment (Closes near) old new p h = inr h
 undone_call print named moment Introduces old new p h = absurd h
+undone_call print named moment (Narrows limit) old new p h = absurd h
 undone_call print named moment Ticks old new p h = absurd h
 undone_call print named moment call old new p h = inl h
 

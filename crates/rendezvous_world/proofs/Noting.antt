@@ -5,10 +5,10 @@ use Rattle.glare_core.specs.Steps.{Among}
 use Rattle.glare_core.specs.Told.{AllDifferent}
 use Rattle.startup.specs.Attempts.{after_cancel, after_unseek}
 use Rattle.endpoint_model.specs.declared.entry.Entry.{Entry}
-use Rattle.endpoint_model.specs.Event.{Setup, own_of, Call, Open, Seek, Unseek, Cancel, Close, AddRow, Introduce, Learn, Advance, OnFlows, Receive, Tick, Answer, Done, Succeeds, Refused, NotAdded, Event}
+use Rattle.endpoint_model.specs.Event.{Setup, own_of, Call, Open, Seek, Unseek, Cancel, Close, AddRow, Introduce, Narrow, Learn, Advance, OnFlows, Receive, Tick, Answer, Done, Succeeds, Refused, NotAdded, Event}
 use Rattle.endpoint_model.specs.declared.row.Row.{Row}
 use Rattle.crypto_profile.specs.declared.group.GroupSecret.{GroupSecret}
-use Rattle.endpoint_model.specs.State.{State, Did, Does, at_moment, with_startup}
+use Rattle.endpoint_model.specs.State.{State, Did, Does, at_moment, narrowing, with_startup}
 use Rattle.endpoint_model.specs.Succession.{learning, no_next, advance_refusal, advancing_to, advancing}
 use Rattle.endpoint_model.specs.InSessions.{held_row}
 use Rattle.endpoint_model.specs.FlowCall.{FlowCall}
@@ -138,6 +138,7 @@ unmoved s noted (Learn secret) (Refused refusal) entries t untimed h = record { 
 unmoved s noted Advance (Succeeds generation) entries t untimed h = advanced_noted s noted s.next generation entries t refl h.0 h.1 h.2
 unmoved s noted Advance (Refused refusal) entries t untimed h = record { after = s; answers = (h.0, record { state = refl; entries = h.1.entries }); state = h.1.state }
 unmoved s noted Introduce Done entries t untimed h = record { after = introducing s; answers = record { state = refl; entries = h.entries }; state = h.state }
+unmoved s noted (Narrow limit) Done entries t untimed h = record { after = narrowing s limit; answers = record { state = refl; entries = h.entries }; state = h.state }
 unmoved s noted (OnFlows near call) Done entries t untimed h =
     let did : Did = flow_called s near call in
     let same : flow_called (at_moment s noted) near call ≡ noted_did did noted = flow_noted s noted near call (held_row s near) in

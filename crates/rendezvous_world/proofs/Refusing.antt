@@ -11,7 +11,7 @@ use Rattle.rendezvous_world.specs.declared.step.Step.TheVariants.{End}
 use Rattle.rendezvous_world.specs.declared.step.StepFault.{StepFault}
 use Rattle.rendezvous_world.specs.declared.step.StepFault.TheVariants.{NoEnd, NoDatagram, BadStep, Forged, Memory}
 use Rattle.rendezvous_world.specs.declared.journal.JournalLine.{JournalLine}
-use Rattle.rendezvous_world.specs.Deed.{Deed, Calls, Brings, deed_of, end_of, IsCalling}
+use Rattle.rendezvous_world.specs.Deed.{Deed, Calls, Brings, deed_of, end_of, narrows_beyond, IsCalling}
 use Rattle.rendezvous_world.specs.Calls.{peer_in}
 use Rattle.rendezvous_world.specs.Seen.{EndSeen, Seen}
 use Rattle.rendezvous_world.specs.Faults.{is_missing, lacks_peer, lacks_end_in, lacks_end, lacks_datagram_in, lacks_datagram, is_like, is_outside, is_bad_in, is_bad, is_forged_in, is_forged, is_forged_by, step_fault}
@@ -110,7 +110,7 @@ record IsPlain (w : Seen) (end : ℕ) (peer : Option ℕ) (deed : Deed) : Type 0
   datagram : None ≡ datagram_in w deed
   lacks : lacks_end_in w deed ≡ (lacks_peer w peer || is_missing w end)
   full : lacks_datagram_in w deed ≡ false
-  fine : is_bad_in w deed ≡ false
+  fine : is_bad_in w deed ≡ narrows_beyond deed
   unforged : is_forged_in w deed ≡ false
 
 plain : (w : Seen) (end : ℕ) (peer : Option ℕ) (deed : Deed) → IsCallOf end peer deed → IsPlain w end peer deed
@@ -133,13 +133,20 @@ call_named w end peer deed is = (plain w end peer deed is).named
 pub call_lacks : (w : Seen) (end : ℕ) (peer : Option ℕ) (step : Step) → IsCallOf end peer (deed_of step) → lacks_end w step ≡ (lacks_peer w peer || is_missing w end)
 call_lacks w end peer step is = (plain w end peer (deed_of step) is).lacks
 
+-- an end is to be narrowed beyond the limits
+pub call_beyond : (w : Seen) (number end : ℕ) (peer : Option ℕ) (step : Step) → IsCallOf end peer (deed_of step) → (lacks_peer w peer || is_missing w end) ≡ false → narrows_beyond (deed_of step) ≡ true →
+    IsDone w number step (Err BadStep) w
+call_beyond w number end peer step is there beyond =
+    let p : IsPlain w end peer (deed_of step) = plain w end peer (deed_of step) is in
+    bad_done w number step (p.lacks ∙ there) p.full (p.fine ∙ beyond)
+
 peer_there : (w : Seen) (end : ℕ) (peer : Option ℕ) → lacks_peer w peer ≡ false → is_missing w end ≡ false → peer_or end peer < length w.ends
 peer_there w end None e there = there_is w end there
 peer_there w end (Some peer) e there = there_is w peer e
 
-pub entering_call : (w : Seen) (number end : ℕ) (peer : Option ℕ) (step : Step) → AreBelow w.lines number → number < 2 ^ 32 → IsCallOf end peer (deed_of step) → (lacks_peer w peer || is_missing w end) ≡ false →
+pub entering_call : (w : Seen) (number end : ℕ) (peer : Option ℕ) (step : Step) → AreBelow w.lines number → number < 2 ^ 32 → IsCallOf end peer (deed_of step) → (lacks_peer w peer || is_missing w end) ≡ false → narrows_beyond (deed_of step) ≡ false →
     IsEntering w number end step None []
-entering_call w number end peer step above fits is there =
+entering_call w number end peer step above fits is there within =
     let p : IsPlain w end peer (deed_of step) = plain w end peer (deed_of step) is in
     let both = or_parts (lacks_peer w peer) (is_missing w end) there in
     record {
@@ -154,7 +161,7 @@ entering_call w number end peer step above fits is there =
       short = omega arith;
       are_bytes = no_bytes;
       sized = p.sized;
-      fine = fault_left w number step (p.lacks ∙ there) p.full p.fine ∙ ap (λ (x : Bool). where_true x Forged) p.unforged;
+      fine = fault_left w number step (p.lacks ∙ there) p.full (p.fine ∙ within) ∙ ap (λ (x : Bool). where_true x Forged) p.unforged;
     }
 
 -- ---- a step that brings a datagram

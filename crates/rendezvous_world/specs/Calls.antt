@@ -11,14 +11,14 @@ use Rattle.endpoint_model.specs.declared.answers.OpenRefusal.TheVariants.{Memory
 use Rattle.endpoint_model.specs.declared.answers.SeekRefusal.TheVariants.{Memory as NoMemoryToSeek}
 use Rattle.session_flows.specs.declared.refusal.CallRefusal.TheVariants.{Memory as NoMemoryToCall}
 use Rattle.introducer.specs.declared.refusal.RowRefusal.TheVariants.{Memory as NoMemoryForRow}
-use Rattle.endpoint_model.specs.Event.{Call, Open as OpenCall, Seek as SeekCall, Unseek as UnseekCall, Cancel as CancelCall, Close as CloseCall, AddRow, Introduce as IntroduceCall, Learn as LearnCall, Advance as AdvanceCall, OnFlows, Tick as TickCall, Answer, Began, Searching, Done, Succeeds, NotOpened, NotSought, Refused as RefusedCall, NotAdded, Stopped, OutOfMemory}
+use Rattle.endpoint_model.specs.Event.{Call, Open as OpenCall, Seek as SeekCall, Unseek as UnseekCall, Cancel as CancelCall, Close as CloseCall, AddRow, Introduce as IntroduceCall, Narrow as NarrowCall, Learn as LearnCall, Advance as AdvanceCall, OnFlows, Tick as TickCall, Answer, Began, Searching, Done, Succeeds, NotOpened, NotSought, Refused as RefusedCall, NotAdded, Stopped, OutOfMemory}
 use Rattle.endpoint_model.specs.State.{State, at_moment}
 use Rattle.endpoint_model.specs.InSessions.{held_row}
 use Rattle.endpoint_model.specs.Effects.{open_refusal, seek_refusal}
 use Rattle.endpoint_model.specs.Log.{not_taken}
 use Rattle.rendezvous_world.specs.declared.journal.Refused.{Refused}
 use Rattle.rendezvous_world.specs.declared.journal.Refused.TheVariants.{Open as OpenRefused, Seek as SeekRefused, Call as CallRefused, Row as RowRefused}
-use Rattle.rendezvous_world.specs.Deed.{StepCall, Opens, Seeks, Unseeks, Cancels, Closes, CallsFlows, Introduces, Redirects, Learns, Advances, Ticks}
+use Rattle.rendezvous_world.specs.Deed.{StepCall, Opens, Seeks, Unseeks, Cancels, Closes, CallsFlows, Introduces, Narrows, Redirects, Learns, Advances, Ticks}
 
 -- ---- what an end is called with
 
@@ -32,6 +32,7 @@ made (Cancels n) print draws = CancelCall n
 made (Closes near) print draws = CloseCall near
 made (CallsFlows near call) print draws = OnFlows near call
 made Introduces print draws = IntroduceCall
+made (Narrows limit) print draws = NarrowCall limit
 made (Redirects peer list) print draws = AddRow print list
 made Learns secret draws = LearnCall secret
 made Advances print draws = AdvanceCall
@@ -121,6 +122,7 @@ answer_in (Seeks name list) refused stopped entries = answer_to_seek refused ent
 answer_in Learns refused stopped entries = answer_to_succession refused entries
 answer_in Advances refused stopped entries = answer_to_succession refused entries
 answer_in Introduces refused stopped entries = Done
+answer_in (Narrows limit) refused stopped entries = Done
 answer_in Ticks refused stopped entries = answer_to_tick stopped
 answer_in call refused stopped entries = answer_to_call refused
 
@@ -131,10 +133,11 @@ pub record IsDoneOrRefused (refused : Option Refused) : Type 0 where
   pub called : refused ≢ Some (CallRefused NoMemoryToCall)
   pub added : refused ≢ Some (RowRefused NoMemoryForRow)
 
--- What a line can tell of the answer: that an end introduces is done, a tick is done or stopped, and
--- another call is done or refused. A call that is refused for want of memory has no line.
+-- What a line can tell of the answer: that an end introduces or is narrowed is done, a tick is done or
+-- stopped, and another call is done or refused. A call that is refused for want of memory has no line.
 abbrev pub MayAnswer : StepCall → Option Refused → Option Stop → Type 0
 MayAnswer Introduces refused stopped = (refused ≡ None) × (stopped ≡ None)
+MayAnswer (Narrows limit) refused stopped = (refused ≡ None) × (stopped ≡ None)
 MayAnswer Ticks refused stopped = (refused ≡ None) × IfSome stopped (λ stop. stop ≡ not_taken)
 MayAnswer call refused stopped = (stopped ≡ None) × IsDoneOrRefused refused
 
@@ -149,7 +152,7 @@ IsAllowed print s (Closes near) = IsSome (held_row s near)
 IsAllowed print s call = ⊥
 
 -- An open, a seek and a close, which nothing else refused, have noted the moment, and another call has
--- left all as before; a tick has its line, and that an end introduces takes no memory.
+-- left all as before; a tick has its line, and that an end introduces or is narrowed takes no memory.
 abbrev pub LeavesUndone : List ℕ → ℕ → StepCall → State → State → Type 0
 LeavesUndone print moment (Opens peer list) old new = (open_refusal old print list ≡ None) ×
     (new ≡ at_moment old moment)
@@ -158,5 +161,6 @@ LeavesUndone print moment (Seeks name list) old new = (seek_refusal old list ≡
 LeavesUndone print moment (Closes near) old new = IsSome (held_row old near) ×
     (new ≡ at_moment old moment)
 LeavesUndone print moment Introduces old new = ⊥
+LeavesUndone print moment (Narrows limit) old new = ⊥
 LeavesUndone print moment Ticks old new = ⊥
 LeavesUndone print moment call old new = new ≡ old

@@ -1,10 +1,10 @@
 -- What a step does: it adds an end, it sets the moment, it lets an end make a call, or it brings a
 -- datagram to one. Steps are told apart here alone; what else is said of them goes by their deeds.
-use Rattle.std.specs.Prelude.{ℕ, Bool, true, false, List}
+use Rattle.std.specs.Prelude.{ℕ, ◌||◌, nat_lt, Bool, true, false, List}
 use Rattle.rtmfp_forms.specs.Address.{AddressParts}
 use Rattle.endpoint_model.specs.FlowCall.{FlowCall, OpenFlow, Queue as QueueCall, Abandon as AbandonCall, Finish as FinishCall}
 use Rattle.rendezvous_world.specs.declared.step.Step.{Step}
-use Rattle.rendezvous_world.specs.declared.step.Step.TheVariants.{End, At, Introduce, Redirect, Open, Seek, Unseek, Cancel, Close, Flow, Queue, Abandon, Finish, Learn, Advance, Deliver, Bent, Inject, Forge, Tick}
+use Rattle.rendezvous_world.specs.declared.step.Step.TheVariants.{End, At, Introduce, Narrow, Redirect, Open, Seek, Unseek, Cancel, Close, Flow, Queue, Abandon, Finish, Learn, Advance, Deliver, Bent, Inject, Forge, Tick}
 
 -- A call that an end makes; an open and a row name another end by its number. A learn is of the
 -- secret of the generation after the current one.
@@ -16,6 +16,7 @@ pub data StepCall : Type 0 where
   Closes : (near : ℕ) → StepCall
   CallsFlows : (near : ℕ) → (call : FlowCall) → StepCall
   Introduces : StepCall
+  Narrows : (limit : ℕ) → StepCall
   Redirects : (peer : ℕ) → (list : List AddressParts) → StepCall
   Learns : StepCall
   Advances : StepCall
@@ -50,6 +51,7 @@ deed_of (Queue end near flow options message) =
 deed_of (Abandon end near flow seq) = Calls end (CallsFlows near (AbandonCall flow seq))
 deed_of (Finish end near flow) = Calls end (CallsFlows near (FinishCall flow))
 deed_of (Introduce end) = Calls end Introduces
+deed_of (Narrow end limit) = Calls end (Narrows limit)
 deed_of (Redirect end peer list) = Calls end (Redirects peer list)
 deed_of (Learn end) = Calls end Learns
 deed_of (Advance end) = Calls end Advances
@@ -69,6 +71,11 @@ end_of deed = 0
 abbrev pub learns : Deed → Bool
 learns (Calls end Learns) = true
 learns deed = false
+
+-- an end is narrowed to a limit that it can't have
+abbrev pub narrows_beyond : Deed → Bool
+narrows_beyond (Calls end (Narrows limit)) = nat_lt limit 96 || nat_lt 1164 limit
+narrows_beyond deed = false
 
 -- It calls an end.
 abbrev pub IsCalling : Deed → Type 0

@@ -11,7 +11,7 @@ use Rattle.session_flows.specs.declared.refusal.CallRefusal.TheVariants.{Memory 
 use Rattle.introducer.specs.declared.refusal.RowRefusal.TheVariants.{Memory as NoMemoryForRow}
 use Rattle.endpoint_model.specs.Event.{Call, Open as OpenCall, AddRow, Learn as LearnCall, Answer, NotOpened, NotSought, Refused as RefusedCall, NotAdded, Stopped, OutOfMemory, Event}
 use Rattle.endpoint_model.specs.Log.{not_taken}
-use Rattle.endpoint.specs.Calls.{call_of}
+use Rattle.endpoint.specs.Calls.{IsWithin, call_of}
 use Rattle.rendezvous_world.specs.declared.bringing.Fetched.{Fetched}
 use Rattle.rendezvous_world.specs.declared.bringing.Fetched.TheVariants.{Missing, Forged as IsForged, Sent as IsSent}
 use Rattle.rendezvous_world.specs.declared.journal.JournalLine.{JournalLine}
@@ -64,6 +64,11 @@ peer_by (OpenBy peer list) = Some peer
 peer_by (AddRowBy peer list) = Some peer
 peer_by LearnBy = None
 peer_by (PlainBy call) = None
+
+-- It is one that an end may be called with.
+abbrev pub IsWithinBy : DeedCall → Type 0
+IsWithinBy (PlainBy call) = IsWithin call
+IsWithinBy by = Unit {0}
 
 -- This is the call that a step makes, given what has its sizes.
 pub record IsMadeBy (by : DeedCall) (call : StepCall) : Type 0 where

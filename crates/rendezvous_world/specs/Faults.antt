@@ -13,7 +13,7 @@ use Rattle.rendezvous_world.specs.declared.step.StepFault.{StepFault}
 use Rattle.rendezvous_world.specs.declared.step.StepFault.TheVariants.{NoEnd, NoDatagram, BadStep, Forged}
 use Rattle.rendezvous_world.specs.Seen.{EndSeen, Seen}
 use Rattle.rendezvous_world.specs.Sent.{Sent, sent_in}
-use Rattle.rendezvous_world.specs.Deed.{Source, Injected, Sealed, Deed, NewEnd, NewMoment, Calls, Brings, deed_of}
+use Rattle.rendezvous_world.specs.Deed.{Source, Injected, Sealed, Deed, NewEnd, NewMoment, Calls, Brings, deed_of, narrows_beyond}
 use Rattle.rendezvous_world.specs.Calls.{peer_in}
 use Rattle.rendezvous_world.specs.Datagrams.{datagram_for}
 
@@ -64,7 +64,7 @@ is_bad_in w (NewEnd name max_peers max_sessions cert) =
     list_any (is_like name cert) w.ends || nat_le 1024 (length w.ends)
     || is_outside 1048576 max_peers || is_outside 65536 max_sessions
 is_bad_in w (NewMoment moment) = nat_lt moment w.moment
-is_bad_in w (Calls end call) = false
+is_bad_in w (Calls end call) = narrows_beyond (Calls end call)
 is_bad_in w (Brings end from source) = is_long source
 
 abbrev pub is_bad : Seen → Step → Bool

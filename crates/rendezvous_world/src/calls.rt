@@ -5,7 +5,8 @@ ghost use Rattle.endpoint.specs.Calls.{Called, answer_of};
 ghost use Rattle.endpoint_model.specs.Event.{Receive};
 ghost use Rattle.endpoint_model.specs.Log.{Step as StepOf};
 ghost use Rattle.rendezvous_world.specs.Calls.{answer_to_datagram};
-ghost use Rattle.rendezvous_world.specs.Entering.{CallsAnEnd, FoundNone, IsUndone, event_by, made_by, refused_in, stopped_in};
+ghost use Rattle.rendezvous_world.specs.Deed.{deed_of, narrows_beyond};
+ghost use Rattle.rendezvous_world.specs.Entering.{CallsAnEnd, FoundNone, IsUndone, IsWithinBy, event_by, made_by, refused_in, stopped_in};
 ghost use Rattle.rendezvous_world.specs.Line.{refused_kept, stopped_kept};
 ghost use Rattle.rendezvous_world.specs.Stepping.{HasItsAnswer};
 
@@ -39,6 +40,7 @@ pub(crate) fn call_end(
     out: &mut Outbox,
 ) -> Outcome
     requires calls { CallsAnEnd step.now }
+    requires limits { narrows_beyond (deed_of step.now) ≡ false }
     requires fits { line < 2 ^ 32 }
     requires short { length bytes.old ≤ 2048 }
     requires empty { out.old.entries ≡ [] }
@@ -67,6 +69,7 @@ fn make(
     draws: &Draws,
     out: &mut Outbox,
 ) -> Answered
+    requires { IsWithinBy call.now }
     ensures { Called endpoint.old moment (made_by call.now given.now draws.now) result endpoint.new
         out.old out.new }
 {

@@ -57,9 +57,13 @@ pub fn new_ends()
         is_bad (world_of ends) (Step.End (98 ∷ []) 1 1 (7 ∷ [])) ≡ true }
 {}
 
-/// The moment doesn't go back, and at most 2,048 bytes reach an end, or a plain packet of at most
-/// 1,164 that is forged.
+/// An end is narrowed to a limit of 96 to 1,164, the moment doesn't go back, and at most 2,048 bytes
+/// reach an end, or a plain packet of at most 1,164 that is forged.
 pub fn other_limits()
+    ensures least_limit { is_bad (world_of []) (Step.Narrow 0 96) ≡ false }
+    ensures below { is_bad (world_of []) (Step.Narrow 0 95) ≡ true }
+    ensures most_limit { is_bad (world_of []) (Step.Narrow 0 1164) ≡ false }
+    ensures above { is_bad (world_of []) (Step.Narrow 0 1165) ≡ true }
     ensures same_moment { is_bad (world_of []) (Step.At 5) ≡ false }
     ensures earlier { is_bad (world_of []) (Step.At 4) ≡ true }
     ensures most_bytes { (from : AddressParts) →
@@ -79,6 +83,8 @@ pub fn order_of_faults()
         step_fault (world_of []) (Step.Deliver 1 0 from) ≡ Some StepFault.NoEnd }
     ensures end_before_limits { (from : AddressParts) →
         step_fault (world_of []) (Step.Inject 0 from (replicate 2049 7)) ≡ Some StepFault.NoEnd }
+    ensures end_before_limit { step_fault (world_of []) (Step.Narrow 0 95)
+        ≡ Some StepFault.NoEnd }
     ensures peer { (setup : Setup) (state : State) (list : List AddressParts) →
         step_fault (world_of (called_a setup state ∷ [])) (Step.Open 0 1 list)
         ≡ Some StepFault.NoEnd }

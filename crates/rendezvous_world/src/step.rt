@@ -1,17 +1,21 @@
 //! The steps of a script, what each does, and why one is refused.
 
 ghost use Rattle.std.specs.Prelude.{◌≡◌, IfOk};
-ghost use Rattle.rendezvous_world.specs.Deed.{Seeks, deed_of, learns};
+ghost use Rattle.rendezvous_world.specs.Deed.{Seeks, deed_of, learns, narrows_beyond};
 ghost use Rattle.rendezvous_world.specs.Entering.{IsDeed, IsMadeBy, peer_by};
 
 use endpoint::{EndCall, MessageOptions};
 use identity::{Certificate, ServiceName};
+use rtmfp_base::limits::PLAIN;
 use rtmfp_base::{Memory, Message};
 use rtmfp_forms::Address;
 use rtmfp_text::Name;
 use std::alloc::Global;
 use std::marker::Model;
 use thiserror::Error;
+
+/// The least limit that an end may be narrowed to, in plain bytes.
+const LEAST_LIMIT: u16 = 96;
 
 /// Addresses, seen by contracts as their list.
 #[derive(Drop)]
@@ -129,6 +133,12 @@ pub enum Step {
     /// An end introduces others to each other from now on.
     Introduce {
         end: usize,
+    },
+    /// Packets of an end's sessions that have more than so many plain bytes, 96 to 1,164, go out in
+    /// pieces from now on.
+    Narrow {
+        end: usize,
+        limit: u16,
     },
     /// An end answers hellos for another with these addresses.
     Redirect {
@@ -319,6 +329,10 @@ impl Step {
                 flow: *flow,
             },
             Step::Introduce { end } => Step::Introduce { end: *end },
+            Step::Narrow { end, limit } => Step::Narrow {
+                end: *end,
+                limit: *limit,
+            },
             Step::Redirect { end, peer, list } => Step::Redirect {
                 end: *end,
                 peer: *peer,
@@ -361,6 +375,16 @@ impl Step {
         ensures { result ≡ learns (deed_of self.now) }
     {
         matches!(self, Step::Learn { .. })
+    }
+
+    /// Whether an end is to be narrowed to a limit that it can't have.
+    pub(crate) fn narrows_beyond(&self) -> bool
+        ensures { result ≡ narrows_beyond (deed_of self.now) }
+    {
+        match self {
+            Step::Narrow { limit, .. } => *limit < LEAST_LIMIT || usize::from(*limit) > PLAIN,
+            _ => false,
+        }
     }
 
     /// What the step does. Steps are told apart here; what else is done with them goes by their
@@ -443,6 +467,9 @@ impl Step {
                 }),
             ),
             Step::Introduce { end } => Deed::Call(*end, DeedCall::Plain(EndCall::Introduce)),
+            Step::Narrow { end, limit } => {
+                Deed::Call(*end, DeedCall::Plain(EndCall::Narrow(*limit)))
+            }
             Step::Redirect { end, peer, list } => Deed::Call(*end, DeedCall::AddRow(*peer, list)),
             Step::Learn { end } => Deed::Call(*end, DeedCall::Learn),
             Step::Advance { end } => Deed::Call(*end, DeedCall::Plain(EndCall::Advance)),

@@ -153,6 +153,9 @@ impl World {
         if self.lacks_one(end, peer) {
             return Err(StepFault::NoEnd);
         }
+        if step.narrows_beyond() {
+            return Err(StepFault::BadStep);
+        }
         self.enter(line, end, peer_or(end, peer), step, None, &mut [])
     }
 

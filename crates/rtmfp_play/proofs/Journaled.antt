@@ -47,6 +47,7 @@ not_begun (h ∷ earlier) e = absurd (cc)
 
 call_in_time : (history : History) (end : ℕ) (does : CallLine) → IsTimely history (deed_of (call_step end does))
 call_in_time history end call.Introduce = tt
+call_in_time history end (call.Narrow limit) = tt
 call_in_time history end (call.Seek service addresses) = tt
 call_in_time history end (call.Unseek near) = tt
 call_in_time history end (call.Cancel number) = tt

@@ -6,7 +6,7 @@ use Rattle.rtmfp_text.specs.declared.names.Named.{Named}
 use Rattle.endpoint_model.specs.State.{State}
 use Rattle.rendezvous_world.specs.declared.journal.JournalLine.{JournalLine}
 use Rattle.rendezvous_world.specs.declared.step.Step.{Step}
-use Rattle.rendezvous_world.specs.declared.step.Step.TheVariants.{End, At, Introduce, Redirect, Open, Seek, Unseek, Cancel, Close, Flow, Queue, Abandon, Finish, Learn, Advance, Deliver, Bent, Inject, Forge, Tick}
+use Rattle.rendezvous_world.specs.declared.step.Step.TheVariants.{End, At, Introduce, Narrow, Redirect, Open, Seek, Unseek, Cancel, Close, Flow, Queue, Abandon, Finish, Learn, Advance, Deliver, Bent, Inject, Forge, Tick}
 use Rattle.rendezvous_world.specs.Inside.{named_of}
 use Rattle.rendezvous_world.specs.Seen.{EndSeen, Seen}
 use Rattle.rendezvous_world.specs.Sent.{sent_in}
@@ -80,6 +80,7 @@ stepped_adds w n line (Queue end near flow options message) t text none h is = c
 stepped_adds w n line (Abandon end near flow seq) t text none h is = called_adds w n line (Abandon end near flow seq) h.0 t text none h.2 is
 stepped_adds w n line (Finish end near flow) t text none h is = called_adds w n line (Finish end near flow) h.0 t text none h.2 is
 stepped_adds w n line (Introduce end) t text none h is = called_adds w n line (Introduce end) h.0 t text none h.2 is
+stepped_adds w n line (Narrow end limit) t text none h is = called_adds w n line (Narrow end limit) h.0 t text none h.2 is
 stepped_adds w n line (Learn end) t text none h is = called_adds w n line (Learn end) h.0 t text none h.2 is
 stepped_adds w n line (Advance end) t text none h is = called_adds w n line (Advance end) h.0 t text none h.2 is
 stepped_adds w n line (Redirect end peer list) t text none h is = called_adds w n line (Redirect end peer list) h.0 t text none h.2 is

@@ -78,6 +78,7 @@ place_by (Some end) at (Some behind) = Some (placed.Place end at behind)
 -- what an end is called to do
 abbrev pub call_step : ℕ → CallLine → Step
 call_step end call.Introduce = step.Introduce end
+call_step end (call.Narrow limit) = step.Narrow end limit
 call_step end (call.Seek service addresses) = step.Seek end service addresses
 call_step end (call.Unseek near) = step.Unseek end near
 call_step end (call.Cancel number) = step.Cancel end number

@@ -32,6 +32,7 @@ fn moment_given(moment: u64, step: &Step) -> u64
         Step::Abandon { .. } => 0,
         Step::Finish { .. } => 0,
         Step::Introduce { .. } => 0,
+        Step::Narrow { .. } => 0,
         Step::Redirect { .. } => 0,
         Step::Learn { .. } => 0,
         Step::Advance { .. } => 0,

@@ -191,6 +191,7 @@ fn call_step(alloc: Global, end: usize, call: CallLine) -> Result<Step, AllocErr
 {
     match call {
         CallLine::Introduce => Ok(Step::Introduce { end }),
+        CallLine::Narrow { limit } => Ok(Step::Narrow { end, limit }),
         CallLine::Seek { service, addresses } => seek_step(alloc, end, service, &addresses),
         CallLine::Unseek { near } => Ok(Step::Unseek { end, near }),
         CallLine::Cancel { number } => Ok(Step::Cancel { end, n: number }),

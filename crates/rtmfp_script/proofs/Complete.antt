@@ -9,13 +9,13 @@ use Rattle.identity.specs.ServiceNames.{IsServiceName}
 use Rattle.translators.specs.declared.rule.Rule.{Rule}
 use Rattle.rtmfp_script.specs.declared.line.ScriptLine.{ScriptLine}
 use Rattle.rtmfp_script.specs.declared.line.ScriptLine.TheVariants.{End, At, Call, Towards, Bring, Translator, Place, Carry}
-use Rattle.rtmfp_script.specs.declared.line.CallLine.TheVariants.{Introduce, Seek, Cancel, Unseek, Close, Flow, Queue, Abandon, Finish, Learn, Advance, Tick}
+use Rattle.rtmfp_script.specs.declared.line.CallLine.TheVariants.{Introduce, Narrow, Seek, Cancel, Unseek, Close, Flow, Queue, Abandon, Finish, Learn, Advance, Tick}
 use Rattle.rtmfp_script.specs.declared.line.AimLine.TheVariants.{Redirect, Open}
 use Rattle.rtmfp_script.specs.declared.line.BringLine.TheVariants.{Deliver, Bent, Inject, Forge}
 use Rattle.rtmfp_script.specs.declared.content.Content.{Content}
 use Rattle.rtmfp_script.specs.Grammar.{IsName, IsCert, IsPlainAddress, IsBytesUpTo, EachIsPlainAddress, AreBytes, IsBelow, IsContent, IsHost, IsNameOrNone, IsWithin, IsLineOf, content_text, name_for, rule_text, word_for, line_text, words_text, line_limit}
 use Rattle.rtmfp_script.specs.Fields.{split_of, number_of, number_below, ◌>>=◌}
-use Rattle.rtmfp_script.specs.Lines.{end_of, introduce_of, redirect_of, at_of, open_of, open_to, seek_for, seek_of, cancel_of, unseek_of, close_of, session_at, flow_in, flow_of, queue_in, queue_of, abandon_of, finish_of, learn_of, advance_of, tick_of, deliver_of, bent_of, bytes_at, inject_of, forge_of, translator_of, place_of, carry_of, word_of, step_of}
+use Rattle.rtmfp_script.specs.Lines.{end_of, introduce_of, narrow_of, redirect_of, at_of, open_of, open_to, seek_for, seek_of, cancel_of, unseek_of, close_of, session_at, flow_in, flow_of, queue_in, queue_of, abandon_of, finish_of, learn_of, advance_of, tick_of, deliver_of, bent_of, bytes_at, inject_of, forge_of, translator_of, place_of, carry_of, word_of, step_of}
 use Rattle.rtmfp_script.proofs.Splits.{split_text, split_nothing}
 use Rattle.rtmfp_script.proofs.Numbers.{number_of-decimal, number_below-decimal}
 use Rattle.rtmfp_script.proofs.Digits.{bytes_of-text, hexadecimal_of-text}
@@ -45,6 +45,10 @@ end_read name peers sessions cert n p s c =
 introduce_read : (name : List ℕ) → IsName name → introduce_of name ≡ Some (Call name Introduce)
 unfolding introduce_of
 introduce_read name n = rw (name_of-name name n) refl
+
+narrow_read : (name : List ℕ) (limit : ℕ) → IsName name → limit < 2 ^ 16 → narrow_of (name ++ 32 ∷ decimal limit) ≡ Some (Call name (Narrow limit))
+unfolding narrow_of
+narrow_read name limit n m = rw (split_text 32 name (decimal limit) (lacks_name name n), name_of-name name n, number_below-decimal (2 ^ 16) limit (omega arith) m) refl
 
 redirect_read : (name peer : List ℕ) (first : AddressParts) (more : List AddressParts) → IsName name → IsName peer → length (first ∷ more) ≤ 16 → EachIsPlainAddress (first ∷ more) →
     redirect_of (name ++ 32 ∷ (peer ++ 32 ∷ words_text (map address_text (first ∷ more)))) ≡ Some (Towards name peer (first ∷ more) Redirect)
@@ -276,6 +280,7 @@ said_read : (said : ScriptLine) → IsWithin said → cut_of (line_text said) �
 unfolding split_of word_of
 said_read (End name peers sessions cert) w = end_read name peers sessions cert w.0 w.1 w.2 w.3
 said_read (Call name Introduce) n = introduce_read name n
+said_read (Call name (Narrow limit)) w = narrow_read name limit w.0 w.1
 said_read (Towards name peer [] Redirect) w = absurd (omega (arith, w.2))
 said_read (Towards name peer (first ∷ more) Redirect) w = redirect_read name peer first more w.0 w.1 w.3 w.4
 said_read (At moment) m = at_read moment m

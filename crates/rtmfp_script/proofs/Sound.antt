@@ -15,7 +15,7 @@ use Rattle.rtmfp_script.specs.declared.line.AimLine.TheVariants.{Redirect, Open}
 use Rattle.rtmfp_script.specs.declared.content.Content.{Content}
 use Rattle.rtmfp_script.specs.Grammar.{IsName, IsPlainAddress, IsBytesUpTo, EachIsPlainAddress, AreBytes, IsBelow, IsContent, IsWithin, IsLineOf, content_text, word_for, line_text, words_text, line_limit}
 use Rattle.rtmfp_script.specs.Fields.{split_of, name_of, cert_of, number_of, number_below, bytes_of, hexadecimal_of, service_of, limit_by, content_of, rule_of, v4_of, address_of, addresses_of, either, ◌>>=◌}
-use Rattle.rtmfp_script.specs.Lines.{end_of, introduce_of, row_said, redirect_of, at_of, open_of, open_to, seek_for, seek_of, cancel_of, unseek_of, close_of, answers_of, session_at, flow_in, flow_of, queue_in, queue_of, abandon_of, finish_of, learn_of, advance_of, tick_of, deliver_of, bent_of, bytes_at, inject_of, forge_of, translator_of, place_of, carry_of, word_of, step_of}
+use Rattle.rtmfp_script.specs.Lines.{end_of, introduce_of, narrow_of, row_said, redirect_of, at_of, open_of, open_to, seek_for, seek_of, cancel_of, unseek_of, close_of, answers_of, session_at, flow_in, flow_of, queue_in, queue_of, abandon_of, finish_of, learn_of, advance_of, tick_of, deliver_of, bent_of, bytes_at, inject_of, forge_of, translator_of, place_of, carry_of, word_of, step_of}
 use Rattle.rtmfp_script.proofs.Splits.{some_some, bind_some, split_joined}
 use Rattle.rtmfp_script.proofs.Numbers.{number_of-some, number_below-some}
 use Rattle.rtmfp_script.proofs.Digits.{bytes_of-some, hexadecimal_of-some}
@@ -63,6 +63,19 @@ introduce_sound rest said h =
     let name = bind_some (name_of rest) _ said h in
     let n = name_of-some rest name.0 name.1 in
     subst (IsSaid (codes "introduce") rest) (some_some _ _ name.2) (record { text = after (codes "introduce") rest _ n.0; within = n.1 })
+
+narrow_sound : (rest : List ℕ) (said : ScriptLine) → narrow_of rest ≡ Some said → IsSaid (codes "narrow") rest said
+unfolding narrow_of
+narrow_sound rest said h =
+    let a = bind_some (split_of 32 rest) _ said h in
+    let name = bind_some (name_of a.0.0) _ said a.2 in
+    let limit = bind_some (number_below (2 ^ 16) a.0.1) _ said name.2 in
+    let n = name_of-some a.0.0 name.0 name.1 in
+    let m = number_below-some (2 ^ 16) a.0.1 limit.0 limit.1 in
+    subst (IsSaid (codes "narrow") rest) (some_some _ _ limit.2) (record {
+      text = after (codes "narrow") rest _ (rejoin 32 rest a.0.0 a.0.1 _ _ (split_joined 32 rest a.0 a.1) n.0 m.0);
+      within = (n.1, m.1);
+    })
 
 at_sound : (rest : List ℕ) (said : ScriptLine) → at_of rest ≡ Some said → IsSaid (codes "at") rest said
 unfolding at_of
@@ -573,6 +586,7 @@ unfolding word_of
 word_sound word rest said =
     by word rest said (codes "end") (end_of rest) _ (end_sound rest said)
     (by word rest said (codes "introduce") (introduce_of rest) _ (introduce_sound rest said)
+    (by word rest said (codes "narrow") (narrow_of rest) _ (narrow_sound rest said)
     (by word rest said (codes "redirect") (redirect_of rest) _ (redirect_sound rest said)
     (by word rest said (codes "at") (at_of rest) _ (at_sound rest said)
     (by word rest said (codes "open") (open_of rest) _ (open_sound rest said)
@@ -593,7 +607,7 @@ word_sound word rest said =
     (by word rest said (codes "forge") (forge_of rest) _ (forge_sound rest said)
     (by word rest said (codes "translator") (translator_of rest) _ (translator_sound rest said)
     (by word rest said (codes "place") (place_of rest) _ (place_sound rest said)
-    (by word rest said (codes "carry") (carry_of rest) None (carry_sound rest said) (λ h. absurd (cc h))))))))))))))))))))))))
+    (by word rest said (codes "carry") (carry_of rest) None (carry_sound rest said) (λ h. absurd (cc h)))))))))))))))))))))))))
 
 pub step_sound : (line : List ℕ) (said : ScriptLine) → step_of line ≡ Some said → IsLineOf line said
 unfolding step_of

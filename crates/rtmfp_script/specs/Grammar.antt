@@ -9,7 +9,7 @@ use Rattle.translators.specs.declared.rule.Rule.{Rule}
 use Rattle.translators.specs.declared.rule.Rule.TheVariants.{Independent, Dependent}
 use Rattle.rtmfp_script.specs.declared.line.ScriptLine.{ScriptLine}
 use Rattle.rtmfp_script.specs.declared.line.ScriptLine.TheVariants.{End, At, Call, Towards, Bring, Translator, Place, Carry}
-use Rattle.rtmfp_script.specs.declared.line.CallLine.TheVariants.{Introduce, Seek, Cancel, Unseek, Close, Flow, Queue, Abandon, Finish, Learn, Advance, Tick}
+use Rattle.rtmfp_script.specs.declared.line.CallLine.TheVariants.{Introduce, Narrow, Seek, Cancel, Unseek, Close, Flow, Queue, Abandon, Finish, Learn, Advance, Tick}
 use Rattle.rtmfp_script.specs.declared.line.AimLine.TheVariants.{Redirect, Open}
 use Rattle.rtmfp_script.specs.declared.line.BringLine.TheVariants.{Deliver, Bent, Inject, Forge}
 use Rattle.rtmfp_script.specs.declared.content.Content.{Content}
@@ -58,6 +58,7 @@ abbrev pub line_text : ScriptLine → List ℕ
 line_text (End name peers sessions cert) = words_text
     (codes "end" ∷ name ∷ decimal peers ∷ decimal sessions ∷ cert ∷ [])
 line_text (Call name Introduce) = words_text (codes "introduce" ∷ name ∷ [])
+line_text (Call name (Narrow limit)) = words_text (codes "narrow" ∷ name ∷ decimal limit ∷ [])
 line_text (Towards name peer addresses Redirect) = words_text
     (codes "redirect" ∷ name ∷ peer ∷ map address_text addresses)
 line_text (At moment) = words_text (codes "at" ∷ decimal moment ∷ [])
@@ -153,6 +154,7 @@ abbrev pub IsWithin : ScriptLine → Type 0
 IsWithin (End name peers sessions cert) = IsName name × (peers < 2 ^ 32) × (sessions < 2 ^ 32) ×
     IsCert cert
 IsWithin (Call name Introduce) = IsName name
+IsWithin (Call name (Narrow limit)) = IsName name × (limit < 2 ^ 16)
 IsWithin (Towards name peer addresses Redirect) = IsName name × IsName peer × (1 ≤ length addresses) ×
     (length addresses ≤ 16) × EachIsPlainAddress addresses
 IsWithin (At moment) = moment < 2 ^ 64

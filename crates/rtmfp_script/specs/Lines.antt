@@ -4,7 +4,7 @@ use Rattle.std.specs.Str.{bytes_eq}
 use Rattle.rtmfp_forms.specs.Address.{AddressParts}
 use Rattle.rtmfp_script.specs.declared.line.ScriptLine.{ScriptLine}
 use Rattle.rtmfp_script.specs.declared.line.ScriptLine.TheVariants.{End, At, Call, Towards, Bring, Translator, Place, Carry}
-use Rattle.rtmfp_script.specs.declared.line.CallLine.TheVariants.{Introduce, Seek, Cancel, Unseek, Close, Flow, Queue, Abandon, Finish, Learn, Advance, Tick}
+use Rattle.rtmfp_script.specs.declared.line.CallLine.TheVariants.{Introduce, Narrow, Seek, Cancel, Unseek, Close, Flow, Queue, Abandon, Finish, Learn, Advance, Tick}
 use Rattle.rtmfp_script.specs.declared.line.AimLine.TheVariants.{Redirect, Open}
 use Rattle.rtmfp_script.specs.declared.line.BringLine.TheVariants.{Deliver, Bent, Inject, Forge}
 use Rattle.rtmfp_script.specs.declared.line.Said.{Said}
@@ -26,6 +26,13 @@ end_of rest =
 
 unfoldable pub introduce_of : List ℕ → Option ScriptLine
 introduce_of rest = name_of rest >>= λ name. Some (Call name Introduce)
+
+unfoldable pub narrow_of : List ℕ → Option ScriptLine
+narrow_of rest =
+    split_of 32 rest >>= λ a.
+    name_of a.0 >>= λ name.
+    number_below (2 ^ 16) a.1 >>= λ limit.
+    Some (Call name (Narrow limit))
 
 -- a row of these addresses, where they are 16 at most
 abbrev pub row_said : List ℕ → List ℕ → List AddressParts → Option ScriptLine
@@ -223,6 +230,7 @@ unfoldable pub word_of : List ℕ → List ℕ → Option ScriptLine
 word_of word rest =
     if bytes_eq word (codes "end") then end_of rest
     else if bytes_eq word (codes "introduce") then introduce_of rest
+    else if bytes_eq word (codes "narrow") then narrow_of rest
     else if bytes_eq word (codes "redirect") then redirect_of rest
     else if bytes_eq word (codes "at") then at_of rest
     else if bytes_eq word (codes "open") then open_of rest

@@ -65,6 +65,11 @@ impl Candidates {
 pub enum CallLine {
     /// `introduce NAME`: it introduces others to each other from now on.
     Introduce,
+    /// `narrow NAME N`: longer packets of its sessions go out in pieces from now on.
+    Narrow {
+        /// The most bytes of a plain packet that goes out whole.
+        limit: u16,
+    },
     /// `seek NAME HEX ADDR ...`: it searches for an end of this service.
     Seek {
         /// The service's name.

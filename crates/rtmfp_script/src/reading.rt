@@ -1,11 +1,11 @@
 //! Lines that are read.
 ghost use Rattle.std.specs.Prelude.{◌≡◌, ◌↔◌, ◌<◌, ◌^◌, IsSome, IsTrue, IfErr, IfOk};
 ghost use Rattle.rtmfp_script.specs.Grammar.{IsLineOf, IsSkipped, TakesMemory};
-ghost use Rattle.rtmfp_script.specs.Lines.{end_of, introduce_of, redirect_of, row_said, at_of, open_of, open_to, cancel_of, close_of, learn_of, advance_of, tick_of, deliver_of, bent_of, bytes_at, inject_of, forge_of, word_of, step_of, StepTakesMemory, Says};
+ghost use Rattle.rtmfp_script.specs.Lines.{end_of, introduce_of, narrow_of, redirect_of, row_said, at_of, open_of, open_to, cancel_of, close_of, learn_of, advance_of, tick_of, deliver_of, bent_of, bytes_at, inject_of, forge_of, word_of, step_of, StepTakesMemory, Says};
 
 use crate::address::{address, addresses};
 use crate::bytes::bytes;
-use crate::fields::{cert, name, number, number32, split};
+use crate::fields::{cert, name, number, number16, number32, split};
 use crate::flows::{read_abandon, read_finish, read_flow, read_queue};
 use crate::line::{AimLine, BringLine, CallLine, Candidates, Said, ScriptLine};
 use crate::placing::{read_carry, read_place, read_translator};
@@ -38,6 +38,19 @@ fn read_introduce(rest: &[u8]) -> Option<ScriptLine>
     Some(ScriptLine::Call {
         name: name(rest)?,
         call: CallLine::Introduce,
+    })
+}
+
+#[tactic(auto, unfolding(crate::specs::Lines::narrow_of))]
+fn read_narrow(rest: &[u8]) -> Option<ScriptLine>
+    ensures { result ≡ narrow_of rest.now }
+{
+    let (first, rest) = split(b' ', rest)?;
+    Some(ScriptLine::Call {
+        name: name(first)?,
+        call: CallLine::Narrow {
+            limit: number16(rest)?,
+        },
     })
 }
 
@@ -261,6 +274,9 @@ fn read_word(alloc: Global, word: &[u8], rest: &[u8]) -> Result<Option<ScriptLin
     }
     if word == b"introduce".as_slice() {
         return Ok(read_introduce(rest));
+    }
+    if word == b"narrow".as_slice() {
+        return Ok(read_narrow(rest));
     }
     if word == b"redirect".as_slice() {
         return Ok(read_redirect(rest));

@@ -431,6 +431,14 @@ fn introduces(alloc: Global, end: &mut Endpoint) -> Result<Added, Fail> {
     says(alloc, Ok(String::new(alloc)))
 }
 
+/// Narrows an end, where it may have the limit.
+fn narrows(alloc: Global, end: &mut Endpoint, limit: u32) -> Result<Added, Fail> {
+    if limit >= 96 && limit <= 1164 {
+        end.narrow(limit as u16);
+    }
+    says(alloc, Ok(String::new(alloc)))
+}
+
 /// What was added, or why nothing was.
 fn called<T: Drop>(
     alloc: Global,
@@ -512,6 +520,7 @@ fn acts(alloc: Global, end: &mut Endpoint, row: &str) -> Result<Added, Fail> {
         "cancel" => cancels(alloc, end, u64::from(value)),
         "close" => closes(alloc, end, value, u64::from(number(row, 3))),
         "introduce" => introduces(alloc, end),
+        "narrow" => narrows(alloc, end, value),
         "row" => adds_row(alloc, end, row),
         "rows" => adds_rows(alloc, end, value),
         _ => calls(alloc, end, row),

@@ -30,6 +30,13 @@ close a 01
 close a 4294967296
 close  1
 hang a 1
+narrow a
+narrow a 
+narrow a -
+narrow a 096
+narrow a 65536
+narrow a 96 96
+narrow  96
 seek a
 seek a 
 seek a -
@@ -123,7 +130,9 @@ carry 1 a
 ";
 
 /// Lines in the grammar, at the limits of their fields.
-const INSIDE: &str = "seek a 00
+const INSIDE: &str = "narrow a 0
+narrow a 65535
+seek a 00
 seek a 7f
 seek a 6d 1.2.3.4:5
 seek a 6d 1.2.3.4:5 [000102030405060708090a0b0c0d0e0f]:65535

@@ -64,6 +64,7 @@ fn nonce_for(step: &Step, drawn: [u8; 16]) -> [u8; 16]
         Step::Abandon { .. } => [0; 16],
         Step::Finish { .. } => [0; 16],
         Step::Introduce { .. } => [0; 16],
+        Step::Narrow { .. } => [0; 16],
         Step::Redirect { .. } => [0; 16],
         Step::Learn { .. } => [0; 16],
         Step::Advance { .. } => [0; 16],
@@ -101,6 +102,7 @@ fn said_call<'a>(
         Step::Abandon { .. } => SaidCall::Other,
         Step::Finish { .. } => SaidCall::Other,
         Step::Introduce { .. } => SaidCall::Other,
+        Step::Narrow { .. } => SaidCall::Other,
         Step::Redirect { .. } => SaidCall::Other,
     }
 }

@@ -2,6 +2,7 @@
 use crate::crypto::{session_id, sha256, Context, Hmac, Keys, Kinds, Nonce, Print, Window};
 use crate::flow::{Options, QueueRefusal, Refusal as FlowRefusal};
 use crate::flows::Flows;
+use crate::pieces::{cut, Gathering, PieceRefusal};
 use crate::wire::{self, packet, put_counted, Address, Chunk, ChunkFault, IIKeying, Packet, RIKeying, Reader, STARTUP_MODE};
 use std::collections::{BTreeMap, HashMap};
 use std::rc::Rc;
@@ -17,6 +18,8 @@ const CLOSE_GAP: u64 = 5_000;
 const CLOSE_TIME: u64 = 90_000;
 const LINGER_TIME: u64 = 19_000;
 const TEST_TIME: u64 = 1_000;
+/// The least limit that an end is narrowed to.
+pub const LEAST_LIMIT: usize = 96;
 const INITIATOR: u8 = 1;
 const RESPONDER: u8 = 2;
 
@@ -101,6 +104,9 @@ pub enum Cause {
     SessionsFull(usize),
     SecondKeying,
     Fragment,
+    /// The number of the refusal, and what it tells.
+    Piece(u8, u64),
+    BadWhole(u8),
     Wide(usize),
     UnknownFlow,
     FlowsFull(usize),
@@ -208,6 +214,9 @@ struct Session {
     stamp: Option<(u16, u64)>,
     trip: Option<(u64, u64)>,
     flows: Flows,
+    /// What is held of the other end's packets, and how many own ones went out in pieces.
+    gathering: Gathering,
+    packets: u64,
     /// The keying of a responder, which is sent again for a repeat, in this generation.
     rikeying: Vec<u8>,
     group: Rc<Group>,
@@ -300,6 +309,8 @@ impl Session {
             stamp: None,
             trip: None,
             flows: Flows::new(),
+            gathering: Gathering::default(),
+            packets: 0,
             rikeying: Vec::new(),
             group: group.clone(),
         }
@@ -348,6 +359,22 @@ impl Session {
         number[8..].copy_from_slice(&self.sealed.to_be_bytes());
         self.outward.1.seal(self.joined.far, number, plain)
     }
+
+    /// Sends a packet, in pieces where it has more bytes than the limit.
+    fn send(&mut self, limit: usize, moment: u64, to: Address, plain: &[u8], kinds: Kinds, out: &mut Vec<Entry>) {
+        if plain.len() <= limit {
+            let datagram = self.seal(plain).into();
+            out.push(Entry::Out(Out { to, datagram, context: self.outward.0.clone(), kinds }));
+            return;
+        }
+        self.packets += 1;
+        let (stamp, echo) = self.stamps(moment);
+        for piece in cut(plain, self.packets, limit - 32) {
+            let datagram = self.seal(&packet(self.mode, stamp, echo, wire::FRAGMENT, &piece.payload())).into();
+            let kinds = Kinds::One(wire::FRAGMENT);
+            out.push(Entry::Out(Out { to, datagram, context: self.outward.0.clone(), kinds }));
+        }
+    }
 }
 
 /// What stood in a datagram before a chunk: a keying, a data or next chunk directly before it, and the flows that are
@@ -355,6 +382,8 @@ impl Session {
 #[derive(Default)]
 struct Walk {
     keyed: bool,
+    /// The chunks are those of a packet that was put together.
+    gathered: bool,
     before: wire::Before,
     owed: Vec<u64>,
 }
@@ -382,6 +411,8 @@ pub struct End {
     attempts: BTreeMap<u32, Attempt>,
     sessions: BTreeMap<u32, Session>,
     introduces: bool,
+    /// Longer packets of sessions go out in pieces.
+    limit: usize,
     /// The addresses of other ends with which their hellos are answered.
     rows: HashMap<Print, Vec<Address>>,
 }
@@ -404,6 +435,7 @@ impl End {
             attempts: BTreeMap::new(),
             sessions: BTreeMap::new(),
             introduces: false,
+            limit: wire::PACKET,
             rows: HashMap::new(),
         }
     }
@@ -532,6 +564,10 @@ impl End {
     }
 
     /// Has a row of 1 to 16 addresses for another end.
+    pub fn narrow(&mut self, limit: usize) {
+        self.limit = limit;
+    }
+
     pub fn redirect(&mut self, peer: Print, list: &[Address]) {
         self.rows.insert(peer, list.to_vec());
     }
@@ -613,8 +649,7 @@ impl End {
                 let mut plain = session.head(moment);
                 let head = plain.len();
                 while let Some(kinds) = session.flows.fill(&mut plain, moment, resend_after) {
-                    let datagram = session.seal(&plain).into();
-                    out.push(Entry::Out(Out { to: session.address, datagram, context: session.outward.0.clone(), kinds }));
+                    session.send(self.limit, moment, session.address, &plain, kinds, out);
                     plain.truncate(head);
                 }
                 let quiet = moment >= session.taken + KEEPALIVE_TIME;
@@ -754,12 +789,18 @@ impl End {
         if let Chunk::Data(data) = &chunk {
             walk.before = Some((data.flow, data.chunk.seq, data.chunk.forward));
         }
+        if matches!(chunk, Chunk::Fragment(_)) && (walk.gathered || !matches!(place, Place::Session(_))) {
+            return Err(Cause::Fragment);
+        }
+        if walk.gathered && !matches!(chunk, Chunk::Ping(_) | Chunk::PingReply(_) | Chunk::Data(_) | Chunk::Ack { .. }) {
+            return Err(Cause::WrongPlace);
+        }
         if let Place::Session(near) = place {
             let session = self.sessions.get(&near);
             let is_late = match chunk {
                 Chunk::Close => session.is_none(),
                 Chunk::CloseAck => !session.is_some_and(|s| matches!(s.state, State::NearClosing { .. })),
-                Chunk::FIHello { .. } | Chunk::Ping(_) | Chunk::PingReply(_) | Chunk::Data(_) | Chunk::Ack { .. } => {
+                Chunk::FIHello { .. } | Chunk::Ping(_) | Chunk::PingReply(_) | Chunk::Fragment(_) | Chunk::Data(_) | Chunk::Ack { .. } => {
                     !session.is_some_and(Session::is_held)
                 }
                 _ => false,
@@ -769,7 +810,6 @@ impl End {
             }
         }
         match (place, chunk) {
-            (_, Chunk::Fragment) => Err(Cause::Fragment),
             (Place::Startup, Chunk::IHello { epd, tag }) => self.take_open_hello(epd, tag, from, moment, group, out),
             (Place::Startup, Chunk::Redirect { tag, list }) => self.take_redirect(tag, &list, from, moment, out),
             (Place::Session(_), Chunk::FIHello { epd, reply, tag }) => self.take_hello(epd, tag, reply, moment, &self.group.clone(), out),
@@ -796,6 +836,29 @@ impl End {
             }
             (Place::Session(near), Chunk::CloseAck) => {
                 self.forget(near, out);
+                Ok(())
+            }
+            (Place::Session(near), Chunk::Fragment(piece)) => {
+                let session = self.sessions.get_mut(&near).ok_or(Cause::WrongState)?;
+                let mode = INITIATOR + RESPONDER - session.mode;
+                let whole = session.gathering.take(&piece, moment).map_err(|refusal| match refusal {
+                    PieceRefusal::TooMany(number) => Cause::Piece(1, number),
+                    PieceRefusal::Conflict(number) => Cause::Piece(2, number),
+                    PieceRefusal::TooLong(bytes) => Cause::Piece(3, bytes as u64),
+                    PieceRefusal::PacketsFull(packets) => Cause::Piece(4, packets as u64),
+                })?;
+                let Some(plain) = whole else { return Ok(()) };
+                let packet = Packet::read(&plain).map_err(Cause::BadWhole)?;
+                if packet.mode != mode {
+                    return Err(Cause::BadWhole(4));
+                }
+                walk.gathered = true;
+                for chunk in &packet.chunks {
+                    if let Err(cause) = self.take_chunk(place, group, chunk, walk, from, moment, draws, out) {
+                        out.push(Entry::Discard { place: chunk.at, cause });
+                    }
+                }
+                (walk.gathered, walk.before) = (false, None);
                 Ok(())
             }
             (Place::Session(near), Chunk::Data(data)) => {
@@ -1160,8 +1223,8 @@ impl End {
     fn send_in_session(&mut self, near: u32, to: Address, kind: u8, payload: &[u8], moment: u64, out: &mut Vec<Entry>) {
         let Some(session) = self.sessions.get_mut(&near) else { return };
         let (stamp, echo) = session.stamps(moment);
-        let datagram = session.seal(&packet(session.mode, stamp, echo, kind, payload)).into();
-        out.push(Entry::Out(Out { to, datagram, context: session.outward.0.clone(), kinds: Kinds::One(kind) }));
+        let plain = packet(session.mode, stamp, echo, kind, payload);
+        session.send(self.limit, moment, to, &plain, Kinds::One(kind), out);
     }
 
     /// Sends the acks that a datagram's chunks owe, to the session's address.
@@ -1172,8 +1235,7 @@ impl End {
             let (mut plain, mut kinds) = (session.head(moment), None);
             left = session.flows.put_acks(left, &mut plain, &mut kinds);
             let Some(kinds) = kinds else { return };
-            let datagram = session.seal(&plain).into();
-            out.push(Entry::Out(Out { to: session.address, datagram, context: session.outward.0.clone(), kinds }));
+            session.send(self.limit, moment, session.address, &plain, kinds, out);
         }
     }
 

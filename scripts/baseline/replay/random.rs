@@ -32,6 +32,8 @@ struct Script {
     line: u64,
     /// How many of a hundred datagrams don't arrive in their order.
     disorder: u64,
+    /// In a transfer each third one comes behind the one after it.
+    swaps: bool,
     /// What was sent and not brought yet.
     pending: VecDeque<usize>,
     sent: usize,
@@ -42,6 +44,31 @@ pub fn run(seed: u64, steps: u64) -> Result<World, (StepFault, u64)> {
     let mut script = Script::new(seed, 2);
     script.disorder = script.draw(40);
     let done = script.handshake().and_then(|()| script.flow()).and_then(|()| (0..steps).try_for_each(|_| script.go_on()));
+    done.map_err(|fault| (fault, script.line))?;
+    Ok(script.world)
+}
+
+/// The same of ends that are narrowed now and then.
+pub fn narrowed(seed: u64, steps: u64) -> Result<World, (StepFault, u64)> {
+    let mut script = Script::new(seed, 2);
+    script.disorder = script.draw(40);
+    let begun = script.handshake().and_then(|()| script.narrow()).and_then(|()| script.flow());
+    let done = begun.and_then(|()| {
+        (0..steps).try_for_each(|_| if script.draw(60) == 0 { script.narrow() } else { script.go_on() })
+    });
+    done.map_err(|fault| (fault, script.line))?;
+    Ok(script.world)
+}
+
+/// A world after a message of so many KiB went over between two ends of this limit: each tenth datagram is lost, and each
+/// third one comes behind the one after it.
+pub fn in_pieces(limit: u64, kibibytes: u64) -> Result<World, (StepFault, u64)> {
+    let mut script = Script::new(0, 2);
+    script.swaps = true;
+    let flow = Step::Flow { end: 0, near: 3, priority: 4, metadata: vec![0x6d], answers: None };
+    let narrow = |end| Step::Narrow { end, limit: limit as usize };
+    let done = script.handshake().and_then(|()| script.step(narrow(0))).and_then(|()| script.step(narrow(1)));
+    let done = done.and_then(|()| script.step(flow)).and_then(|()| script.carry(10, 1_024 * kibibytes as u32));
     done.map_err(|fault| (fault, script.line))?;
     Ok(script.world)
 }
@@ -100,19 +127,19 @@ pub fn transfer(lost: u64, megabytes: u64) -> Result<World, (StepFault, u64)> {
     let mut script = Script::new(0, 2);
     let flow = Step::Flow { end: 0, near: 3, priority: 4, metadata: vec![0x6d], answers: None };
     let done = script.handshake().and_then(|()| script.step(flow));
-    let done = done.and_then(|()| (0..megabytes).try_for_each(|_| script.carry(lost)));
+    let done = done.and_then(|()| (0..megabytes).try_for_each(|_| script.carry(lost, 1_000_000)));
     done.map_err(|fault| (fault, script.line))?;
     Ok(script.world)
 }
 
 impl Script {
     fn new(seed: u64, ends: usize) -> Self {
-        Script { world: World::new(), ends, x: seed, line: 0, disorder: 0, pending: VecDeque::new(), sent: 0 }
+        Script { world: World::new(), ends, x: seed, line: 0, disorder: 0, swaps: false, pending: VecDeque::new(), sent: 0 }
     }
 
     /// A message goes over: each 50 ms a tick, and then all datagrams but each so many-th.
-    fn carry(&mut self, lost: u64) -> Result<(), StepFault> {
-        let (options, message) = (Options::default(), (0..1_000_000).map(|i| (i % 251) as u8).collect());
+    fn carry(&mut self, lost: u64, length: u32) -> Result<(), StepFault> {
+        let (options, message) = (Options::default(), (0..length).map(|i| (i % 251) as u8).collect());
         self.step(Step::Queue { end: 0, near: 3, flow: 0, options, message })?;
         let mut is_handed = false;
         while !is_handed {
@@ -122,9 +149,12 @@ impl Script {
                 if number as u64 % lost.max(1) == 0 && lost > 0 {
                     continue;
                 }
-                self.bring(number)?;
-                let entries = self.world.journal.last().map_or(&[][..], |line| &line.entries);
-                is_handed |= entries.iter().any(|entry| matches!(entry, Entry::Handed { .. }));
+                let behind = if self.swaps && number % 3 == 0 { self.pending.pop_front() } else { None };
+                for number in behind.into_iter().chain([number]) {
+                    self.bring(number)?;
+                    let entries = self.world.journal.last().map_or(&[][..], |line| &line.entries);
+                    is_handed |= entries.iter().any(|entry| matches!(entry, Entry::Handed { .. }));
+                }
             }
         }
         Ok(())
@@ -418,6 +448,12 @@ impl Script {
             4..=6 => self.flow(),
             _ => self.go_on(),
         }
+    }
+
+    /// An end is narrowed, or gets another limit.
+    fn narrow(&mut self) -> Result<(), StepFault> {
+        let (end, limit) = (self.end(), [96, 97, 128, 300, 532, 1_000, 1_163, 1_164][self.draw(8) as usize]);
+        self.step(Step::Narrow { end, limit })
     }
 
     fn go_on(&mut self) -> Result<(), StepFault> {

@@ -44,6 +44,7 @@ pub fn print_script(world: &World) {
                 .and_then(|()| writeln!(out)),
             Step::Tick { end } => writeln!(out, "tick {}", name(end)),
             Step::Introduce { end } => writeln!(out, "introduce {}", name(end)),
+            Step::Narrow { end, limit } => writeln!(out, "narrow {} {limit}", name(end)),
             Step::Learn { end } => writeln!(out, "learn {}", name(end)),
             Step::Advance { end } => writeln!(out, "advance {}", name(end)),
             Step::Redirect { end, peer, list } => writeln!(out, "redirect {} {}{}", name(end), name(peer), places(list)),
@@ -229,6 +230,7 @@ fn kind_name(kind: u8) -> &'static str {
         0x10 => "data",
         0x11 => "next",
         0x51 => "ackranges",
+        0x7f => "fragment",
         _ => "closeack",
     }
 }
@@ -283,6 +285,8 @@ fn cause_text(cause: &Cause) -> String {
         Cause::SessionsFull(n) => format!("sessions-full {n}"),
         Cause::SecondKeying => "second-keying".into(),
         Cause::Fragment => "fragment".into(),
+        Cause::Piece(refusal, told) => format!("piece {refusal} {told}"),
+        Cause::BadWhole(fault) => format!("bad-whole {fault}"),
         Cause::Wide(n) => format!("wide {n}"),
         Cause::UnknownFlow => "unknown-flow".into(),
         Cause::FlowsFull(n) => format!("flows-full {n}"),

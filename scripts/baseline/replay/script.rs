@@ -48,6 +48,7 @@ fn step(world: &World, word: &str, rest: &str) -> Option<Step> {
         "forge" => Step::Forge { end: end(words.next())?, from: address(words.next()?)?, plain: bytes(words.next()?)? },
         "tick" => Step::Tick { end: end(words.next())? },
         "introduce" => Step::Introduce { end: end(words.next())? },
+        "narrow" => Step::Narrow { end: end(words.next())?, limit: usize::from(number::<u16>(words.next()?)?) },
         "learn" => Step::Learn { end: end(words.next())? },
         "advance" => Step::Advance { end: end(words.next())? },
         "redirect" => {

@@ -188,9 +188,28 @@ pub enum Chunk<'a> {
     PingReply(&'a [u8]),
     Close,
     CloseAck,
-    Fragment,
+    Fragment(Piece<'a>),
     Data(Data<'a>),
     Ack { flow: u64, ack: Ack<'a> },
+}
+
+/// A piece of a packet.
+pub struct Piece<'a> {
+    pub more: bool,
+    pub id: u64,
+    pub number: u64,
+    pub bytes: &'a [u8],
+}
+
+impl Piece<'_> {
+    /// A fragment chunk's payload.
+    pub fn payload(&self) -> Vec<u8> {
+        let mut out = vec![if self.more { 0x80 } else { 0 }];
+        put_vlu(self.id, &mut out);
+        put_vlu(self.number, &mut out);
+        out.extend_from_slice(self.bytes);
+        out
+    }
 }
 
 /// Of the data or next chunk directly before a chunk its flow, number and forward number.
@@ -269,10 +288,8 @@ impl<'a> Chunk<'a> {
             CLOSE => Chunk::Close,
             CLOSEACK => Chunk::CloseAck,
             FRAGMENT => {
-                r.take(1)?;
-                r.vlu()?;
-                r.vlu()?;
-                Chunk::Fragment
+                let more = r.take(1)?[0] & 0x80 != 0;
+                Chunk::Fragment(Piece { more, id: r.vlu()?, number: r.vlu()?, bytes: r.rest() })
             }
             _ => return Err(ChunkFault::Unknown),
         })

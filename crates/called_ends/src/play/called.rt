@@ -178,6 +178,14 @@ fn ticks(end: &mut Endpoint, moment: u64, draws: &Draws, out: &mut Outbox) -> Ca
     }
 }
 
+/// Narrows an end, where it may have the limit.
+fn narrows(end: &mut Endpoint, limit: u16) -> Called {
+    if limit >= 96 && limit <= 1164 {
+        end.narrow(limit);
+    }
+    Called::Done
+}
+
 /// Does a step of one end.
 fn calls(
     end: &mut Endpoint,
@@ -191,6 +199,7 @@ fn calls(
             end.introduce();
             Called::Done
         }
+        CallLine::Narrow { limit } => narrows(end, *limit),
         CallLine::Seek { service, addresses } => {
             seeks(end, service, addresses.as_slice(), moment, draws, out)
         }

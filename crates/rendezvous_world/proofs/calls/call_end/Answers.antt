@@ -1,10 +1,14 @@
 use Rattle.std.proofs.Common.{subst}
 use Rattle.endpoint_model.specs.declared.config.Draws.{Draws}
 use Rattle.endpoint.specs.Calls.{Called}
+use Rattle.rendezvous_world.specs.Deed.{deed_of}
 use Rattle.rendezvous_world.specs.Entering.{made_by}
 use Rattle.rendezvous_world.specs.Line.{refused_kept, stopped_kept}
-use Rattle.rendezvous_world.proofs.Answered.{called_event, called_may, called_left, brought}
+use Rattle.rendezvous_world.proofs.Answered.{called_event, called_may, called_left, brought, within_by}
 use Rattle.rendezvous_world.proofs.calls.call_end.Goals as goal
+
+pub make-requires : goal.make-requires
+make-requires c = within_by c.in-Call.field-0 c.in-Call.call (deed_of c.args.step.now) c.in-Call.ensures c.requires.limits
 
 pub returns-in-Call-clause-event : goal.returns-in-Call-clause-event
 returns-in-Call-clause-event c =

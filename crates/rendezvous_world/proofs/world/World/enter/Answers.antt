@@ -9,7 +9,11 @@ use Rattle.rendezvous_world.specs.Entering.{IsEntering, IsUndone, event_by}
 use Rattle.rendezvous_world.specs.Line.{refused_kept, stopped_kept}
 use Rattle.rendezvous_world.specs.Inside.{world_seen}
 use Rattle.rendezvous_world.proofs.Entered.{IsCalled, entered_kept, entered_as, with_datagram, named_is, undone_kept, undone_entered}
+use Rattle.rendezvous_world.proofs.Calling.{may_limits}
 use Rattle.rendezvous_world.proofs.world.World.enter.Goals as goal
+
+pub call_end-outcome-requires-clause-limits : goal.call_end-outcome-requires-clause-limits
+call_end-outcome-requires-clause-limits c = may_limits c.args.self.now c.args.step.now c.requires.entering.fine
 
 pub invariant_of-self-then-outcome : goal.invariant_of-self-then-outcome
 invariant_of-self-then-outcome c =
